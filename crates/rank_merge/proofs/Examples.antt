@@ -25,11 +25,11 @@ text (l ∷ ls) = l ++ 10 ∷ text ls
 abbrev ask : ℕ → Asked
 ask k = top k (Highest Tmax)
 
--- the line of a query for so many
+-- the line of a query for that many
 abbrev asking : List ℕ → List ℕ
 asking k = codes "query top " ++ k ++ codes " highest TMAX"
 
--- a report of so many
+-- a report of that many
 abbrev report_with : List ℕ → List (List ℕ) → List ℕ
 report_with k rows = text (codes "extremes report 1" ∷ asking k ∷ rows)
 
@@ -43,7 +43,7 @@ alpha = codes "1 ZZA00000001 2020-07-01 2020-07-01 31.1 C ALPHA"
 
 -- ---- the highest one, of a part with two stations and one with the third
 
--- the papers of the part with two stations
+-- the report and the certificate of the part with two stations
 abbrev two : Texts
 two = papers (codes "1") (alpha ∷ codes "end 1" ∷ []) (codes "kth 311" ∷ codes "scan ZZA00000001 311 1"
     ∷ codes "skip ZZA00000002 310" ∷ codes "end 2" ∷ [])
@@ -61,13 +61,13 @@ abbrev two_and_one : Texts
 two_and_one = papers (codes "1") (alpha ∷ codes "end 1" ∷ []) (codes "kth 311" ∷ codes "scan ZZA00000001 311 1"
     ∷ codes "skip ZZA00000002 310" ∷ codes "scan ZZA00000003 250 0" ∷ codes "end 3" ∷ [])
 
--- in either order they merge into these
+-- in either order the parts merge into these
 merged : (merge (ask 1) (two ∷ one ∷ []) ≡ Ok two_and_one) × (merge (ask 1) (one ∷ two ∷ []) ≡ Ok two_and_one)
 unfolding digits year_and_rest month_and_day read_query read_words keyword says number element score_at no_score_at
     region_at season_at period_at days_from_civil day_count days_of_years days_of_months
 merged = (refl, refl)
 
--- a station on two certificates, another query before a bad form, and a certificate cut short
+-- a station in two certificates, another query before a line in no format, and a certificate cut short
 refused : (merge (ask 1) (two ∷ two ∷ []) ≡ Err (Twice (record { 0 = codes "ZZA00000001" })))
     × (merge (ask 2) (two ∷ ([], []) ∷ []) ≡ Err (OtherQuery 1))
     × (merge (ask 1) (two ∷ (one.0, text (codes "extremes certificate 1" ∷ [])) ∷ []) ≡ Err (BadCertificate 2 2))
@@ -78,13 +78,13 @@ refused = (refl, refl, refl, refl)
 
 -- ---- two stations in two parts each
 
--- the papers of a part with lines of these
+-- the report and the certificate of a part with lines of these stations
 abbrev of_stations : List (List ℕ) → Texts
 of_stations ids = papers (codes "1") (codes "end 0 all" ∷ [])
     (codes "kth none" ∷ flat_map (λ id. (codes "scan " ++ id ++ codes " 250 0") ∷ []) ids
     ++ (codes "end " ++ decimal (length ids)) ∷ [])
 
--- as these parts come, the third station is the first that stands in two of them, but the first by ID is named
+-- as these parts come, the third station is the first that two of them have, but the first by ID is named
 first_named : merge (ask 1) (of_stations (codes "ZZA00000003" ∷ [])
     ∷ of_stations (codes "ZZA00000001" ∷ codes "ZZA00000003" ∷ []) ∷ of_stations (codes "ZZA00000001" ∷ []) ∷ [])
     ≡ Err (Twice (record { 0 = codes "ZZA00000001" }))
@@ -92,9 +92,9 @@ unfolding digits year_and_rest month_and_day read_query read_words keyword says 
     region_at season_at period_at days_from_civil day_count days_of_years days_of_months
 first_named = refl
 
--- ---- the three highest, where each part has fewer
+-- ---- the three highest, if each part has fewer
 
--- the papers of one part
+-- the report and the certificate of one part
 abbrev few : Texts
 few = papers (codes "3") (alpha ∷ codes "2 ZZA00000001 2020-07-02 2020-07-02 30.5 C ALPHA" ∷ codes "end 2 all" ∷ [])
     (codes "kth none" ∷ codes "scan ZZA00000001 311 2" ∷ codes "end 1" ∷ [])
@@ -112,7 +112,7 @@ few_and_others = papers (codes "3") (alpha ∷ codes "2 ZZA00000002 2020-07-01 2
     (codes "kth 305" ∷ codes "scan ZZA00000001 311 2" ∷ codes "scan ZZA00000002 311 1"
     ∷ codes "scan ZZA00000003 250 0" ∷ codes "end 3" ∷ [])
 
--- a count falls where a row falls out
+-- a count falls if a row is left out
 three_merged : merge (ask 3) (others ∷ few ∷ []) ≡ Ok few_and_others
 unfolding digits year_and_rest month_and_day read_query read_words keyword says number element score_at no_score_at
     region_at season_at period_at days_from_civil day_count days_of_years days_of_months
@@ -120,7 +120,7 @@ three_merged = refl
 
 -- ---- heads
 
--- papers with two rows in order
+-- a report with two rows in order, and its certificate
 abbrev two_rows : List (List ℕ) → Texts
 two_rows lines =
     papers (codes "2") (alpha ∷ codes "2 ZZA00000002 2020-07-01 2020-07-01 30.5 C" ∷ codes "end 2" ∷ []) lines

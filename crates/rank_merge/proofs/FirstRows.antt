@@ -37,11 +37,11 @@ module _ {X : Type 0} (cmp : X → X → Ordering) (total : IsTotalOrder cmp) wh
   sorted_turn : (xs : List X) → InTurn cmp total (sorted_by leads xs)
   sorted_turn = ordered.sorted-in_turn cmp total leads (λ a b. refl)
 
-  -- all of some come behind one
+  -- all of some come after one
   abbrev AreBehind : X → List X → Type 0
   AreBehind d ys = AllByRecursion (λ y. leads d y ≡ true) ys
 
-  -- so they do behind what comes before it
+  -- then they come after what comes before it
   behind_on : (p d : X) (ys : List X) → leads p d ≡ true → AreBehind d ys → AreBehind p ys
   behind_on p d ys e h =
       ordered.each-weaker (λ y. leads d y ≡ true) (λ y. leads p y ≡ true) ys (λ y f. leads_on p d y e f) h
@@ -60,7 +60,7 @@ module _ {X : Type 0} (cmp : X → X → Ordering) (total : IsTotalOrder cmp) wh
   pub ahead-append : (d : X) (xs ys : List X) → ahead d (xs ++ ys) ≡ ahead d xs + ahead d ys
   ahead-append d xs ys = sum_by-append (λ (y : X). one_if (leads y d)) xs ys
 
-  -- no fewer come before what stands behind
+  -- no fewer come before an element that comes after
   ahead_on : (f d : X) (xs : List X) → leads f d ≡ true → ahead f xs ≤ ahead d xs
   ahead_on f d [] e = omega arith
   ahead_on f d (x ∷ xs) e =
@@ -79,7 +79,7 @@ module _ {X : Type 0} (cmp : X → X → Ordering) (total : IsTotalOrder cmp) wh
 
   -- ---- one element more
 
-  -- a list is another with one element in it, behind so many others at least
+  -- a list is another with one element in it, after at least that many others
   record Gap (n : ℕ) (d : X) (more less : List X) : Type 0 where
     pub front : List X
     pub behind : List X
@@ -157,7 +157,7 @@ module _ {X : Type 0} (cmp : X → X → Ordering) (total : IsTotalOrder cmp) wh
         | false ↦ gap_behind (length fs) a d _ _ (far_gap p d fs bs e)
       ]
 
-  -- in a list in turn all behind one come behind it
+  -- in a list in order all elements after one come after it
   turn_behind : (fs bs : List X) (d : X) → InTurn cmp total (fs ++ d ∷ bs) → AreBehind d bs
   turn_behind [] bs d h = h.0
   turn_behind (a ∷ fs) bs d h = turn_behind fs bs d h.1
@@ -185,7 +185,7 @@ module _ {X : Type 0} (cmp : X → X → Ordering) (total : IsTotalOrder cmp) wh
         less_is = ap (placed leads p) g.less_is ∙ far.less_is;
       }
 
-  -- in order, one element stands behind all that come before it
+  -- in order, an element is after all that come before it
   sorted_gap : (ps ys : List X) (d : X)
       → Gap (ahead d ps) d (sorted_by leads (ps ++ d ∷ ys)) (sorted_by leads (ps ++ ys))
   sorted_gap [] ys d = placed_gap d (sorted_by leads ys)
@@ -200,7 +200,7 @@ module _ {X : Type 0} (cmp : X → X → Ordering) (total : IsTotalOrder cmp) wh
   abbrev firsts : ℕ → List X → List X
   firsts k xs = take k (sorted_by leads xs)
 
-  -- one that k others come before is none of them
+  -- one that k others come before isn't one of them
   without_one : (k : ℕ) (ps ys : List X) (d : X) → k ≤ ahead d ps → firsts k (ps ++ d ∷ ys) ≡ firsts k (ps ++ ys)
   without_one k ps ys d many =
       let g = sorted_gap ps ys d in
@@ -214,7 +214,7 @@ module _ {X : Type 0} (cmp : X → X → Ordering) (total : IsTotalOrder cmp) wh
   without k ps [] ys h = refl
   without k ps (d ∷ ds) ys h = without_one k ps (ds ++ ys) d h.0 ∙ without k ps ds ys h.1
 
-  -- what is behind the first k has k before it
+  -- what is after the first k has k before it
   behind_first : (k : ℕ) (zs : List X) → InTurn cmp total zs
       → AllByRecursion (λ d. k ≤ ahead d (take k zs)) (drop k zs)
   behind_first zero zs h = each zs
@@ -249,7 +249,7 @@ module _ {X : Type 0} (cmp : X → X → Ordering) (total : IsTotalOrder cmp) wh
 
   -- ---- a floor
 
-  -- what stands behind one that k others come before is none of the first k
+  -- what is after an element that k others come before isn't one of the first k
   pub without_behind : (k : ℕ) (f : X) (ps ds : List X) → k ≤ ahead f ps → AreBehind f ds
       → firsts k (ps ++ ds) ≡ firsts k ps
   without_behind k f ps ds many h =
@@ -262,7 +262,7 @@ module _ {X : Type 0} (cmp : X → X → Ordering) (total : IsTotalOrder cmp) wh
   leads_own : (x : X) → leads x x ≡ true
   leads_own x = true_from_ne_false _ (λ e. let own = ordered.first_either cmp total leads (λ a b. refl) x x e in cc)
 
-  -- the last of two or more is the last of those behind the first
+  -- the last of two or more is the last of those after the first
   last_more : (z w : X) (zs : List X) → slice_get (z ∷ w ∷ zs) (length (z ∷ w ∷ zs) - 1)
       ≡ slice_get (w ∷ zs) (length (w ∷ zs) - 1)
   last_more z w zs =
@@ -315,13 +315,13 @@ first_of_first = first-first named_cmp named_total
 first_turn : (k : ℕ) (xs : List Named) → InTurn named_cmp named_total (first_rows k xs)
 first_turn k xs = take_turn named_cmp named_total k (rows_in_order xs) (sorted_turn named_cmp named_total xs)
 
--- a floor stays one where more are gathered
+-- a floor stays one if more are gathered
 pub floor_kept : (k : ℕ) (floor : Option Candidate) (xs ys : List Named) → IsFloor k xs floor
     → IsFloor k (xs ++ ys) floor
 floor_kept k None xs ys h = tt
 floor_kept k (Some f) xs ys h = omega (arith, h, ahead-append named_cmp named_total (f, []) xs ys)
 
--- what was taken off behind a floor is none of the first k
+-- what was removed after a floor isn't one of the first k
 pub cut_away : (k : ℕ) (floor : Option Candidate) (xs all kept : List Named) → IsFloor k xs floor
     → IsCut floor all kept → first_rows k (xs ++ kept) ≡ first_rows k (xs ++ all)
 cut_away k None xs all kept h cut = ap (λ (l : List Named). first_rows k (xs ++ l)) cut
@@ -330,7 +330,7 @@ cut_away k (Some f) xs all kept h cut =
     (omega (arith, h, ahead-append named_cmp named_total (f, []) xs kept)) cut.behind)
     ∙ ap (first_rows k) (append_assoc xs kept cut.dropped ∙ ap (λ (l : List Named). xs ++ l) (sym cut.parts))
 
--- there are k of them, where there are so many
+-- there are k of them if there are that many rows
 first_size : (k : ℕ) (xs : List Named) → k ≤ length xs → length (first_rows k xs) ≡ k
 first_size k xs many = omega (
   arith,
@@ -340,7 +340,7 @@ first_size k xs many = omega (
       (ordered.sorted-permutation (λ (a b : Named). comes_first a.0 b.0) xs),
 )
 
--- the last of the first k, where there are so many, is a floor
+-- the last of the first k is a floor if there are k rows
 pub last_floor : (k : ℕ) (xs : List Named) (floor : Option Candidate) → k ≤ length xs
     → floor ≡ option_map (λ (r : Named). r.0) (slice_get (first_rows k xs) (length (first_rows k xs) - 1))
     → IsFloor k (first_rows k xs) floor
@@ -363,7 +363,7 @@ first_again k xs new e =
 
 -- ---- rows that were read
 
--- rows up to a place are cut behind a floor that comes before each from there on
+-- rows up to a place are cut after a floor that comes before each from there on
 pub cut_off : (f : Candidate) (rows kept : List Row) (n : ℕ)
     → AllByRecursion (λ r. comes_first f r.candidate ≡ true) (drop n rows) → kept ≡ take n rows
     → IsCutBehind f (map named_in rows) (map named_in kept)

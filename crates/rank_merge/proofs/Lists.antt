@@ -18,7 +18,7 @@ each-unsorted P f xs h =
 -- ---- two lists, element by element
 
 module _ {X Y : Type 0} (R : X → Y → Type 0) where
-  -- two lists that go together, and two behind them
+  -- two lists that go together, and two after them
   pub zip-append : (xs vs : List X) (ys ws : List Y) → AllZip R xs ys → AllZip R vs ws
       → AllZip R (xs ++ vs) (ys ++ ws)
   zip-append [] vs [] ws h k = k

@@ -1,4 +1,4 @@
--- The merged papers of parts say what is right of the whole, where the whole is cut into the parts.
+-- What is merged of parts says what is right of the whole, if the whole is cut into these parts.
 use Rattle.std.proofs.Common.{◌≡◌, ℕ, ◌≤◌, ◌<◌, true, cond, List, [], ◌∷◌, ◌++◌, map, take, Option, Some, refl, sym, ap}
 use Rattle.std.proofs.Common.{◌∙◌, subst, arith, ℤ}
 use Rattle.std.specs.Prelude.{int_lt}
@@ -70,7 +70,7 @@ firsts q k (d ∷ ds) =
     ∙ ap (λ (l : List Candidate). first k (xs ++ l)) (firsts q k ds)
     ∙ first-first_right k xs whole
 
--- right entries of series are right entries of those for which these serve
+-- right entries of series are right entries of other series that are the same for the query
 zip_moved : (q : Asked) (kth : Option ℤ) (es : List Entry) (us vs : List Usable) → AllZip (IsRightEntry q kth) es us
     → AllZip (IsSameFor q) us vs → AllZip (IsRightEntry q kth) es vs
 zip_moved q kth [] [] [] h k = tt
@@ -189,9 +189,9 @@ module _ (q : Asked) where
     names_merged : AllByRecursion IsNamed (merged_rows q.k (parts_alone ps))
     names_merged = grind (arith, ints, take-all, sorted-all, names_of_parts ps cut.stations parts)
 
-    -- ---- both papers
+    -- ---- the report and the certificate
 
-    -- the merged papers say what is right of the whole
+    -- the merged report and certificate say what is right of the whole
     pub merged_say : SaysRightReport q c (merged_report q (parts_alone ps))
         × SaysRight q c (merged_certificate q (parts_alone ps))
     merged_say = (

@@ -1,4 +1,4 @@
--- What is merged of right papers is right for all files.
+-- What is merged of right reports and certificates is right for all files.
 use Rattle.std.proofs.Common.{◌≡◌, inr, ℕ, suc, Bool, false, cond, List, [], ◌∷◌, map, Option, Some}
 use Rattle.std.proofs.Common.{None, Result, Ok, Err, refl, sym, ap, ◌∙◌, subst, arith}
 use Rattle.std.specs.List.{list_any, AllByRecursion, AllZip, IsDistinct, find}
@@ -55,7 +55,7 @@ pub record Known : Type 0 where
   pub right_reports : RightReportsSayRight
   pub heads : HeadsAreRight
 
--- a part that is read of right papers
+-- a part that is read of a right report and certificate
 pub record ReadPart (q : Asked) (stations : List Station) (files : List (List ℕ)) (texts : Texts) : Type 0 where
   pub part : WithData
   pub right : IsRightPart q part
@@ -67,7 +67,7 @@ pub record ReadPart (q : Asked) (stations : List Station) (files : List (List �
 
 module _ (known : Known) (q : Asked) (asked : IsAsked q) (list : List ℕ) (stations : List Station)
     (lists : listed list ≡ Ok stations) where
-  -- right papers are read as what is right
+  -- right texts are read as what is right
   read_part : (files : List (List ℕ)) (texts : Texts) → ArePapersOf q stations files texts
       → ReadPart q stations files texts
   read_part files texts h =
@@ -120,11 +120,11 @@ module _ (known : Known) (q : Asked) (asked : IsAsked q) (list : List ℕ) (stat
 abbrev ids_of : List Entry → List StationId
 ids_of es = map (λ (e : Entry). e.id) es
 
--- none where the test fails, and nothing otherwise
+-- if the result is none, the test fails, and the other result is none
 none_of : (b : Bool) (i : StationId) (o : Option StationId) → cond b (Some i) o ≡ None → (b ≡ false) × (o ≡ None)
 none_of b i o e = grind arith
 
--- no line behind has the ID
+-- no later line has the ID
 none_behind : (i : StationId) (es : List Entry) → list_any (λ f. same_id i f.id) es ≡ false
     → AllByRecursion (λ j. same_id i j ≡ false) (ids_of es)
 none_behind i [] h = tt
@@ -136,7 +136,7 @@ none_behind_from : (i : StationId) (es : List Entry) → AllByRecursion (λ j. s
 none_behind_from i [] h = refl
 none_behind_from i (f ∷ es) h = let rest = none_behind_from i es h.1 in grind arith
 
--- where none is told to stand twice, no two are the same
+-- if no ID is found twice, no two are the same
 distinct_from : (es : List Entry) → twice es ≡ None → IsDistinct same_id (ids_of es)
 unfolding IsDistinct
 distinct_from [] h = tt
@@ -144,7 +144,7 @@ distinct_from (e ∷ es) h =
     let none = none_of (list_any (λ f. same_id e.id f.id) es) e.id (twice es) h in
     (none_behind e.id es none.0, distinct_from es none.1)
 
--- where no two are the same, none is told to stand twice
+-- if no two are the same, no ID is found twice
 distinct_to : (es : List Entry) → IsDistinct same_id (ids_of es) → twice es ≡ None
 unfolding IsDistinct
 distinct_to [] d = refl
@@ -166,7 +166,7 @@ module _ (q : Asked) (ws : List WithData) (right : AllByRecursion (IsRightPart q
       subst (λ (l : List StationId). IsPermutation l (ids_of (merged_entries (parts_alone ws)))) (part_ids q ws right)
       moved
 
-  -- where none is told to stand twice, no station has morsels in two parts
+  -- if no ID is found twice, no station has morsels in two parts
   apart_from : twice (merged_entries (parts_alone ws)) ≡ None → IsDistinct same_id (morsel_ids q (data_of_parts ws))
   apart_from once = IsDistinct-IsPermutation same_id same_id-turned _ _ (IsPermutation-sym _ _ ids_moved)
       (distinct_from (merged_entries (parts_alone ws)) once)
@@ -202,13 +202,13 @@ one_report q c a b h k = grind (arith, ints, same_rows c.stations h.rows k.rows 
 
 -- ---- the theorem
 
--- papers that are answered are those of the parts, and no ID stands twice
+-- texts that are returned are those of the parts, and no two lines have one ID
 answered : (q : Asked) (ps : List Part) (t : Texts) (o : Option StationId) → papers_unless o q ps ≡ Ok t
     → (o ≡ None) × ((report_text q (merged_report q ps).rows, certificate_text (merged_certificate q ps)) ≡ t)
 answered q ps t (Some id) h = absurd cc
 answered q ps t None h = (refl, cc)
 
--- what is merged of right papers of parts of files without a fault
+-- what is merged of right reports and certificates of parts of files without an error
 pub record IsMerged (q : Asked) (stations : List Station) (parts : List Filed) (dataset : Contents) (papers : Texts)
     : Type 0 where
   pub list : List ℕ
@@ -232,7 +232,7 @@ module _ (known : Known) (cut : CutByFiles) {q : Asked} {stations : List Station
   abbrev whole : List Part
   whole = parts_alone all.read
 
-  -- no ID stands twice, and the papers are those of what was read
+  -- no two lines have one ID, and the texts are those of what was read
   told : (twice (merged_entries whole) ≡ None)
       × ((report_text q (merged_report q whole).rows, certificate_text (merged_certificate q whole)) ≡ papers)
   told = answered q whole papers (twice (merged_entries whole)) (sym (ap (papers_of q) all.passed) ∙ m.merged)
@@ -299,7 +299,7 @@ same_data stations (p ∷ parts) [] es h k = absurd h
 same_data stations (p ∷ parts) (d ∷ ds) [] h k = absurd k
 same_data stations (p ∷ parts) (d ∷ ds) (e ∷ es) h k = grind (arith, ints, same_data stations parts ds es h.1 k.1)
 
--- right parts are merged exactly where no station has morsels in two of them
+-- right parts are merged if and only if no station has morsels in two of them
 pub right_merged : Known → RightAreMerged
 right_merged known q list stations parts ds asked lists are dataset =
     let all = read_all known q asked list stations lists 1 parts are in
@@ -309,7 +309,7 @@ right_merged known q list stations parts ds asked lists are dataset =
     (subst (IsRightOutcome q (data_of_parts all.read)) (sym (ap (papers_of q) all.passed))
     (by all.read all.right (twice (merged_entries (parts_alone all.read))) refl))
   where
-    -- by what is told to stand twice
+    -- by the ID that is found twice
     by : (ws : List WithData) → AllByRecursion (IsRightPart q) ws → (o : Option StationId)
         → twice (merged_entries (parts_alone ws)) ≡ o
         → IsRightOutcome q (data_of_parts ws) (papers_unless o q (parts_alone ws))

@@ -1,4 +1,4 @@
--- The orders of lines by ID and of rows by candidate. In order, an ID that stands twice stands on two neighbours.
+-- The orders of lines by ID and of rows by candidate. In order, an ID that two lines have is on two neighbours.
 use Rattle.std.specs.Cmp.{IsTotalOrder}
 use Rattle.std.specs.Cmp.Lexicographic.{slice_cmp}
 use Rattle.std.specs.Ordering.{nat_cmp, is_le, is_eq, ordering_reverse}
@@ -48,7 +48,7 @@ named_cmp a b = full_cmp a.0 b.0
 pub named_total : IsTotalOrder named_cmp
 named_total = on_total (λ (r : Named). r.0) full_cmp_total
 
--- ---- an ID that stands twice
+-- ---- an ID that two lines have
 
 -- two that are each at most the other tie
 tie : (o p : Ordering) → o ≡ ordering_reverse p → is_le o ≡ true → is_le p ≡ true → is_eq o ≡ true
@@ -60,7 +60,7 @@ one_station : (e f : Entry) → id_comes_first e.id f.id ≡ true → id_comes_f
 one_station e f h k =
     sym (is_eq-slice_cmp e.id.0 f.id.0) ∙ tie (id_cmp e f) (id_cmp f e) (id_total.antisymm e f) h k
 
--- behind the line of another station no line is of the first one's
+-- after the line of another station no line is of the first one's
 none_behind : (e f : Entry) (es : List Entry) → id_comes_first e.id f.id ≡ true → same_id e.id f.id ≡ false
     → AllByRecursion (λ g. id_comes_first f.id g.id ≡ true) es → list_any (λ g. same_id e.id g.id) es ≡ false
 none_behind e f [] h other a = refl
@@ -74,7 +74,7 @@ none_behind e f (g ∷ es) h other a =
 abbrev pub IsTwice : Entry × Entry → Bool
 IsTwice two = same_id two.0.id two.1.id
 
--- so the first that stands twice does so on two neighbours
+-- so the first that two lines have is on two neighbours
 pub twice_beside : (es : List Entry) → InTurn id_cmp id_total es
     → twice es ≡ option_map (λ two. two.0.id) (find IsTwice (neighbours es))
 twice_beside [] h = refl
@@ -92,7 +92,7 @@ twice_beside (e ∷ f ∷ es) h =
 pub ordered_once : (ls es : List Entry) → ls ≡ by_id es → by_id ls ≡ ls
 ordered_once ls es e = ap by_id e ∙ sorted-twice id_cmp id_total es ∙ sym e
 
--- what a search among neighbours finds is the first that stands twice
+-- what a search among neighbours finds is the first that two lines have
 pub twice_found : (es : List Entry) (r : Option (Entry × Entry)) → by_id es ≡ es
     → r ≡ find IsTwice (zip es (drop 1 es)) → option_map (λ two. two.0.id) r ≡ twice es
 twice_found es r ordered e =

@@ -46,7 +46,7 @@ and_prefixed (Ok p) (Err why) all more ps e h = absurd cc
 and_prefixed (Ok p) (Ok qs) all more ps e h = grind (arith, ints, prefixed-one p qs more)
 
 module _ (q : Asked) where
-  -- what is read behind parts that were read
+  -- what is read after parts that were read
   parts_from-append : (n : ℕ) (ts us : List Texts) (ps : List Part) → parts_from q n ts ≡ Ok ps
       → parts_from q n (ts ++ us) ≡ prefixed ps (parts_from q (n + length ts) us)
   parts_from-append n [] us ps e = grind (arith, ints, prefixed-none (parts_from q (n + 0) us))
@@ -56,7 +56,7 @@ module _ (q : Asked) where
       (parts_from-append (suc n) ts us)
       ∙ ap (λ (m : ℕ). prefixed ps (parts_from q m us)) same
 
-  -- a part behind parts that were read
+  -- a part after parts that were read
   part_behind : (ts us : List Texts) (t : Texts) (ps : List Part) (n : ℕ) (o : Result Part MergeFault)
       → parts_from q 1 ts ≡ Ok ps → 1 + length ts ≡ n → part_of q n t ≡ o
       → parts_from q 1 (ts ++ t ∷ us) ≡ prefixed ps (and_parts o (parts_from q (suc n) us))
@@ -92,7 +92,7 @@ module _ (q : Asked) where
 
 -- ---- parts of a list of other things
 
--- what follows of a fact follows where memory didn't run out
+-- what follows of a fact follows if memory didn't run out
 pub unless_memory : {P Q : Type 0} (b : Bool) → (P → Q) → OnFalse b P → OnFalse b Q
 unless_memory true f h = h
 unless_memory false f h = f h
@@ -102,11 +102,11 @@ module _ {X : Type 0} (q : Asked) (f : X → Texts) (xs : List X) (i : ℕ) (d :
   abbrev at : Texts
   at = f (get_or xs i d)
 
-  -- so many are made of those before a place
+  -- that many are made of those before a place
   number_before : 1 + length (map f (take i xs)) ≡ i + 1
   number_before = omega (arith, length-map (take i xs) f, length-take i xs, below)
 
-  -- all are those before a place, the one at it and those behind it
+  -- all are those before a place, the one at it and those after it
   all_around : map f xs ≡ map f (take i xs) ++ f (get_or xs i d) ∷ map f (drop (i + 1) xs)
   all_around = grind (arith, ints, take-append-drop i xs, map-append f (take i xs) (drop i xs), drop_more xs i d below)
 

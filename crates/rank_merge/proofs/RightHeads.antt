@@ -1,4 +1,4 @@
--- Papers that say what is right have a right head.
+-- A report and a certificate that say what is right have a right head.
 use Rattle.std.proofs.Common.{◌≡◌, ℕ, zero, suc, Bool, true, false, List, [], ◌∷◌, take, filter, Option, Some}
 use Rattle.std.proofs.Common.{None, cond, refl, sym, ap, ◌∙◌, ℤ, arith, ◌⊎◌, inl, inr, not, ◌++◌, length, subst, ◌≤ℤ◌}
 use Rattle.std.proofs.Common.{append_assoc}
@@ -36,7 +36,7 @@ use Rattle.rank_merge.proofs.Lists.{each-unsorted}
 
 -- ---- scores
 
--- what comes first in two orders, one after the other, isn't behind in the first
+-- what comes first in two orders, one after the other, isn't later in the first
 lead : (o p : Ordering) → is_lt (ordering_then o p) ≡ true → is_le o ≡ true
 lead o p e = grind arith
 
@@ -78,7 +78,7 @@ rows_in_turn (x ∷ y ∷ rows) h = (h.0.0, rows_in_turn (y ∷ rows) h.1)
 
 -- ---- morsels by rising ID
 
--- each series has an ID before those of all behind it
+-- each series has an ID below those of all after it
 abbrev SeriesRise : List Usable → Type 0
 SeriesRise us = Descend (λ a b. stands_before a.id b.id ≡ true) us
 
@@ -102,16 +102,16 @@ right_rise q c kth es right h = entries_rise q kth es (morsels q c) h (morsels_r
 
 -- ---- lines that were scanned
 
--- a line of a station behind others
+-- a line of a station after others
 scanned-behind : (front es : List Entry) (id : StationId) → is_scanned es id ≡ true → is_scanned (front ++ es) id ≡ true
 scanned-behind [] es id h = h
 scanned-behind (f ∷ front) es id h = let behind = scanned-behind front es id h in grind arith
 
--- a line that wasn't passed over scans its own station
+-- a line that isn't a skip scans its own station
 scanned_own : (e : Entry) (es : List Entry) → e.skipped ≡ false → is_scanned (e ∷ es) e.id ≡ true
 scanned_own e es h = let own = same_id-laws.refl e.id in grind arith
 
--- each line that wasn't passed over, among all
+-- each line that isn't a skip, among all
 abbrev Scans : List Entry → Entry → Type 0
 Scans all e = e.skipped ≡ false → is_scanned all e.id ≡ true
 
@@ -138,7 +138,7 @@ module _ (q : Asked) (k : Option ℤ) (all : List Entry) where
   abbrev IsSeen : Candidate → Type 0
   IsSeen d = (is_scanned all d.id ≡ true) ⊎ (bound_is_below k d.score ≡ true)
 
-  -- so are those of some with an ID, where a line of it is right
+  -- so are those of some with an ID, if a line of it is right
   seen_of : (e : Entry) (ds : List Candidate) → Scans all e → (e.skipped ≡ true → bound_is_below k e.bound ≡ true)
       → AllByRecursion (λ d. d.id ≡ e.id) ds → AllByRecursion (λ d. d.score ≤ℤ e.bound) ds → AllByRecursion IsSeen ds
   seen_of e [] scans passed own above = tt
@@ -166,7 +166,7 @@ module _ (q : Asked) (k : Option ℤ) (all : List Entry) where
   abbrev AllSeen : Usable → Type 0
   AllSeen u = AllByRecursion IsSeen (candidates q u)
 
-  -- so those of all series are seen where those of the series with an admitted day are
+  -- so those of all series are seen if those of the series with an admitted day are
   seen_all : (us : List Usable) → AllByRecursion AllSeen (filter (has_admitted q) us)
       → AllByRecursion IsSeen (flat_map (candidates q) us)
   seen_all [] h = tt
@@ -225,7 +225,7 @@ module _ (q : Asked) (c : Contents) (asked : IsAsked q) (right : IsContents c) w
       → AllByRecursion (IsSeen q (kth_of_query q c) es) (best_of_query q c)
   best_seen es h = grind (arith, ints, best_are, take-all, sorted-all, all_seen es h)
 
-  -- the head of papers that say what is right
+  -- the head of a report and a certificate that say what is right
   pub right_head : (r : Reported) (z : Certified) → SaysRightReport q c r → SaysRight q c z → IsRightHead q r z
   right_head r z report certificate = record {
     report = report.asked;

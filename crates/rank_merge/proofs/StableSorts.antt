@@ -1,4 +1,4 @@
--- Stable sorts: of given elements there is one list in order in which those that tie stand as they came.
+-- Stable sorts: of given elements there is one list in order in which those that tie are as they came.
 use Rattle.std.proofs.Common.{◌≡◌, Bool, true, false, List, [], ◌∷◌, ◌++◌, length, refl, sym, ap, ◌∙◌, subst, arith}
 use Rattle.std.specs.Prelude.{filter, not, ◌&&◌}
 use Rattle.std.specs.List.{AllByRecursion}
@@ -32,7 +32,7 @@ filter-behind : {X : Type 0} (p : X → Bool) (y : X) (xs ys : List X) → filte
     → filter p xs ≡ filter p ys
 filter-behind p y xs ys e = grind arith
 
--- where neither of two tests passes each fails
+-- if neither of two tests passes each fails
 neither : (s t : Bool) → (not s && not t) ≡ true → (s ≡ false) × (t ≡ false)
 neither s t e = grind arith
 
@@ -101,7 +101,7 @@ module _ {X : Type 0} (cmp : X → X → Ordering) (total : IsTotalOrder cmp) wh
       (ap (λ (w : X). filter (ties before x) (w ∷ ys)) (sym heads) ∙ same x)) in
       λ i. heads i ∷ rest i
 
-  -- what a stable sort gives is the list in this order
+  -- what a stable sort returns is the list in this order
   pub stable-sorted : (xs ys : List X) → IsPermutation xs ys → IsSortedBy before ys → IsStableBy before xs ys
       → ys ≡ sorted_by first xs
   stable-sorted xs ys p up stable =

@@ -22,15 +22,15 @@ use Rattle.rank_merge.specs.Merging.{Texts, parts_from}
 abbrev pub texts_in : List (Bor (List ℕ) × Bor (List ℕ)) → List Texts
 texts_in parts = map (λ p. (p.0.now, p.1.now)) parts
 
--- the texts of papers that are merged
+-- the texts of the merged report and certificate
 abbrev pub papers_in : Merged → Texts
 papers_in m = (m.report.items, m.certificate.items)
 
--- what papers that were read say
+-- what a report and a certificate that were read say
 abbrev pub part_in : Papers → Part
 part_in p = record { report = reported_in p.report; certificate = certified_in p.certificate }
 
--- the refusal of the part of this number of which a paper isn't of its form
+-- the refusal of the part of this number whose report or certificate doesn't have its format
 abbrev pub of_paper : ℕ → PaperFault → MergeFault
 of_paper part (paper.BadReport line) = BadReport part line
 of_paper part (paper.BadCertificate line) = BadCertificate part line
@@ -38,17 +38,17 @@ of_paper part (paper.Memory m) = Memory m
 
 -- ---- what is gathered
 
--- that many of these rows come before a candidate or tie with it, if there is one
+-- if there is a candidate, k of these rows come before it or tie with it
 abbrev pub IsFloor : ℕ → List Named → Option Candidate → Type 0
 IsFloor k rows floor = IfSome floor (λ f. k ≤ count_by (λ r. comes_first r.0 f) rows)
 
--- some rows without the last of them, each of which a candidate comes before, or ties with
+-- some rows without the last of them, each of which a candidate comes before or ties with
 pub record IsCutBehind (f : Candidate) (all kept : List Named) : Type 0 where
   pub dropped : List Named
   pub parts : all ≡ kept ++ dropped
   pub behind : AllByRecursion (λ r. comes_first f r.0 ≡ true) dropped
 
--- some rows without those that were taken off after a floor: all of them, if there is none
+-- some rows without those that were removed after a floor: all of them if there is no floor
 abbrev pub IsCut : Option Candidate → List Named → List Named → Type 0
 IsCut None all kept = kept ≡ all
 IsCut (Some f) all kept = IsCutBehind f all kept

@@ -1,4 +1,4 @@
--- What merged papers are worth, as statements for the contract of a public function.
+-- What merged reports and certificates are worth, as statements for the contract of a public function.
 use Rattle.std.specs.Prelude.{◌≡◌, ℕ, List, Result, Ok, Err, map}
 use Rattle.std.specs.List.{flat_map, AllByRecursion, AllZip, IsDistinct}
 use Rattle.ghcn_files.specs.declared.station.Station.{Station}
@@ -26,7 +26,7 @@ all_files parts = flat_map (λ p. p.0) parts
 abbrev pub all_texts : List Filed → List Texts
 all_texts parts = map (λ p. p.1) parts
 
--- ---- merged papers are right
+-- ---- merged reports and certificates are right
 
 -- the texts are a right report and a right certificate of the data of some files, if these have no error
 pub record ArePapersOf (q : Asked) (stations : List Station) (files : List (List ℕ)) (texts : Texts) : Type 0 where
@@ -35,7 +35,7 @@ pub record ArePapersOf (q : Asked) (stations : List Station) (files : List (List
   pub report : IsReport q dataset texts.0
   pub certificate : IsCertificate q dataset texts.1
 
--- each part's papers are right for its files
+-- the report and the certificate of each part are right for its files
 abbrev pub AreAllParts : Asked → List Station → List Filed → Type 0
 AreAllParts q stations parts = AllByRecursion (λ p. ArePapersOf q stations p.0 p.1) parts
 
@@ -43,15 +43,15 @@ AreAllParts q stations parts = AllByRecursion (λ p. ArePapersOf q stations p.0 
 abbrev pub IsOneReport : Asked → Contents → List ℕ → Type 0
 IsOneReport q c text = IsReport q c text × ((other : List ℕ) → IsReport q c other → other ≡ text)
 
--- papers are right for all files of which these are the papers of the parts: wherever each part's papers are right for
--- its files, with one station list, and neither this nor all files together have a fault, both are right for all files
+-- a report and a certificate, merged from the texts of parts, are right for all files if those of each part are right
+-- for its files, with one station list, and neither this list nor all files together have an error
 abbrev pub AreRightForAll : Asked → List Texts → Texts → Type 0
 AreRightForAll q texts papers = (list : List ℕ) (stations : List Station) (parts : List Filed) (dataset : Contents)
     → listed list ≡ Ok stations → all_texts parts ≡ texts → AreAllParts q stations parts
     → data_of stations (all_files parts) ≡ Ok dataset
     → IsOneReport q dataset papers.0 × IsCertificate q dataset papers.1
 
--- merged papers are right for all files
+-- a merged report and a merged certificate are right for all files
 abbrev pub MergedAreRight : Type 0
 MergedAreRight = (q : Asked) (texts : List Texts) (papers : Texts) → IsAsked q → merge q texts ≡ Ok papers
     → AreRightForAll q texts papers
@@ -62,7 +62,8 @@ MergedAreRight = (q : Asked) (texts : List Texts) (papers : Texts) → IsAsked q
 abbrev pub IsMeasuredPart : Asked → List Station → Filed → Contents → Type 0
 IsMeasuredPart q stations p d = IsDataOf stations p d × IsMeasuredCertificate q d p.1.1
 
--- so is each bound of the papers of all, wherever the parts' are and no station has series of the query in two parts
+-- each bound of the certificate of all is that of its series, if the parts' bounds are, and no station that the query
+-- admits has a series of the query's element in two parts
 abbrev pub AreMeasuredForAll : Asked → List Texts → Texts → Type 0
 AreMeasuredForAll q texts papers =
     (list : List ℕ) (stations : List Station) (parts : List Filed) (ds : List Contents) (dataset : Contents)
@@ -71,28 +72,28 @@ AreMeasuredForAll q texts papers =
     → IsDistinct same_id (series_ids q ds)
     → IsMeasuredCertificate q dataset papers.1
 
--- merged papers keep the bounds of the series
+-- merged certificates keep the bounds of the series
 abbrev pub MergedAreMeasured : Type 0
 MergedAreMeasured = (q : Asked) (texts : List Texts) (papers : Texts) → IsAsked q → merge q texts ≡ Ok papers
     → AreMeasuredForAll q texts papers
 
--- ---- when right papers are refused
+-- ---- when right reports and certificates are refused
 
--- of the papers of parts with these data: they are merged only if no station has morsels in two parts, and refused
--- only if one has, by an ID that stands twice
+-- the reports and certificates of parts with these data are merged only if no station has morsels in two parts, and
+-- refused only if a station has, by an ID that two lines have
 abbrev pub IsRightOutcome : Asked → List Contents → Result Texts MergeFault → Type 0
 IsRightOutcome q ds (Ok papers) = IsDistinct same_id (morsel_ids q ds)
 IsRightOutcome q ds (Err why) =
     ((id : StationId) × (why ≡ Twice id)) × (IsDistinct same_id (morsel_ids q ds) → ⊥)
 
--- so it is said of an outcome, wherever each part's papers are right for its files
+-- the same is true of an outcome, if the report and the certificate of each part are right for its files
 abbrev pub IsOutcomeWhereRight : Asked → List Texts → Result Texts MergeFault → Type 0
 IsOutcomeWhereRight q texts outcome =
     (list : List ℕ) (stations : List Station) (parts : List Filed) (ds : List Contents)
     → listed list ≡ Ok stations → all_texts parts ≡ texts → AreAllParts q stations parts
     → AllZip (IsDataOf stations) parts ds → IsRightOutcome q ds outcome
 
--- right papers are merged if and only if no station has morsels in two parts
+-- right reports and certificates are merged if and only if no station has morsels in two parts
 abbrev pub RightAreMerged : Type 0
 RightAreMerged = (q : Asked) (list : List ℕ) (stations : List Station) (parts : List Filed) (ds : List Contents)
     → IsAsked q → listed list ≡ Ok stations → AreAllParts q stations parts → AllZip (IsDataOf stations) parts ds

@@ -1,4 +1,4 @@
--- The papers of all files, made of what the papers of their parts say.
+-- The report and the certificate of all files, made of what those of their parts say.
 use Rattle.std.specs.Prelude.{ℕ, List, take}
 use Rattle.std.specs.List.{flat_map}
 use Rattle.ghcn_fields.specs.Sorting.{sorted_by}
@@ -39,13 +39,13 @@ first_rows k rows = take k (rows_in_order rows)
 abbrev pub by_id : List Entry → List Entry
 by_id es = sorted_by (λ a b. id_comes_first a.id b.id) es
 
--- ---- the papers of all
+-- ---- the report and the certificate of all
 
 -- the first k rows of all parts
 abbrev pub merged_rows : ℕ → List Part → List Named
 merged_rows k ps = first_rows k (rows_of ps)
 
--- the lines of all parts by increasing ID, each with its own bound; what was skipped stays so
+-- the lines of all parts by increasing ID, each with its own bound; a skip stays a skip
 abbrev pub merged_entries : List Part → List Entry
 merged_entries ps = by_id (entries_of_parts ps)
 

@@ -1,4 +1,4 @@
--- The papers of all files from the texts of the parts' papers, or why these are refused.
+-- The report and the certificate of all files from the texts of the parts, or why these are refused.
 use Rattle.std.specs.Prelude.{ℕ, suc, Bool, true, false, if◌then◌else◌, List, [], ◌∷◌, Option, None, Some, Result, Ok}
 use Rattle.std.specs.Prelude.{Err}
 use Rattle.std.specs.List.{list_any}
@@ -24,7 +24,7 @@ use Rattle.rank_merge.specs.Merged.{Part, merged_rows, merged_entries, merged_ce
 abbrev pub Texts : Type 0
 Texts = List ℕ × List ℕ
 
--- what the papers of the part of this number say, if each is of its form
+-- what the report and the certificate of the part of this number say, if each has its format
 abbrev pub said : ℕ → Result Reported ℕ → Result Certified ℕ → Result Part MergeFault
 said part (Err line) z = Err (BadReport part line)
 said part (Ok r) (Err line) = Err (BadCertificate part line)
@@ -45,7 +45,7 @@ abbrev pub unless_fault : ℕ → Option HeadFault → Part → Result Part Merg
 unless_fault part None p = Ok p
 unless_fault part (Some fault) p = Err (of_head part fault)
 
--- what the papers of the part of this number say, unless its head is refused
+-- what the report and the certificate of the part of this number say, unless its head is refused
 abbrev pub with_right_head : Asked → ℕ → Result Part MergeFault → Result Part MergeFault
 with_right_head q part (Err why) = Err why
 with_right_head q part (Ok p) = unless_fault part (head_fault q p.report p.certificate) p
@@ -67,23 +67,23 @@ abbrev pub parts_from : Asked → ℕ → List Texts → Result (List Part) Merg
 parts_from q part [] = Ok []
 parts_from q part (t ∷ ts) = and_parts (part_of q part t) (parts_from q (suc part) ts)
 
--- the first ID of some lines that stands on a later line too
+-- the first ID of some lines that a later line has too
 abbrev pub twice : List Entry → Option StationId
 twice [] = None
 twice (e ∷ es) = if list_any (λ f. same_id e.id f.id) es then Some e.id else twice es
 
--- both papers of all, unless an ID stands on two lines
+-- the report and the certificate of all, unless two lines have one ID
 abbrev pub papers_unless : Option StationId → Asked → List Part → Result Texts MergeFault
 papers_unless (Some id) q ps = Err (Twice id)
 papers_unless None q ps =
     Ok (report_text q (merged_rows q.k ps), certificate_text (merged_certificate q ps))
 
--- the papers of all parts, or the refusal of the first by ID that stands on two lines
+-- the report and the certificate of all parts, or the refusal of a part, or of the smallest ID that two lines have
 abbrev pub papers_of : Asked → Result (List Part) MergeFault → Result Texts MergeFault
 papers_of q (Err why) = Err why
 papers_of q (Ok ps) = papers_unless (twice (merged_entries ps)) q ps
 
--- the papers of all files from the texts of the parts' papers, or why they are refused
+-- the report and the certificate of all files from the texts of the parts, or why these are refused
 abbrev pub merge : Asked → List Texts → Result Texts MergeFault
 merge q ts = papers_of q (parts_from q 1 ts)
 

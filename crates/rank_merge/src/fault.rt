@@ -7,38 +7,38 @@ use thiserror::Error;
 
 /// The first error of parts, in their order, and then of all their lines together.
 ///
-/// Parts and lines count from 1. Of one part first both papers have to be of their form, and then
-/// their heads are tested, in the order in which the reasons stand here.
+/// Parts and lines are counted from 1. The report and the certificate of a part first have to have their
+/// formats. Then what they show without data is tested, in the order of the reasons below.
 #[derive(Clone, Copy, Debug, PartialEq, Eq, Error)]
 pub enum MergeFault {
-    /// The line of the report isn't in the format of its place.
+    /// The line of the report doesn't match the format there.
     #[error("refused part {part} report line {line} BadReport")]
     BadReport { part: u64, line: u64 },
-    /// The line of the certificate isn't in the format of its place.
+    /// The line of the certificate doesn't match the format there.
     #[error("refused part {part} certificate line {line} BadCertificate")]
     BadCertificate { part: u64, line: u64 },
-    /// The report or the certificate has another query than the one that was asked.
+    /// The report or the certificate has another query than the one that the caller passes.
     #[error("refused part {part} OtherQuery")]
     OtherQuery { part: u64 },
     /// The row before this line of the report doesn't precede it.
     #[error("refused part {part} report line {line} OutOfOrder")]
     OutOfOrder { part: u64, line: u64 },
-    /// The certificate has another k-th score than the report's rows have.
+    /// The k-th score of the certificate isn't that of the report's rows.
     #[error("refused part {part} OtherFloor")]
     OtherFloor { part: u64 },
-    /// The ID before this line of the certificate doesn't stand before its own.
+    /// The ID on this line of the certificate isn't above the ID of the line before.
     #[error("refused part {part} certificate line {line} NotRising")]
     NotRising { part: u64, line: u64 },
-    /// The row of this line of the report is of no series that was scanned.
+    /// The row on this line of the report doesn't belong to a series that was scanned.
     #[error("refused part {part} report line {line} NotScanned")]
     NotScanned { part: u64, line: u64 },
-    /// This line of the certificate has another count than the report has rows of its station.
+    /// The count on this line of the certificate isn't the number of the report's rows of its station.
     #[error("refused part {part} certificate line {line} NotCounted")]
     NotCounted { part: u64, line: u64 },
     /// The first station by ID that has two lines, in the certificates of two parts.
     #[error("refused twice {}", Printed(*.id))]
     Twice { id: StationId },
-    /// Memory was really refused. It can come at any allocation, so it has no place in the order.
+    /// Out of memory. It can come at any allocation, so it has no place in the order.
     #[error(transparent)]
     Memory(Memory),
 }
@@ -54,7 +54,7 @@ impl From<Memory> for MergeFault {
     }
 }
 
-/// An ID as it is printed. Its eleven bytes show in print.
+/// An ID as it is printed: its eleven bytes, each of which is visible.
 #[derive(Clone, Copy)]
 struct Printed(StationId);
 

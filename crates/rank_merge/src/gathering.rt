@@ -16,16 +16,16 @@ use rank_query::Query;
 use rank_scores::Candidate;
 use std::alloc::Global;
 
-/// The lines of some parts, and of their rows all that can be among the first k.
+/// The lines of some parts, and all rows of these parts that can be among the first k.
 #[derive(Drop)]
 pub(crate) struct Gathered {
     pub(crate) rows: Vec<Row>,
     pub(crate) lines: Vec<Line>,
-    /// A candidate that k of the rows come before, or tie with: what comes after it isn't taken.
+    /// A candidate that k of the rows come before or tie with. A row that comes after it isn't taken.
     pub(crate) floor: Option<Candidate>,
 }
 
-/// Reads and tests the papers of each part, in their order.
+/// Reads and tests the report and the certificate of each part, in the order of the parts.
 pub(crate) fn read_parts(
     alloc: Global,
     query: &Query,
@@ -48,7 +48,7 @@ pub(crate) fn read_parts(
 }
 
 impl Gathered {
-    /// Takes the lines of one part more, and its rows that can be among the first k.
+    /// Takes the lines of one more part, and its rows that can be among the first k.
     fn add(&mut self, k: u64, mut papers: Papers) -> Result<(), Memory>
         requires few { k ≤ 1000 }
         requires floor { found.IsFloor k (map named_in self.old.rows.items) self.old.floor }
@@ -64,8 +64,8 @@ impl Gathered {
         self.settle(k)
     }
 
-    /// Leaves the first k rows if there are twice as many or more, so that a sort of fewer than 3k rows
-    /// lets go of k at least. The last of them is the floor.
+    /// Keeps only the first k rows if there are 2k or more, so that a sort has fewer than 3k rows and removes
+    /// at least k. The last row that is kept is the floor.
     fn settle(&mut self, k: u64) -> Result<(), Memory>
         requires few { k ≤ 1000 }
         requires floor { found.IsFloor k (map named_in self.old.rows.items) self.old.floor }

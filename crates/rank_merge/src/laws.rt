@@ -1,4 +1,4 @@
-//! What merged papers are worth, as laws over the definitions.
+//! What merged reports and certificates are worth, as laws over the definitions.
 
 ghost use Rattle.rank_merge.specs.Laws as laws;
 
@@ -7,10 +7,11 @@ use rank_head::heads_are_right;
 use rank_papers::{certificates_are_read, reports_are_read};
 use rank_scores::files_in_parts;
 
-/// Where the papers of each part are right for the part's files, with one station list, and neither
-/// this nor all files together have a fault, what is merged of them is right for all files. Its bounds are
-/// those of the series where the parts' are, and no station has series in two parts. Right papers
-/// are merged exactly where no station has series with an admitted day in two parts.
+/// If the report and the certificate of each part are right for the part's files, with one station list, and
+/// neither this list nor all files together have an error, what is merged of them is right for all files. Its
+/// bounds are those of the series if the parts' bounds are, and no station that the query admits has a series of
+/// the query's element in two parts. Right reports and certificates are merged if and only if no station has a
+/// series with an admitted day in two parts.
 pub fn merged_are_right()
     ensures right { laws.MergedAreRight }
     ensures measured { laws.MergedAreMeasured }

@@ -16,7 +16,7 @@ pub(crate) fn by_id(mut lines: Vec<Line>) -> Result<Vec<Line>, Memory>
     Ok(lines)
 }
 
-/// The first ID that stands on two lines, which are in order.
+/// The first ID that two lines have. The lines are in order.
 pub(crate) fn twice(lines: &[Line]) -> Option<StationId>
     requires { merged.by_id lines.now ≡ lines.now }
     ensures { result ≡ merging.twice lines.now }

@@ -1,4 +1,4 @@
-//! The papers of all files, from the papers of their parts.
+//! The report and the certificate of all files, from those of their parts.
 
 ghost use Rattle.std.specs.Prelude.{◌≡◌, Ok, Err, map, IfOk, IfErr};
 ghost use Rattle.ghcn_fields.specs.Refusals.{IsRefusal, OrMemory};
@@ -28,12 +28,12 @@ pub struct Merged {
     pub certificate: Vec<u8>,
 }
 
-/// Merges the papers of parts, each a report and a certificate, into the papers of the whole.
+/// Merges the report and the certificate of each part into the report and the certificate of the whole.
 ///
 /// The rows of all parts are put in order, and the first k are kept. All lines are kept, by
-/// increasing ID, each with its own bound, and what was skipped stays so. The certificate is of
-/// version 2; those of the parts may be of version 1 or 2. Of no parts at all the papers are those
-/// of no data.
+/// increasing ID, each with its own bound, and a skip stays a skip. The merged certificate is of
+/// version 2; those of the parts may be of version 1 or 2. If there are no parts, the result is the
+/// report and the certificate of no data.
 pub fn merge(alloc: Global, query: &Query, parts: &[(&[u8], &[u8])]) -> Result<Merged, MergeFault>
     ensures ok { IfOk result (λ merged.
         merging.merge query.now (found.texts_in parts.now) ≡ Ok (found.papers_in merged)) }
@@ -48,13 +48,13 @@ pub fn merge(alloc: Global, query: &Query, parts: &[(&[u8], &[u8])]) -> Result<M
     ensures twice { IfErr result (OrMemory merging.is_memory (λ why.
         laws.IsOutcomeWhereRight query.now (found.texts_in parts.now) (Err why))) }
 {
-    // Clauses `right` to `twice` are the law, for a query that can be asked: `k` says that.
+    // Clauses `right` to `twice` are the law, for a query that can be asked. `k` shows that this one can.
     merged_are_right();
     let _k = query.k();
     merge_texts(alloc, query, parts)
 }
 
-/// Merges the papers of parts.
+/// Merges the reports and the certificates of parts.
 fn merge_texts(alloc: Global, query: &Query, parts: &[(&[u8], &[u8])]) -> Result<Merged, MergeFault>
     ensures ok { IfOk result (λ merged.
         merging.merge query.now (found.texts_in parts.now) ≡ Ok (found.papers_in merged)) }
@@ -71,7 +71,7 @@ fn merge_texts(alloc: Global, query: &Query, parts: &[(&[u8], &[u8])]) -> Result
     Ok(papers(alloc, query, rows.as_slice(), lines.as_slice())?)
 }
 
-/// The papers with these rows and these lines.
+/// The report and the certificate with these rows and these lines.
 fn papers(alloc: Global, query: &Query, rows: &[Row], lines: &[Line]) -> Result<Merged, Memory>
     ensures report { IfOk result (λ merged.
         merged.report.items ≡ report_text query.now (map named_in rows.now)) }

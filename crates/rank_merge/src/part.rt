@@ -1,4 +1,4 @@
-//! The papers of one part.
+//! The report and the certificate of one part.
 
 ghost use Rattle.std.specs.Prelude.{◌≡◌, Ok, IfOk, IfErr};
 ghost use Rattle.ghcn_fields.specs.Refusals.{IsRefusal};
@@ -13,14 +13,14 @@ use rank_papers::{Certificate, PaperFault, Report, read_certificate, read_report
 use rank_query::Query;
 use std::alloc::Global;
 
-/// What the papers of one part say.
+/// What the report and the certificate of one part say.
 #[derive(Debug, Drop)]
 pub(crate) struct Papers {
     pub(crate) report: Report,
     pub(crate) certificate: Certificate,
 }
 
-/// Reads the papers of the part of this number, and tests what can be seen of them without data.
+/// Reads the report and the certificate of the part of this number, and tests what they show without data.
 pub(crate) fn read_part(
     alloc: Global,
     query: &Query,
@@ -40,7 +40,7 @@ pub(crate) fn read_part(
     }
 }
 
-/// Reads the papers of the part of this number.
+/// Reads the report and the certificate of the part of this number.
 fn read_papers(
     alloc: Global,
     part: u64,
@@ -58,7 +58,7 @@ fn read_papers(
     })
 }
 
-/// The refusal of a part of which a paper isn't of its form.
+/// The refusal of a part whose report or certificate doesn't have its format.
 fn of_paper(part: u64, why: PaperFault) -> MergeFault
     ensures { result ≡ found.of_paper part why }
 {

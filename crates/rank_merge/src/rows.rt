@@ -12,7 +12,7 @@ use ghcn_fields::Memory;
 use rank_papers::Row;
 use rank_scores::Candidate;
 
-/// Leaves the first k of some rows.
+/// Keeps only the first k of some rows.
 pub(crate) fn keep_first(k: u64, rows: &mut Vec<Row>) -> Result<(), Memory>
     ensures { OnOk result (map named_in rows.new.items ≡ merged.first_rows k (map named_in rows.old.items)) }
 {
@@ -31,8 +31,8 @@ pub(crate) fn last_of(rows: &[Row]) -> Option<Candidate>
     }
 }
 
-/// Takes off the rows at the end that the floor, if there is one, comes before or ties with. Of rows
-/// in order no other is left.
+/// Removes the rows at the end that the floor, if there is one, comes before or ties with. If the rows are in
+/// order, no such row is left.
 pub(crate) fn drop_behind(floor: &Option<Candidate>, rows: &mut Vec<Row>)
     ensures { found.IsCut floor.now (map named_in rows.old.items) (map named_in rows.new.items) }
 {

@@ -4,7 +4,7 @@ use Rattle.rank_merge.proofs.Orders.{id_cmp, id_total}
 use Rattle.rank_merge.proofs.StableSorts.{before, before_ranks, stable-sorted}
 use Rattle.rank_merge.proofs.lines.by_id.Goals as goal
 
--- a stable sort gives the one list in this order
+-- a stable sort returns the one list in this order
 pub returns : goal.returns
 returns c =
     stable-sorted id_cmp id_total c.args.lines.items c.sort_by.new.self.items c.sort_by.ensures.permutation

@@ -10,7 +10,7 @@ use Rattle.rank_merge.proofs.Orders.{IsTwice, twice_found}
 use Rattle.rank_merge.proofs.lines.twice.Goals.{After-find}
 use Rattle.rank_merge.proofs.lines.twice.Goals as goal
 
--- the ID of what the search finds is that which stands twice
+-- the ID that the search finds is the first that two lines have
 found : (c : After-find)
     → option_map (λ (two : Entry × Entry). two.0.id) (option_map (λ p. (p.0.now, p.1.now)) c.find.result)
     ≡ twice c.args.lines.now
@@ -23,7 +23,7 @@ found c =
     twice_found lines _ c.requires (find_from_yields_List IsTwice c.find.new.self _ c.find.result
     c.find.ensures.ran road (λ x b q k. search (rules, tests)))
 
--- none stands twice
+-- no two lines have one ID
 pub returns-in_err-line : goal.returns-in_err-line
 returns-in_err-line c =
     c.from_residual.ensures
@@ -31,7 +31,7 @@ returns-in_err-line c =
     (sym c.in_err-line.was)
     ∙ found (goal.at.returns-in_err-line c).After-find
 
--- one does
+-- two lines have one ID
 pub returns : goal.returns
 returns c =
     ap (λ r. option_map (λ (two : Entry × Entry). two.0.id) (option_map (λ p. (p.0.now, p.1.now)) r))

@@ -10,7 +10,7 @@ use Rattle.rank_merge.proofs.merging.merge.Goals as goal
 use Rattle.std.proofs.Common.{arith}
 use Rattle.std.proofs.lemmas.Int.{ints}
 
--- what is told of the papers that are merged follows for the answer
+-- what is known of the merged texts follows for the result
 of_merged : (c : After-merge_texts) (P : Merged → Type 0)
     → ((m : Merged) → merge c.args.query.now (texts_in c.args.parts.now) ≡ Ok (papers_in m) → P m)
     → IfOk c.merge_texts.result P
@@ -21,16 +21,16 @@ pub returns-clause-right : goal.returns-clause-right
 returns-clause-right c = of_merged (goal.at.returns-clause-right c).After-merge_texts _
     (λ m e. c.merged_are_right.ensures.right _ _ (papers_in m) c.k-k.ensures.asked e)
 
--- its bounds are those of the series, where the parts' are
+-- its bounds are those of the series if the parts' are
 pub returns-clause-measured : goal.returns-clause-measured
 returns-clause-measured c = of_merged (goal.at.returns-clause-measured c).After-merge_texts _
     (λ m e. c.merged_are_right.ensures.measured _ _ (papers_in m) c.k-k.ensures.asked e)
 
--- right parts are merged only where no station has morsels in two of them
+-- right parts are merged only if no station has morsels in two of them
 pub returns-clause-apart : goal.returns-clause-apart
 returns-clause-apart c = of_merged (goal.at.returns-clause-apart c).After-merge_texts _
     (λ m e. outcome_told c.merged_are_right.ensures.merged _ _ (Ok (papers_in m)) c.k-k.ensures.asked e)
 
--- and refused only where one has
+-- and refused only if one has
 pub returns-clause-twice : goal.returns-clause-twice
 returns-clause-twice c = grind (arith, ints, IfErr-weaker, refusal_told)

@@ -8,7 +8,7 @@ use Rattle.rank_merge.specs.Found.{IsCut}
 use Rattle.rank_merge.proofs.FirstRows.{cut_off}
 use Rattle.rank_merge.proofs.rows.drop_behind.Goals as goal
 
--- the rows from the place on were taken off
+-- the rows from the place on were removed
 pub returns-in-Some : goal.returns-in-Some
 returns-in-Some c =
     let rows : List Row = c.args.rows.now.items in

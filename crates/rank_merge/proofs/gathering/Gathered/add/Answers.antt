@@ -11,7 +11,7 @@ settle-requires-clause-floor c =
     c.drop_behind.new.rows.items c.append.new.self.items c.requires.floor c.drop_behind.ensures
     c.in_ok-append.ensures.items).1
 
--- the rows that weren't taken are none of the first
+-- the rows that weren't taken aren't among the first
 pub returns-clause-rows : goal.returns-clause-rows
 returns-clause-rows c =
     let taken = (gathered_rows c.args.k c.args.self.now.floor c.args.self.now.rows.items
