@@ -29,7 +29,7 @@ pub above-cons : (b : ℤ) (x : Candidate) (xs : List Candidate)
     → above b (x ∷ xs) ≡ one_if (int_lt b x.score) + above b xs
 above-cons b x xs = count-cons (λ c. int_lt b c.score) x xs
 
--- of two lists together as many score above as of both
+-- the number that score above in two lists together is the sum of both numbers
 pub above-append : (b : ℤ) (xs ys : List Candidate) → above b (xs ++ ys) ≡ above b xs + above b ys
 above-append b xs ys = sum_by-append (λ (c : Candidate). one_if (int_lt b c.score)) xs ys
 
@@ -44,7 +44,7 @@ above-in_order b xs = sum_by-IsPermutation (λ (c : Candidate). one_if (int_lt b
 abbrev pub NoneAbove : ℤ → List Candidate → Type 0
 NoneAbove s ys = AllByRecursion (λ y. y.score ≤ℤ s) ys
 
--- none scores above one that stands before it
+-- none scores above one that comes before it
 abbrev pub ScoresFall : List Candidate → Type 0
 ScoresFall [] = Unit {0}
 ScoresFall (y ∷ ys) = NoneAbove y.score ys × ScoresFall ys
@@ -71,7 +71,7 @@ falls (y ∷ ys) h = (
 pub in_order-falls : (xs : List Candidate) → ScoresFall (in_order xs)
 in_order-falls xs = falls (in_order xs) (in_order-turn xs)
 
--- where a line isn't below a number that is above all, none is above the line
+-- if a line isn't below a number that is above all, none is above the line
 pub none_above : (b s : ℤ) (ys : List Candidate) → int_lt b s ≡ false → NoneAbove s ys → above b ys ≡ 0
 none_above b s [] h a = refl
 none_above b s (y ∷ ys) h a =
@@ -84,7 +84,7 @@ none_above b s (y ∷ ys) h a =
 abbrev pub score_at : List Candidate → ℕ → Option ℤ
 score_at ys j = option_map (λ (c : Candidate). c.score) (slice_get ys j)
 
--- where scores fall, the one at a place is above b exactly where more than that many are
+-- if scores fall, the one at a place is above b if and only if more than that many are
 pub at_place : (b : ℤ) (ys : List Candidate) (j : ℕ) → ScoresFall ys
     → (bound_is_below (score_at ys j) b ≡ true) ↔ (j < above b ys)
 at_place b [] j d = (λ h. absurd cc, λ h. absurd (omega arith))
@@ -98,7 +98,7 @@ at_place b (y ∷ ys) (suc j) d =
     let rest = at_place b ys j d.1 in
     (λ h. let many = rest.0 h in grind arith, λ h. rest.1 (grind arith))
 
--- a number is strictly below the k-th score exactly where k candidates or more score above it
+-- a number is strictly below the k-th score if and only if k candidates or more score above it
 pub below_kth : (k : ℕ) (b : ℤ) (xs : List Candidate) → 0 < k → (bound_is_below (kth k xs) b ≡ true) ↔ (k ≤ above b xs)
 below_kth zero b xs some = absurd (omega arith)
 below_kth (suc j) b xs some =

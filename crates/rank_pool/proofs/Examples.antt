@@ -30,7 +30,7 @@ offered = on_day a (pos 18445) (pos 305) ∷ on_day a (pos 18444) (pos 311) ∷ 
 abbrev pool_of : List Candidate → Pooled
 pool_of cs = fold taken (empty_pool 2) cs
 
--- the k-th score, once as many as the places were offered
+-- the k-th score, once k candidates were offered
 kths : (last_score (pool_of []) ≡ None) × (last_score (pool_of (on_day a (pos 18445) (pos 305) ∷ [])) ≡ None)
     × (last_score (pool_of (on_day a (pos 18445) (pos 305) ∷ on_day a (pos 18444) (pos 311) ∷ [])) ≡ Some (pos 305))
     × (last_score (pool_of offered) ≡ Some (pos 306))
@@ -40,7 +40,7 @@ kths = (refl, refl, refl, refl)
 abbrev others : List Candidate
 others = on_day c (pos 18444) (pos 250) ∷ on_day b (pos 18444) (pos 311) ∷ []
 
--- equal scores stand by ID, and none of them is lost
+-- equal scores are in order of ID, and none of them is lost
 merged : (fold taken (pool_of offered) (pool_of others).held
     ≡ record { size = 2; held = on_day a (pos 18444) (pos 311) ∷ on_day b (pos 18444) (pos 311) ∷ [] })
     × (kth 2 (offered ++ others) ≡ Some (pos 311)) × (first 2 (offered ++ others)

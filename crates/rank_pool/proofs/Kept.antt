@@ -1,4 +1,4 @@
--- What leaves the first k as they are: candidates no better than k others, and another order in which all were given.
+-- What leaves the first k as they are: candidates no better than k others, and another order of all in the list.
 use Rattle.std.proofs.Common.{◌≡◌, ℕ, zero, suc, ◌≤◌, Bool, true, false, cond, List, [], ◌∷◌, ◌++◌, take, refl, sym, ap}
 use Rattle.std.proofs.Common.{◌∙◌, append-nil, append_assoc, arith, ℤ, ◌≤ℤ◌}
 use Rattle.std.specs.Prelude.{int_lt}
@@ -24,7 +24,7 @@ high_first z y h =
     let e : int_cmp y.score z.score ≡ Greater = grind (arith, ints) in
     greater_first (int_cmp y.score z.score) _ _ e
 
--- a candidate that takes its place behind k that score more leaves the first k as they are
+-- a candidate that takes its place after k that score more leaves the first k as they are
 pub low_past : (z : Candidate) (ys : List Candidate) (k : ℕ) → ScoresFall ys → k ≤ above z.score ys
     → take k (placed comes_first z ys) ≡ take k ys
 low_past z ys zero f h = refl
@@ -47,7 +47,7 @@ above-lower a b (y ∷ ys) h =
     let here : one_if (int_lt b y.score) ≤ one_if (int_lt a y.score) = grind (arith, ints) in
     omega (arith, above-cons a y ys, above-cons b y ys, above-lower a b ys h, here)
 
--- where k candidates score above d, more that don't leave the first k as they are
+-- if k candidates score above d, more that don't leave the first k as they are
 pub first-low : (k : ℕ) (d : ℤ) (ys zs : List Candidate) → k ≤ above d ys → AllByRecursion (λ z. z.score ≤ℤ d) zs
     → first k (ys ++ zs) ≡ first k ys
 first-low k d ys [] far low = ap (first k) (append-nil ys)
@@ -69,7 +69,7 @@ pub alike-right : (zs xs ys : List Candidate) → Alike xs ys → Alike (zs ++ x
 alike-right [] xs ys e = e
 alike-right (z ∷ zs) xs ys e = ap (placed comes_first z) (alike-right zs xs ys e)
 
--- more of the same behind
+-- more of the same after both
 pub alike-left : (xs ys zs : List Candidate) → Alike xs ys → Alike (xs ++ zs) (ys ++ zs)
 alike-left xs ys zs e = in_order-append_comm xs zs ∙ alike-right zs xs ys e ∙ in_order-append_comm zs ys
 

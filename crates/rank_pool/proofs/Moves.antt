@@ -1,4 +1,4 @@
--- Candidates stand in one order, in whatever order they were given.
+-- Candidates have one order, in whatever order they are listed.
 use Rattle.std.proofs.Common.{◌≡◌, ℕ, Bool, true, not, List, [], ◌∷◌, refl, sym, ap, ◌∙◌, subst, arith, ◌↔◌}
 use Rattle.std.specs.List.{count_by, AllByRecursion}
 use Rattle.std.specs.List.Sorted.{IsPermutation}
@@ -10,7 +10,7 @@ use Rattle.rank_pool.specs.First.{comes_first, in_order}
 use Rattle.rank_pool.proofs.Orders.{InTurn, in_order-turn, same_place, first_itself}
 use Rattle.rank_pool.proofs.Counts.{one_if, count-cons}
 
--- as many of one list as of the other pass, whatever the test
+-- the number that pass a test is the same in both lists, whatever the test
 abbrev AreAsMany : List Candidate → List Candidate → Type 0
 AreAsMany xs ys = (t : Candidate → Bool) → count_by t xs ≡ count_by t ys
 
@@ -21,7 +21,7 @@ none_before x [] h = refl
 none_before x (y ∷ ys) h =
     omega (arith, count-cons (λ c. not (comes_first x c)) y ys, ap (λ b. one_if (not b)) h.0, none_before x ys h.1)
 
--- the first of some in turn comes before the first of as many
+-- the first of some in order comes before the first of the same number
 leads : (x y : Candidate) (xs ys : List Candidate) → InTurn (x ∷ xs) → AreAsMany (x ∷ xs) (y ∷ ys)
     → comes_first x y ≡ true
 leads x y xs ys h many = true_from_ne_false _ (λ e. omega (
@@ -32,7 +32,7 @@ leads x y xs ys h many = true_from_ne_false _ (λ e. omega (
   ap (λ b. one_if (not b)) e,
 ))
 
--- so candidates in turn stand in one way
+-- so candidates can be in order in one way only
 one_turn : (ys zs : List Candidate) → InTurn ys → InTurn zs → AreAsMany ys zs → ys ≡ zs
 one_turn [] [] h k many = refl
 one_turn [] (z ∷ zs) h k many = absurd (omega (arith, many (λ c. true), count-cons (λ c. true) z zs))
@@ -48,7 +48,7 @@ one_turn (y ∷ ys) (z ∷ zs) h k many =
     )) in
     λ i. one i ∷ rest i
 
--- the same candidates stand in one order
+-- the same candidates have one order
 pub same_order : (xs ys : List Candidate) → IsPermutation xs ys → in_order xs ≡ in_order ys
 same_order xs ys p = one_turn (in_order xs) (in_order ys) (in_order-turn xs) (in_order-turn ys) (λ t.
     let count : Candidate → ℕ = λ c. one_if (t c) in
@@ -56,7 +56,7 @@ same_order xs ys p = one_turn (in_order xs) (in_order ys) (in_order-turn xs) (in
     ∙ sym (sum_by-IsPermutation count xs ys p)
     ∙ sym (sum_by-IsPermutation count ys (in_order ys) (sorted-permutation comes_first ys)))
 
--- two lists stand in one order exactly where they have the same candidates, each as often
+-- put in order, two lists are one list if and only if they have the same candidates, each as often
 pub alike-permutation : (xs ys : List Candidate) → (in_order xs ≡ in_order ys) ↔ IsPermutation xs ys
 alike-permutation xs ys = (
   λ e. IsPermutation-trans xs (in_order xs) ys (sorted-permutation comes_first xs)

@@ -22,7 +22,7 @@ use Rattle.rank_pool.proofs.Kept.{low_past}
 
 -- ---- a candidate that is taken
 
--- all are taken where there are no more
+-- all are taken if there are no more
 pub take_itself : (k : ℕ) (xs : List Candidate) → length xs ≤ k → take k xs ≡ xs
 take_itself k xs h =
     let all : min k (length xs) ≡ length xs = omega arith in
@@ -48,7 +48,7 @@ still_pool p x new h e =
       order = ap in_order held ∙ first-in_order p.size (x ∷ p.held) ∙ sym held;
     }
 
--- where a candidate scores below the last place, the pool stays as it is
+-- if a candidate scores below the last place, the pool stays as it is
 pub falls_out : (p : Pooled) (x : Candidate) (s : ℤ) → IsPool p → last_score p ≡ Some s → int_lt x.score s ≡ true
     → p ≡ taken p x
 falls_out p x s pool last low =
@@ -59,7 +59,7 @@ falls_out p x s pool last low =
     ap (λ (l : List Candidate). record { size = p.size; held = l })
     (sym (low_past x p.held p.size fall (omega (arith, many)) ∙ take_itself p.size p.held pool.few))
 
--- so it does where all of some candidates score below it
+-- so it does if all of some candidates score below it
 pub all_fall_out : (p : Pooled) (xs : List Candidate) (s : ℤ) → IsPool p → last_score p ≡ Some s
     → AllByRecursion (λ x. x.score <ℤ s) xs → p ≡ fold taken p xs
 all_fall_out p [] s pool last low = refl
@@ -74,7 +74,7 @@ pub was_ok : {T E : Type 0} (P Q : Type 0) (r : Result T E) → OnOk r P → OnE
 was_ok P Q (Ok x) done failed none = done
 was_ok P Q (Err e) done failed none = absurd (none failed)
 
--- what is put where that doesn't fail is there
+-- if putting an element in doesn't fail, the element is there
 pub is_put : {T E : Type 0} (new put old : List Candidate) (r : Result T E) → new ≡ (if is_ok r then put else old)
     → IsOk r → new ≡ put
 is_put new put old (Ok x) e done = e

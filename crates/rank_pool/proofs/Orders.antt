@@ -18,7 +18,7 @@ use Rattle.rank_pool.specs.First.{comes_first, in_order}
 
 -- ---- two candidates
 
--- answers that are Equal together are Equal each
+-- results that are Equal together are Equal each
 all_equal : (s i f l : Ordering) → ordering_then (ordering_then s (ordering_then i f)) l ≡ Equal
     → (s ≡ Equal) × (i ≡ Equal) × (f ≡ Equal) × (l ≡ Equal)
 all_equal s i f l e = grind arith
@@ -27,7 +27,7 @@ all_equal s i f l e = grind arith
 tied : (o p : Ordering) → o ≡ ordering_reverse p → is_le o ≡ true → is_le p ≡ true → o ≡ Equal
 tied o p e h k = grind arith
 
--- where each of two comes first, they are the same
+-- if each of two comes first, they are the same
 pub same_place : (a b : Candidate) → comes_first a b ≡ true → comes_first b a ≡ true → a ≡ b
 same_place a b e f =
     let parts = all_equal (int_cmp b.score a.score) (slice_cmp nat_cmp a.id.0 b.id.0) (int_cmp a.first b.first)
@@ -56,7 +56,7 @@ not_first a b c e f = false_from_ne_true _ (λ h. let there = first_trans c a b 
 
 -- ---- lists in turn
 
--- each comes before all behind it
+-- each comes before all after it
 abbrev pub InTurn : List Candidate → Type 0
 InTurn = ordered.InTurn full_cmp full_cmp_total comes_first (λ a b. refl)
 

@@ -10,7 +10,7 @@ use Rattle.rank_pool.specs.Pools.{Pooled, taken, HoldsFirst}
 use Rattle.rank_pool.proofs.Orders.{InTurn, in_order-turn, sorted-fixed, take-all}
 use Rattle.rank_pool.proofs.Moves.{same_order}
 
--- the order doesn't depend on which of two lists was given first
+-- the order doesn't depend on which of two lists comes first
 pub in_order-append_comm : (xs ys : List Candidate) → in_order (xs ++ ys) ≡ in_order (ys ++ xs)
 in_order-append_comm xs ys = same_order (xs ++ ys) (ys ++ xs) (IsPermutation-append_comm xs ys)
 

@@ -14,15 +14,15 @@ use Rattle.rank_scores.proofs.Listing.{full_cmp_total, descends}
 use Rattle.rank_pool.specs.First.{comes_first, in_order, first, kth}
 use Rattle.rank_pool.proofs.Orders.{InTurn, in_order-turn, first_itself}
 
--- one is less where the other isn't at most it
+-- one is less if the other isn't at most it
 less : (o p : Ordering) → o ≡ ordering_reverse p → is_lt o ≡ not (is_le p)
 less o p e = grind arith
 
--- a candidate is listed before x where x doesn't come first
+-- a candidate is listed before x if x doesn't come first
 pub listed_before : (y x : Candidate) → is_lt (full_cmp y x) ≡ not (comes_first x y)
 listed_before y x = less (full_cmp y x) (full_cmp x y) (full_cmp_total.antisymm y x)
 
--- of candidates in turn each comes before all behind it
+-- of candidates in order each comes before all after it
 pub in_turn-far : (ys : List Candidate) (x : Candidate) (i j : ℕ) → InTurn ys → i ≤ j → j < length ys
     → comes_first (get_or ys i x) (get_or ys j x) ≡ true
 in_turn-far [] x i j o le h = absurd (omega arith)

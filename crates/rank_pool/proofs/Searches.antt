@@ -1,4 +1,4 @@
--- Where a candidate stands among others that are in order.
+-- The place of a candidate among others that are in order.
 use Rattle.std.proofs.Common.{◌≡◌, ℕ, zero, suc, ◌+◌, ◌-◌, ◌<◌, ◌≤◌, true, false, not, List, [], ◌∷◌, length, get_or}
 use Rattle.std.proofs.Common.{refl, ap, ◌∙◌, subst, arith}
 use Rattle.std.specs.Prelude.{insert}
@@ -12,7 +12,7 @@ use Rattle.rank_pool.specs.First.{comes_first, in_order}
 use Rattle.rank_pool.proofs.Orders.{InTurn, in_order-turn, not_first, first_itself}
 use Rattle.rank_pool.proofs.Ranked.{listed_before, in_turn-far}
 
--- it stands at the front of those that it isn't listed behind, where it is listed behind all before them
+-- it is at the front of those that it isn't listed after, if it is listed after all before them
 pub placed_at : (x : Candidate) (ys : List Candidate) (n : ℕ) → n ≤ length ys
     → ((k : ℕ) → k < n → comes_first x (get_or ys k x) ≡ false) → (n < length ys → comes_first x (get_or ys n x) ≡ true)
     → insert ys n x ≡ placed comes_first x ys
@@ -40,7 +40,7 @@ before-parts x ys order = λ i j d le h e.
     listed_before (get_or ys i d) x
     ∙ ap not (not_first (get_or ys i d) (get_or ys j d) x far (listed (get_or ys j d) x e))
 
--- where x is listed behind the last of some in order, it stands behind them all
+-- if x is listed after the last of some in order, its place is after them all
 pub placed-last : (x : Candidate) (ys : List Candidate) (n : ℕ) → in_order ys ≡ ys → n ≡ length ys
     → is_lt (full_cmp (get_or ys (length ys - 1) x) x) ≡ true → insert ys n x ≡ placed comes_first x ys
 placed-last x ys n order end e =
@@ -50,14 +50,14 @@ placed-last x ys n order end e =
 
 -- ---- a search by halves
 
--- what stands before the low place is listed before x, and what stands from the high one on isn't
+-- what is before the low place is listed before x, and what is from the high one on isn't
 pub record IsBetween (x : Candidate) (ys : List Candidate) (low high : ℕ) : Type 0 where
   pub order : low ≤ high
   pub within : high ≤ length ys
   pub before : (k : ℕ) → k < low → is_lt (full_cmp (get_or ys k x) x) ≡ true
   pub behind : (k : ℕ) → high ≤ k → k < length ys → is_lt (full_cmp (get_or ys k x) x) ≡ false
 
--- what is listed behind the first one stands behind it
+-- what is listed after the first one has a place after it
 pub between_first : (x : Candidate) (ys : List Candidate) → comes_first x (get_or ys 0 x) ≡ false
     → IsBetween x ys 1 (length ys)
 between_first x [] e = absurd (let own = first_itself x in cc)
@@ -74,7 +74,7 @@ between_first x (y ∷ ys) e = record {
 
 module _ (x : Candidate) (ys : List Candidate) (order : in_order ys ≡ ys) (low middle high : ℕ)
     (between : IsBetween x ys low high) (above : low ≤ middle) (below : middle < high) where
-  -- where the one in the middle is listed before x, so are all before it
+  -- if the one in the middle is listed before x, so are all before it
   pub between_high : is_lt (full_cmp (get_or ys middle x) x) ≡ true → IsBetween x ys (middle + 1) high
   between_high e = record {
     order = omega arith;
@@ -84,7 +84,7 @@ module _ (x : Candidate) (ys : List Candidate) (order : in_order ys ≡ ys) (low
     behind = between.behind;
   }
 
-  -- where it isn't, none behind it is
+  -- if it isn't, none after it is
   pub between_low : is_lt (full_cmp (get_or ys middle x) x) ≡ false → IsBetween x ys low middle
   between_low e = record {
     order = above;
@@ -94,7 +94,7 @@ module _ (x : Candidate) (ys : List Candidate) (order : in_order ys ≡ ys) (low
         (λ h. let front = before-parts x ys order middle k x le lt h in cc);
   }
 
--- where both places are one, it is that of x
+-- if both places are one, it is that of x
 pub between_placed : (x : Candidate) (ys : List Candidate) (n high : ℕ) → IsBetween x ys n high → high ≤ n
     → insert ys n x ≡ placed comes_first x ys
 between_placed x ys n high between end =

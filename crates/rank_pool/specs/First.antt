@@ -10,7 +10,7 @@ use Rattle.rank_scores.specs.Order.{full_cmp}
 abbrev pub comes_first : Candidate → Candidate → Bool
 comes_first a b = is_le (full_cmp a b)
 
--- candidates in the order of their listing, each as often as it was given
+-- candidates in the order in which they are listed, each as often as it is in the list
 abbrev pub in_order : List Candidate → List Candidate
 in_order xs = sorted_by comes_first xs
 

@@ -1,4 +1,4 @@
--- What the words of pools are worth. Each is a statement for the contract of a public function.
+-- What the definitions of pools are worth. Each is a statement for the contract of a public function.
 use Rattle.std.specs.Prelude.{◌≡◌, ◌↔◌, ℕ, ◌<◌, ◌≤◌, true, List, [], ◌∷◌, ◌++◌, ℤ, ◌≤ℤ◌, fold}
 use Rattle.std.specs.List.{AllByRecursion}
 use Rattle.std.specs.List.Sorted.{IsPermutation}
@@ -33,7 +33,7 @@ LastIsKth = (p : Pooled) (xs : List Candidate) → 0 < p.size → HoldsFirst p x
 
 -- ---- the first
 
--- two lists stand in one order if and only if they have the same candidates, each as often
+-- put in order, two lists are one list if and only if they have the same candidates, each as often
 abbrev pub OneOrder : Type 0
 OneOrder = (xs ys : List Candidate) → (in_order xs ≡ in_order ys) ↔ IsPermutation xs ys
 

@@ -18,7 +18,7 @@ empty_pool k = record { size = k; held = [] }
 abbrev pub taken : Pooled → Candidate → Pooled
 taken p c = record { size = p.size; held = take p.size (placed comes_first c p.held) }
 
--- the pool holds the first of these candidates, as many as it has places for
+-- the pool holds the first k of these candidates, if it has k places
 abbrev pub HoldsFirst : Pooled → List Candidate → Type 0
 HoldsFirst p xs = p.held ≡ first p.size xs
 

@@ -1,8 +1,9 @@
-//! What the words of pools are worth, as laws over the definitions.
+//! What the definitions of pools are worth, as laws.
 
 ghost use Rattle.rank_pool.specs.Laws as laws;
 
-/// What a pool holds goes on being the first of all that it was offered.
+/// If a pool holds the first k of all that it was offered, it still does after one more offer, after many, and
+/// after a merge. It keeps its size, and the score of its last place is the k-th score.
 pub fn pools_hold_the_first()
     ensures one { laws.HoldsOneMore }
     ensures all { laws.HoldsAllOffered }
@@ -11,14 +12,16 @@ pub fn pools_hold_the_first()
     ensures last { laws.LastIsKth }
 {}
 
-/// The first k don't depend on the order in which candidates are given, nor on any but themselves.
+/// The first k don't depend on the order in which candidates are listed. They stay the same without those that
+/// aren't among the first k of a list, and without those that don't score above a number if k others do.
 pub fn first_are_the_same()
     ensures order { laws.OneOrder }
     ensures first { laws.FirstOfFirst }
     ensures low { laws.LowStayOut }
 {}
 
-/// The k-th score counts what scores above it, and is that of a rank if no two begin alike.
+/// A number is strictly below the k-th score if and only if k or more candidates score above it. If no two
+/// candidates of a station begin on one day, the first in order are the best by rank.
 pub fn scores_tell_places()
     ensures below { laws.BelowKth }
     ensures best { laws.BestAreFirst }

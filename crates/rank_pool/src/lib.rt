@@ -1,7 +1,7 @@
 //! Pools: the best of all candidates that were offered.
 //!
-//! Each worker of a run keeps one, and the run's answer merges them. A pool holds the first k of
-//! all that it was offered, in whatever order that was.
+//! Each worker of a run keeps a pool, and the run's answer merges these. A pool holds the first k of all
+//! candidates that it was offered, in whatever order they were offered.
 #![tactic(auto)]
 
 mod laws;

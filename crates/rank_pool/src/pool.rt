@@ -40,14 +40,14 @@ impl Model for Pool {
 }
 
 impl Pool {
-    /// An empty pool with that many places, 1 to 1000. No later call takes memory.
+    /// An empty pool with this many places, 1 to 1000. No later call takes memory.
     pub fn new(alloc: Global, k: u64) -> Result<Pool, Memory>
         requires some { 0 < k }
         requires few { k ≤ 1000 }
         ensures { IfOk result (λ pool. pool ≡ pools.empty_pool k) }
     {
         let size = k as usize;
-        // One place more, for a candidate that pushes out the last.
+        // One more place, for a candidate that pushes out the last.
         let held = VecDeque::with_capacity(alloc, size + 1)?;
         Ok(Pool {
             held,
@@ -101,7 +101,7 @@ impl Pool {
         }
     }
 
-    /// Puts a candidate before all others, if each place is taken, and lets go of the last one.
+    /// Puts a candidate before all others, if each place is taken, and drops the last one.
     #[inline]
     fn lead(&mut self, candidate: Candidate)
         requires full { length self.old.held ≡ self.old.size }
@@ -115,7 +115,7 @@ impl Pool {
         self.last = score_at(&self.held, place);
     }
 
-    /// Puts a candidate at its place, and lets go of what then comes after the last one.
+    /// Puts a candidate at its place, and drops the candidate that then comes after the last place.
     #[inline(never)]
     fn place(&mut self, candidate: Candidate)
         ensures { self.new ≡ pools.taken self.old candidate }
@@ -167,7 +167,7 @@ impl FloorSink for Pool {
     fn pass_over(&mut self, _floor: i64, _count: u32) {}
 }
 
-/// Where a candidate stands in its order: before the first that it isn't listed after.
+/// The place of a candidate among those in order: before the first that it isn't listed after.
 fn place_of(held: &VecDeque<Candidate>, candidate: &Candidate) -> usize
     requires { in_order held.now.items ≡ held.now.items }
     ensures within { result ≤ deque_len held.now }
@@ -188,10 +188,10 @@ fn place_of(held: &VecDeque<Candidate>, candidate: &Candidate) -> usize
     }
 }
 
-/// Where a candidate stands that is listed after the first one, and likely not far after.
+/// The place of a candidate that is listed after the first one, and probably not far after it.
 ///
-/// If scores rise, few of those held tie with the one that comes. Steps are as wide as the way behind them, and
-/// never more than half of the way ahead.
+/// If scores rise, few of the candidates that are held tie with the new one. A step is as wide as the distance from
+/// where the search began, but never wider than half of what is left.
 fn place_near_front(held: &VecDeque<Candidate>, candidate: &Candidate) -> usize
     requires order { in_order held.now.items ≡ held.now.items }
     requires behind { comes_first candidate.now (slice_index_or held.now.items 0 candidate.now) ≡ false }
@@ -211,7 +211,7 @@ fn place_near_front(held: &VecDeque<Candidate>, candidate: &Candidate) -> usize
     low
 }
 
-/// Lets go of the last of some candidates, if there is one more than there are places.
+/// Drops the last of some candidates, if there is one more than there are places.
 fn cut(held: &mut VecDeque<Candidate>, size: usize)
     requires { deque_len held.old ≤ size + 1 }
     ensures items { held.new.items ≡ take size held.old.items }

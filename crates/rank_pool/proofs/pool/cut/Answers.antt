@@ -3,14 +3,14 @@ use Rattle.std.specs.VecDeque.{deque_len}
 use Rattle.rank_pool.proofs.Offers.{take_itself}
 use Rattle.rank_pool.proofs.pool.cut.Goals as goal
 
--- one fewer are as many as there are places
+-- without one there are exactly as many as places
 pub returns-then-len-size-clause-items : goal.returns-then-len-size-clause-items
 returns-then-len-size-clause-items c =
     let one : deque_len c.args.held.now - 1 ≡ c.args.size =
     omega (arith, c.requires, c.len.ensures, c.if-len-size.true) in
     c.pop_back.ensures.rest ∙ ap (λ (n : ℕ). take n c.args.held.now.items) one
 
--- where there are no more none is let go
+-- if there are no more none is dropped
 pub returns-else-len-size-clause-items : goal.returns-else-len-size-clause-items
 returns-else-len-size-clause-items c =
     sym (take_itself c.args.size c.args.held.now.items

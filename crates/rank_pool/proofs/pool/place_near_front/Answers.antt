@@ -6,7 +6,7 @@ use Rattle.rank_scores.specs.declared.candidate.Candidate.{Candidate}
 use Rattle.rank_pool.proofs.Searches.{IsBetween, between_first, between_high, between_low, between_placed}
 use Rattle.rank_pool.proofs.pool.place_near_front.Goals as goal
 
--- it stands behind the first one
+-- its place is after the first one
 pub loop-low-init : goal.loop-low-init
 loop-low-init c =
     let held : List Candidate = c.args.held.now.items in

@@ -8,7 +8,7 @@ use Rattle.rank_pool.specs.Pools.{Pooled, IsPool}
 use Rattle.rank_pool.proofs.Offers.{take_first, still_pool, is_put}
 use Rattle.rank_pool.proofs.pool.Pool.lead.Goals as goal
 
--- it is a pool again, and tells its last score
+-- it is a pool again, and its last score is the one that it keeps
 pub invariant_of-self : goal.invariant_of-self
 invariant_of-self c =
     let size = c.self.inside.size in

@@ -5,7 +5,7 @@ use Rattle.rank_pool.proofs.Places.{holds_taken}
 use Rattle.rank_pool.proofs.Offers.{falls_out}
 use Rattle.rank_pool.proofs.pool.PoolSink.offer.Goals as goal
 
--- what scores below the last place falls out
+-- what scores below the last place is dropped
 pub returns-in-Some-clause-taken : goal.returns-in-Some-clause-taken
 returns-in-Some-clause-taken c =
     let held : Pooled = record { size = c.self.inside.size; held = c.self.inside.held.items } in
@@ -21,10 +21,10 @@ returns-in-Some-clause-taken c =
 pub returns-in-Some-clause-all : goal.returns-in-Some-clause-all
 returns-in-Some-clause-all c = λ xs h. holds_taken _ _ xs c.args.candidate (returns-in-Some-clause-taken c) h
 
--- so it is where it stands before all others
+-- the same if it comes before all others
 pub returns-in-Some-2-clause-all : goal.returns-in-Some-2-clause-all
 returns-in-Some-2-clause-all c = λ xs h. holds_taken _ _ xs c.args.candidate c.lead.ensures h
 
--- and where it takes its place
+-- and if it takes its place
 pub returns-in_default-clause-all : goal.returns-in_default-clause-all
 returns-in_default-clause-all c = λ xs h. holds_taken _ _ xs c.args.candidate c.place.ensures h
