@@ -14,7 +14,7 @@ use Rattle.ghcn_fields.specs.Days.{first_day, is_day, last_day}
 use Rattle.ghcn_fields.specs.Dates.{year_and_rest, month_and_day, civil}
 use Rattle.ghcn_fields.proofs.DayNumbers.{first_count, is_day-from_civil}
 
--- where no year may be taken off, none is
+-- if no year may be taken off, the year stays
 pub year-zero : (y n : ℕ) → year_and_rest 0 y n ≡ (y, n)
 unfolding year_and_rest
 year-zero y n = refl
@@ -30,7 +30,7 @@ pub year-go : (more y n : ℕ) → days_in_year (pos y) ≤ n
 unfolding year_and_rest
 year-go more y n le = grind (arith, nat_tests)
 
--- where no month may be taken off, none is
+-- if no month may be taken off, the month stays
 pub month-zero : (y m n : ℕ) → month_and_day 0 y m n ≡ (m, suc n)
 unfolding month_and_day
 month-zero y m n = refl
@@ -99,7 +99,7 @@ months_taken (suc more) year first n low lt = elim (cases_lt n (days_in_month (p
 pub day-low : (n : ℤ) → is_day n ≡ true → first_day ≤ℤ n
 day-low n e = grind arith
 
--- nor behind the last one
+-- nor after the last one
 day-high : (n : ℤ) → is_day n ≡ true → n ≤ℤ last_day
 day-high n e = grind arith
 

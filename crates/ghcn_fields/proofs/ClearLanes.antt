@@ -1,4 +1,4 @@
--- Two number fields of five columns each, tested by lanes that are 0 where a column may stand where it does.
+-- Two number fields of five columns each, tested by lanes that are 0 if a column may stand where it does.
 use Rattle.std.proofs.Common.{◌≡◌, ℕ, ◌+◌, ◌-◌, ◌%◌, ◌^◌, ◌≤◌, zero, suc, Bool, true, false, cond, List, [], ◌∷◌}
 use Rattle.std.proofs.Common.{◌++◌, get_or}
 use Rattle.std.proofs.Common.{refl, sym, ap, ap₂, ◌∙◌, arith, ltb, eqb, w8, length, map}
@@ -45,24 +45,24 @@ past b =
 abbrev lane : ℕ → ℕ → ℕ → ℕ
 lane b next minus = least (less b 32) (bit_or (least (less b minus) (past b)) (past next))
 
--- both of two are 0 where they are joined to 0
+-- both of two are 0 if they are joined to 0
 or_clear : (x y : ℕ) → (bit_or x y == 0) ≡ ((x == 0) && (y == 0))
 or_clear zero y = ap (λ (n : ℕ). n == 0) (or_zero_l y)
 or_clear (suc x) y = let more = le_or_l (suc x) y in grind (arith, nat_tests, more)
 
--- one of two is 0 where the lesser is
+-- one of two is 0 if the lesser is
 least_clear : (x y : ℕ) → (least x y == 0) ≡ ((x == 0) || (y == 0))
 least_clear x y = simp taken (grind (arith, nat_tests))
 
--- a byte is a digit where it is no way from digits
+-- the distance of a byte from the digits is 0 if and only if the byte is a digit
 past_clear : (b : ℕ) → b ≤ 255 → (past b == 0) ≡ is_ascii_digit b
 past_clear b most = simp taken (grind (arith, nat_tests))
 
--- it is another one where nothing is left
+-- the difference from another byte is 0 if and only if the two are the same
 less_clear : (b c : ℕ) → b ≤ 255 → c ≤ 255 → (less b c == 0) ≡ (b == c)
 less_clear b c most more = grind (arith, nat_tests)
 
--- what else a byte may be stands before or behind that it is a digit
+-- a minus or a digit is a digit or a minus
 either : (blank minus digit next : Bool) → (blank || ((minus || digit) && next)) ≡ (blank || ((digit || minus) && next))
 either blank minus digit next = grind arith
 
@@ -117,7 +117,7 @@ two_clear a b c d e f g h i j k l m n o p la lb lc ld le li lj lk ll lm =
 
 -- ---- a vector's lanes
 
--- all bits where a field has a column
+-- no bits for a column after a field, and all bits for one of a field
 abbrev field : Bool → ℕ
 field behind = cond behind 0 255
 
@@ -135,7 +135,7 @@ each_test (b ∷ bs) [] e most = absurd (omega arith)
 each_test (b ∷ bs) (x ∷ xs) e most =
     ap₂ (λ (s t : Bool). s && t) (and-field b x most.0) (each_test bs xs (omega arith) most.1)
 
--- a mask of the lanes of two fields that are 0 is full where each is
+-- a mask of the lanes of two fields that are 0 is full if each is
 pub clear_mask : (xs : List ℕ) → length xs ≡ 16 → Each1 (Fits w8) xs
     → (mask_l (map (top 7) (zip2 (λ a b. cond (eqb a b) 255 0)
     (zip2 bit_and xs (map field (five_of_eight ++ five_of_eight))) (replicate 16 0))) % 2 ^ 64 == 65535) ≡ are_clear xs

@@ -1,4 +1,4 @@
--- Laws of counting: what follows where numbers stand once in a list, and in two lists together.
+-- Laws of counting: what follows if numbers stand once in a list, and in two lists together.
 use Rattle.std.proofs.Common.{◌≡◌, ◌≢◌, ℕ, zero, suc, ◌+◌, ◌*◌, ◌<◌, ◌≤◌, ◌==◌, cond, List, [], ◌∷◌, ◌++◌, length, All}
 use Rattle.std.proofs.Common.{Contains, count_by, sum_by, refl, sym, ap, subst, ◌∙◌, inl, inr, arith, eq-eqb, ne_eqb}
 use Rattle.std.proofs.lemmas.List.Elements.{All-nil, All-cons, All-head, All-tail, Contains-append_right}
@@ -52,7 +52,7 @@ module _ {A : Type 0} (number : A → ℕ) where
       (each x (omega (arith, count-cons (number x) x xs, one_if_equal-equal (number x) (number x) refl)))
       (all_counted P xs (λ y some_here. each y (omega (arith, count-cons (number y) x xs))))
 
-  -- where some are counted, the list has one with that number
+  -- if some are counted, the list has one with that number
   pub some_counted : (n : ℕ) (xs : List A) → 0 < count n xs → (y : A) × Contains xs y × (number y ≡ n)
   some_counted n [] some_here = absurd (omega arith)
   some_counted n (x ∷ xs) some_here = elim (cases_eq (number x) n) [
@@ -66,7 +66,7 @@ module _ {A : Type 0} (number : A → ℕ) where
 times-cons : (x y : ℕ) (ys : List ℕ) → times x (y ∷ ys) ≡ one_if_equal y x + times x ys
 times-cons x y ys = count-cons (λ z. z) x y ys
 
--- a number stands in two lists, one behind the other, as often as in both
+-- a number stands in two lists, one after the other, as often as in both
 pub times-append : (x : ℕ) (xs ys : List ℕ) → times x (xs ++ ys) ≡ times x xs + times x ys
 times-append x xs ys = sum_by-append (λ y. one_if_equal y x) xs ys
 

@@ -9,7 +9,7 @@ use Rattle.ghcn_fields.specs.Dates.{read_date}
 use Rattle.ghcn_fields.proofs.DateDigits.{natural-lt, short_natural, four_are_some, two_are_some}
 use Rattle.ghcn_fields.proofs.DateTexts.{read_date-none}
 
--- a text of another length is no date, and one without its dashes and digits is none
+-- a text of another length isn't a date, and one without its dashes and digits is none
 pub other_length : (bytes : List ℕ) → length bytes ≢ 10 → read_date bytes ≡ None
 other_length bytes other = read_date-none bytes (λ y m d e. absurd (other (ap length e)))
 

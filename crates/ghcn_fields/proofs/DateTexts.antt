@@ -20,7 +20,7 @@ use Rattle.ghcn_fields.proofs.DayNumbers.{is_day-date}
 use Rattle.ghcn_fields.proofs.WholeDays.{day_number-civil, day_number-some, is_date-to_civil}
 use Rattle.ghcn_fields.proofs.DateDigits.{value_of_two, value_of_four, two_again, four_again}
 
--- what is read where the bytes are the text of this year, month and day
+-- what is read if the bytes are the text of this year, month and day
 abbrev read_as : List ℕ → ℕ → ℕ → ℕ → Option ℤ
 read_as bytes y m d = if same_bytes (date_bytes (y, m, d)) bytes then day_number y m d else None
 

@@ -18,7 +18,7 @@ use Rattle.ghcn_fields.specs.Fields.{part_text, sign_text, Spells}
 use Rattle.ghcn_fields.proofs.Decimals.{is_point}
 use Rattle.ghcn_fields.proofs.Digits.{natural-some, natural-from}
 
--- a digit is no point
+-- a digit isn't a point
 no_point_digit : (d : ℕ) → is_ascii_digit d ≡ true → is_point d ≡ false
 no_point_digit d is = grind (arith, nat_tests)
 
@@ -29,7 +29,7 @@ no_point (d ∷ ds) digits =
     let parts = and_parts (is_ascii_digit d) (list_all is_ascii_digit ds) digits in
     rw (no_point_digit d parts.0) (no_point ds parts.1)
 
--- the first point stands behind the digits before it
+-- the first point stands after the digits before it
 point_at : (ds rest : List ℕ) → list_all is_ascii_digit ds ≡ true
     → position_or_len is_point (ds ++ 46 ∷ rest) ≡ length ds
 point_at [] rest digits = refl
@@ -51,7 +51,7 @@ pub record Writes (places : ℕ) (text : List ℕ) (n : ℕ) : Type 0 where
   pub few : length part ≤ places
   pub value : n ≡ digits_value 10 whole * 10 ^ places + digits_value 10 part * 10 ^ (places - length part)
 
--- a whole part and a part behind the point write n together
+-- a whole part and a part after the point write n together
 record AreJoined (places : ℕ) (whole part : Option ℕ) (len n : ℕ) : Type 0 where
   front : ℕ
   behind : ℕ
@@ -65,7 +65,7 @@ joined-some : (places len n : ℕ) (whole part : Option ℕ) → joined places w
     → AreJoined places whole part len n
 joined-some places len n whole part e = grind arith
 
--- digits behind a point are written with it
+-- digits after a point are written with it
 part_text-some : (part : List ℕ) → 1 ≤ length part → part_text part ≡ 46 ∷ part
 part_text-some part some = grind arith
 
@@ -111,7 +111,7 @@ writes-from_decimal_number places text n e = elim (cases_Bool (list_any is_point
       grind (arith, nat_tests, append-nil)
 ]
 
--- a whole part and a part behind the point are read as their number
+-- a whole part and a part after the point are read as their number
 read_parts : (places : ℕ) (whole part : List ℕ) → 1 ≤ length whole → list_all is_ascii_digit whole ≡ true
     → list_all is_ascii_digit part ≡ true → length part ≤ places
     → decimal_number places (whole ++ part_text part)
@@ -141,11 +141,11 @@ spells_by : (places : ℕ) (negative : Bool) (text : List ℕ) (n : ℕ) (v : �
     → v ≡ with_sign negative n → Spells places (sign_text negative ++ text) v
 spells_by places negative text n v w is = grind arith
 
--- any other byte is no minus
+-- any other byte isn't a minus
 no_minus : (b : ℕ) → (b ≡ 45 → ⊥) → (b == 45) ≡ false
 no_minus b other = grind (arith, nat_tests)
 
--- what is found behind an optional minus is spelled
+-- what is found after an optional minus is spelled
 pub spells-from_signed : (places : ℕ) (text : List ℕ) (v : ℤ) → signed_by (decimal_number places) text ≡ Some v
     → Spells places text v
 spells-from_signed places [] v e = absurd cc
@@ -171,11 +171,11 @@ pub signed-from_spells : (places : ℕ) (text : List ℕ) (v : ℤ) → Spells p
     → signed_by (decimal_number places) text ≡ Some v
 signed-from_spells places text v s = grind (arith, nat_tests, signed_parts)
 
--- two answers are one where each number that the one has is the other's
+-- two results are one if each number that the one has is the other's
 same_number : (o p : Option ℕ) → ((n : ℕ) → o ≡ Some n → p ≡ Some n) → ((n : ℕ) → p ≡ Some n → o ≡ Some n) → o ≡ p
 same_number o p to from = grind arith
 
--- without places no digits stand behind a point
+-- without places no digits stand after a point
 natural-from_writes : (text : List ℕ) (n : ℕ) (whole part : List ℕ) → text ≡ whole ++ part_text part
     → 1 ≤ length whole → list_all is_ascii_digit (whole ++ part) ≡ true → length part ≤ 0
     → n ≡ digits_value 10 whole * 10 ^ 0 + digits_value 10 part * 10 ^ (0 - length part) → natural text ≡ Some n
@@ -188,7 +188,7 @@ decimal_number-zero text = same_number (decimal_number 0 text) (natural text)
     natural-from_writes text n w.whole w.part w.parts w.some_digit w.digits w.few w.value)
     (λ n e. let w = natural-some text n e in decimal_number-from_writes 0 text n (grind (arith, nat_tests, append-nil)))
 
--- the same behind an optional minus
+-- the same after an optional minus
 pub signed_by-zero : (text : List ℕ) → signed_by (decimal_number 0) text ≡ signed_by natural text
 signed_by-zero [] = refl
 signed_by-zero (b ∷ bytes) = rw (decimal_number-zero bytes, decimal_number-zero (b ∷ bytes))

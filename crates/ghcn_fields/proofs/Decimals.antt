@@ -30,7 +30,7 @@ pub decimal_number-whole : (places : ℕ) (text : List ℕ) → IsFirstByte (is_
 decimal_number-whole places text nowhere = decimal_number-by places text (list_any_none is_point text
     (λ k d lt. grind (arith, nat_tests, get_or_default)))
 
--- the first point stands between the whole part and the part behind it
+-- the first point stands between the whole part and the part after it
 pub decimal_number-point : (places : ℕ) (text : List ℕ) (point : ℕ) → IsFirstByte (is_byte 46) text (Some point)
     → decimal_number places text ≡ joined places (natural (take point text)) (natural (drop (point + 1) text))
     (length (drop (point + 1) text))
@@ -54,7 +54,7 @@ pub joined-whole_over : (limit places len : ℕ) (whole part : Option ℕ) → u
     → up_to limit (joined places whole part len) ≡ None
 joined-whole_over limit places len whole part e = grind (arith, nat_tests, grows)
 
--- and so does a part behind the point
+-- and so does a part after the point
 pub joined-part_over : (limit places len : ℕ) (whole part : Option ℕ) → up_to limit part ≡ None
     → up_to limit (joined places whole part len) ≡ None
 joined-part_over limit places len whole part e = grind (arith, nat_tests, grows)

@@ -27,7 +27,7 @@ missing = refl
 all_blank : (int_field (codes "     ") ≡ Blank) × (int_field [] ≡ Blank)
 all_blank = (refl, refl)
 
--- a blank before the digits but none behind them; a tab is no blank; a minus alone, two of them, a plus and a point
+-- a blank before the digits but none after them; a tab isn't a blank; a minus alone, two of them, a plus and a point
 last_column : (int_field (codes " 7") ≡ Number (pos 7)) × (int_field (codes "7 ") ≡ Bad)
     × (int_field (9 ∷ codes "7") ≡ Bad) × (int_field (codes "   -") ≡ Bad) × (int_field (codes "--7") ≡ Bad)
     × (int_field (codes "   +7") ≡ Bad) × (int_field (codes "7.0") ≡ Bad)
@@ -47,7 +47,7 @@ scaled : (scaled_field 4 (codes " 10.0000") ≡ Number (pos 100000))
     × (scaled_field 1 (codes "  2.55") ≡ Bad)
 scaled = (refl, refl, refl, refl)
 
--- half a degree with one decimal or with all four; a digit before the point and one behind it, and no fifth decimal
+-- half a degree with one decimal or with all four; a digit before the point and one after it, and no fifth decimal
 degrees : (scaled_field 4 (codes " 90.5000") ≡ Number (pos 905000))
     × (scaled_field 4 (codes "90.5") ≡ Number (pos 905000))
     × (scaled_field 4 (codes " -0.0001") ≡ Number (negsuc 0)) × (scaled_field 4 (codes "  .5") ≡ Bad)

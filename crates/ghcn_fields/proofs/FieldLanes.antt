@@ -29,11 +29,11 @@ may_stand [] = true
 may_stand (b ∷ []) = (b == 32) || is_ascii_digit b
 may_stand (b ∷ c ∷ bytes) = may_precede b c && may_stand (c ∷ bytes)
 
--- a blank is no digit
+-- a blank isn't a digit
 blank_digit : (b : ℕ) → (b == 32) ≡ true → is_ascii_digit b ≡ false
 blank_digit b e = grind (arith, nat_tests)
 
--- where blanks alone follow, a blank alone may precede
+-- if blanks alone follow, a blank alone may precede
 before_blanks : (blank other digit number blanks : Bool) → (blanks ≡ true → digit ≡ false)
     → ((blank || (other && digit)) && (number || blanks))
     ≡ (((blank || (other && digit)) && number) || (blank && blanks))
@@ -65,7 +65,7 @@ five-form other a b c d e =
     rw (int_field-form (a ∷ b ∷ c ∷ d ∷ e ∷ [])) (by-form _ _ _ (digits_behind 0 (a ∷ b ∷ c ∷ d ∷ e ∷ [])) other
     (omega (arith, digit-small)))
 
--- a field of five bytes is bad where one of them may not stand where it does
+-- a field of five bytes is bad if one of them may not stand where it does
 pub bad_five : (a b c d e : ℕ) → is_bad (int_field (a ∷ b ∷ c ∷ d ∷ e ∷ [])) ≡ not (may_stand (a ∷ b ∷ c ∷ d ∷ e ∷ []))
 bad_five a b c d e = (five-form (pos 0) a b c d e).0 ∙ ap not (sym (stands a (b ∷ c ∷ d ∷ e ∷ [])))
 
@@ -102,11 +102,11 @@ lane-last b = grind arith
 
 -- ---- two fields
 
--- twice a number and a bit is twice another and 1 where the bit is set and the numbers are the same
+-- twice a number and a bit is twice another and 1 if the bit is set and the numbers are the same
 twice : (t : Bool) (m k : ℕ) → (cond t 1 0 + 2 * m == 1 + 2 * k) ≡ (t && (m == k))
 twice t m k = grind arith
 
--- a mask has all its bits where each lane is set
+-- a mask has all its bits if each lane is set
 all_set : (ts : List Bool) (k : ℕ) → k ≡ 2 ^ length ts - 1 → (mask_l ts == k) ≡ list_all (λ t. t) ts
 all_set [] k e = ap (λ (n : ℕ). zero == n) e
 all_set (t ∷ ts) k e =
@@ -127,11 +127,11 @@ pub all_of : (a b c d e rest : Bool)
     → (a && (b && (c && (d && (e && rest))))) ≡ ((a && (b && (c && (d && e)))) && rest)
 all_of a b c d e rest = grind arith
 
--- neither of two is bad where both are good
+-- neither of two is bad if both are good
 pub neither_bad : (s t : Bool) → (s && (t && true)) ≡ not (not s || not t)
 neither_bad s t = grind arith
 
--- what the lanes of a field's five columns and the three behind them say
+-- what the lanes of a field's five columns and the three after them say
 abbrev eight : ℕ → ℕ → ℕ → ℕ → ℕ → ℕ → ℕ → ℕ → List ℕ
 eight a b c d e f g h =
     lane a b 45 ∷ lane b c 45 ∷ lane c d 45 ∷ lane d e 45 ∷ lane e e 48 ∷ lane f f 0 ∷ lane g g 0 ∷ lane h h 0 ∷ []
@@ -152,7 +152,7 @@ pub two_fields : (a b c d e f g h i j k l m n o p : ℕ)
     ≡ not (is_bad (int_field (a ∷ b ∷ c ∷ d ∷ e ∷ [])) || is_bad (int_field (i ∷ j ∷ k ∷ l ∷ m ∷ [])))
 two_fields a b c d e f g h i j k l m n o p = grind (arith, nat_tests, bad_five, neither_bad, five-are)
 
--- a lane behind a field is set, and any other as it was
+-- a lane after a field is set, and any other as it was
 or-behind : (behind : Bool) (lane : ℕ) → leb 255 (bit_or lane (mark behind)) ≡ (behind || leb 255 lane)
 or-behind true lane = let more = le_or_r lane 255 in grind (arith, nat_tests, more)
 or-behind false lane = ap (leb 255) (or_zero_r lane)
@@ -165,7 +165,7 @@ each_test [] (x ∷ xs) e = absurd (omega arith)
 each_test (b ∷ bs) [] e = absurd (omega arith)
 each_test (b ∷ bs) (x ∷ xs) e = ap₂ (λ (s t : Bool). s && t) (or-behind b x) (each_test bs xs (omega arith))
 
--- a mask of the lanes that have all their bits is full where each lane has but for some
+-- a mask of the lanes that have all their bits is full if each lane has but for some
 pub set_mask_but : (bs : List Bool) (xs : List ℕ) → length bs ≡ 16 → length xs ≡ 16
     → (mask_l (map (top 7) (zip2 (λ a b. cond (leb a b) 255 0) (replicate 16 255) (zip2 bit_or xs (map mark bs))))
     % 2 ^ 64 == 65535) ≡ are_set_but bs xs
@@ -180,7 +180,7 @@ set_mask_but bs xs flags many =
     ∙ sixteen_set tests long
     ∙ each_test bs xs (many ∙ sym flags)
 
--- it is full where each lane of two fields has
+-- it is full if each lane of two fields has
 pub set_mask : (xs : List ℕ) → length xs ≡ 16
     → (mask_l (map (top 7) (zip2 (λ a b. cond (leb a b) 255 0) (replicate 16 255)
     (zip2 bit_or xs (map mark (five_of_eight ++ five_of_eight))))) % 2 ^ 64 == 65535) ≡ are_set xs

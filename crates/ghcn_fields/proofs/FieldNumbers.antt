@@ -23,12 +23,12 @@ after_blanks-parts (b ∷ bytes) = elim (cases_eq b 32) [
   | inr other ↦ (0, grind (arith, nat_tests))
 ]
 
--- a field has no text where each byte is a blank, byte by byte
+-- a field has no text if each byte is a blank, byte by byte
 blanks_by_recursion : (field : List ℕ) → (after_blanks field ≡ []) ↔ AllByRecursion (λ b. b ≡ 32) field
 blanks_by_recursion [] = (λ _. tt, λ _. refl)
 blanks_by_recursion (b ∷ bytes) = let rest = blanks_by_recursion bytes in grind (arith, nat_tests)
 
--- a field has no text where it is blanks alone
+-- a field has no text if it is blanks alone
 blanks_alone : (field : List ℕ) → (after_blanks field ≡ []) ↔ All (λ b. b ≡ 32) field
 blanks_alone field = grind (arith, nat_tests, blanks_by_recursion, All-from_recursion, recursion_from_All)
 
@@ -36,7 +36,7 @@ blanks_alone field = grind (arith, nat_tests, blanks_by_recursion, All-from_recu
 pub not_empty : (b : ℕ) (bytes : List ℕ) → (length (b ∷ bytes) == 0) ≡ false
 not_empty b bytes = grind (arith, nat_tests)
 
--- a field is blank where it has no text, whatever is read
+-- a field is blank if it has no text, whatever is read
 blank_text : (read : List ℕ → Option ℤ) (text : List ℕ)
     → ((if length text == 0 then Blank else field_of (read text)) ≡ Blank) ↔ (text ≡ [])
 blank_text read text = grind (arith, nat_tests, common_steps)
@@ -71,7 +71,7 @@ has_number places field v = (
   λ s. let p = after_blanks-parts field in record { blanks = p.0; text = after_blanks field; parts = p.1; spells = s },
 )
 
--- a decimal field is a number where it has it, and that is in range
+-- a decimal field is a number if it has it, and that is in range
 pub scaled_field-number : (places : ℕ) (field : List ℕ) (v : ℤ)
     → (scaled_field places field ≡ Number v) ↔ (HasNumber places field v × FitsSigned w32 v)
 scaled_field-number places field v =
@@ -86,7 +86,7 @@ pub int_field-number : (field : List ℕ) (v : ℤ)
     → (int_field field ≡ Number v) ↔ (HasNumber 0 field v × FitsSigned w32 v)
 int_field-number field v = rw (← signed_by-zero (after_blanks field)) (scaled_field-number 0 field v)
 
--- a field is blank where it has blanks alone
+-- a field is blank if it has blanks alone
 pub field_by-blank : (read : List ℕ → Option ℤ) (field : List ℕ)
     → (field_by read field ≡ Blank) ↔ All (λ b. b ≡ 32) field
 field_by-blank read field = grind (arith, nat_tests, blanks_alone, blank_text)

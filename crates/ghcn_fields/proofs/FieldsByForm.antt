@@ -25,7 +25,7 @@ abbrev pub by_form : List ℕ → Field
 by_form bytes =
     field_by_form (is_number_form bytes) (list_any is_minus bytes) (digits_behind 0 bytes) (is_blank bytes)
 
--- behind a digit, or a minus, stand digits alone
+-- after a digit, or a minus, stand digits alone
 digits_from : (c : ℕ) (bytes : List ℕ) → (is_ascii_digit c ≡ true
     → is_number_form (c ∷ bytes) ≡ list_all is_ascii_digit (c ∷ bytes))
     → (is_ascii_digit c && is_number_form (c ∷ bytes)) ≡ list_all is_ascii_digit (c ∷ bytes)
@@ -37,7 +37,7 @@ digits_on : (b : ℕ) (bytes : List ℕ) → is_ascii_digit b ≡ true
 digits_on b [] d = rw d refl
 digits_on b (c ∷ bytes) d = let more = digits_on c bytes in grind (arith, nat_tests)
 
--- where digits stand alone they write their number, and there is no minus
+-- if digits stand alone they write their number, and there isn't a minus
 digits_behind-digits : (n : ℕ) (bytes : List ℕ) → list_all is_ascii_digit bytes ≡ true
     → digits_behind n bytes ≡ digits_value_after 10 n bytes
 digits_behind-digits n [] all = refl
@@ -58,7 +58,7 @@ by_digits negative digits n m same = grind arith
 blank_first : (bytes : List ℕ) → int_field bytes ≡ by_form bytes → int_field (32 ∷ bytes) ≡ by_form (32 ∷ bytes)
 blank_first bytes rest = grind arith
 
--- a minus in front takes digits behind it
+-- a minus in front takes digits after it
 minus_first : (bytes : List ℕ) → int_field (45 ∷ bytes) ≡ by_form (45 ∷ bytes)
 minus_first [] = refl
 minus_first (c ∷ bytes) =
@@ -68,7 +68,7 @@ minus_first (c ∷ bytes) =
     ∙ ap (λ (form : Bool). field_by_form form true (digits_behind 0 (c ∷ bytes)) false)
     (sym (digits_from c bytes (λ e. digits_on c bytes e)))
 
--- a digit in front takes digits behind it
+-- a digit in front takes digits after it
 digit_first : (b : ℕ) (bytes : List ℕ) → (b == 32) ≡ false → (b == 45) ≡ false → is_ascii_digit b ≡ true
     → int_field (b ∷ bytes) ≡ by_form (b ∷ bytes)
 digit_first b bytes blank minus digit =

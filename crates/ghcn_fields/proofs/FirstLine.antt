@@ -24,7 +24,7 @@ pub lines-first : (bytes : List ℕ) (end : ℕ) → IsFirstByte (is_byte 10) by
     → lines bytes ≡ strip_carriage_return (take end bytes) ∷ lines (drop (end + 1) bytes)
 lines-first bytes end first = grind (arith, nat_tests, slice_split_first, length-slice_split, position_or_len_is)
 
--- where there is none, the text is one line
+-- if there is none, the text is one line
 pub lines-last : (bytes : List ℕ) → 0 < length bytes → IsFirstByte (is_byte 10) bytes None
     → lines bytes ≡ strip_carriage_return bytes ∷ []
 lines-last bytes some nowhere =

@@ -17,7 +17,7 @@ use Rattle.ghcn_fields.specs.Groups.{number_if, AreNumbers}
 use Rattle.ghcn_fields.proofs.FieldsByKind.{digit-small}
 use Rattle.ghcn_fields.proofs.FieldLanes.{may_stand, by_parts, five-form, bad_five, taken}
 
--- a lane of a number where a test passes
+-- a lane that has a number if a test passes, and 0 otherwise
 abbrev pub lane_if : Bool → ℕ → ℕ
 lane_if t n = cond (top 7 (cond t 255 0)) n 0
 
@@ -51,7 +51,7 @@ fronts xs =
     pick_l 0 (chunk 0 32 xs ++ chunk 0 32 xs)
     (0 ∷ 1 ∷ 2 ∷ 3 ∷ 8 ∷ 9 ∷ 10 ∷ 11 ∷ 16 ∷ 17 ∷ 18 ∷ 19 ∷ 24 ∷ 25 ∷ 26 ∷ 27 ∷ [])
 
--- the four columns behind these
+-- the four columns after these
 abbrev pub backs : List ℕ → List ℕ
 backs xs =
     pick_l 0 (chunk 0 32 xs ++ chunk 0 32 xs)
@@ -74,7 +74,7 @@ zips_fit f few (x ∷ xs) [] fit = tt
 zips_fit f few (x ∷ xs) (n ∷ ns) fit =
     (let less = few x n in let small = fit.0 in omega (arith, less, small), zips_fit f few xs ns fit.1)
 
--- a lane where a test passes is no more than its number
+-- such a lane is at most the number
 lane_if-le : (t : Bool) (n : ℕ) → lane_if t n ≤ n
 lane_if-le t n = grind arith
 
@@ -101,11 +101,11 @@ size-small a b c d e least = search rules
 abbrev pub lasts : List ℕ → List ℕ
 lasts xs = zip2 bit_and (backs xs) (by_fours 15 0 0 0)
 
--- what blanks count behind the first columns of four groups
+-- what blanks count after the first columns of four groups
 abbrev pub blanks : List ℕ → List ℕ
 blanks xs = zip2 lane_if (map (λ b. eqb b 32) (backs xs)) (by_fours 1 0 1 0)
 
--- where there are minuses
+-- which of the first columns are minuses
 abbrev pub minuses : List ℕ → List ℕ
 minuses xs = zip2 lane_if (map (λ b. eqb b 45) (fronts xs)) (by_fours 1 1 1 1)
 
@@ -123,27 +123,27 @@ blanks-are s t u v = grind (arith, nat_tests)
 abbrev minus-count : Bool → Bool → Bool → Bool → ℕ
 minus-count p q r s = number_l 256 (lane_if p 1 ∷ lane_if q 1 ∷ lane_if r 1 ∷ lane_if s 1 ∷ [])
 
--- they count 0 where none of the columns is one
+-- they count 0 if none of the columns is one
 none-are : (p q r s : Bool) → (minus-count p q r s == 0) ≡ not (p || (q || (r || (s || (false || false)))))
 none-are p q r s = grind (arith, nat_tests)
 
--- where each byte may stand, the last one says whether they are a number
+-- if each byte may stand, the last one says whether they are a number
 last_says : (p q r s last digit : Bool) → (p && (q && (r && (s && last)))) ≡ true
     → (p && (q && (r && (s && digit)))) ≡ digit
 last_says p q r s last digit e = grind arith
 
--- a digit is no minus
+-- a digit isn't a minus
 digit-minus : (e : ℕ) → is_ascii_digit e ≡ true → (e == 45) ≡ false
 digit-minus e is = grind (arith, nat_tests)
 
--- a number is told by its last digit, its minuses and its flag
+-- a number is known by its last digit, its minuses and its flag
 by-tests : (digit flag none negative : Bool) (m n : ℕ) (other : ℤ)
     → (digit ≡ true → (none ≡ not negative) × (m ≡ n))
     → (if digit && flag then (if none then pos m else neg_ℤ (pos m)) else other)
     ≡ (if flag then by_parts digit negative n other else other)
 by-tests digit flag none negative m n other h = grind arith
 
--- a group's last column is no blank, and its second flag is one
+-- a group's last column isn't a blank, and its second flag is one
 abbrev has_number : ℕ → ℕ → ℕ → ℕ → ℕ
 has_number e f g h = number_l 256 (lane_if (eqb e 32) 1 ∷ lane_if (eqb f 32) 0 ∷ lane_if (eqb g 32) 1
     ∷ lane_if (eqb h 32) 0 ∷ [])
@@ -158,7 +158,7 @@ each-may : (a b c d e : ℕ) → may_stand (a ∷ b ∷ c ∷ d ∷ e ∷ []) �
     × (may_be c ≡ true) × (may_be d ≡ true) × (((e == 32) || is_ascii_digit e) ≡ true)
 each-may a b c d e all = grind (arith, nat_tests, and_parts)
 
--- a last column is a digit where it isn't blank
+-- a last column is a digit if it isn't blank
 blank-or-digit : (e : ℕ) → ((e == 32) || is_ascii_digit e) ≡ true → not (e == 32) ≡ is_ascii_digit e
 blank-or-digit e is = grind (arith, nat_tests)
 

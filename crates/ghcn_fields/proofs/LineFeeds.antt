@@ -21,7 +21,7 @@ lesser xs ys = sel_l (map (top 7) (zip2 (λ a b. cond (ltb a b) 255 0) xs ys)) x
 pub length-lesser : (xs ys : List ℕ) → length xs ≡ length ys → length (lesser xs ys) ≡ length xs
 length-lesser xs ys e = grind (arith, nat_tests, length-map, length-zip2, length-sel_l)
 
--- where the lesser ones are above a line feed, all are
+-- if the lesser ones are above a line feed, all are
 pub both_above : (xs ys : List ℕ) → length xs ≡ length ys → are_above (lesser xs ys) ≡ true
     → (are_above xs ≡ true) × (are_above ys ≡ true)
 both_above [] [] e above = (refl, refl)
@@ -52,7 +52,7 @@ each_test : (xs : List ℕ) → list_all (λ t. t) (map (λ x. ltb 10 x) xs) ≡
 each_test [] = refl
 each_test (x ∷ xs) = ap (λ (t : Bool). ltb 10 x && t) (each_test xs)
 
--- a mask of the lanes above a line feed is full where all are
+-- a mask of the lanes above a line feed is full if all are
 pub above_mask : (xs : List ℕ) → length xs ≡ 16
     → (mask_l (map (top 7) (zip2 (λ a b. cond (ltb a b) 255 0) (replicate 16 10) xs)) % 2 ^ 64 == 65535) ≡ are_above xs
 above_mask xs many =

@@ -21,7 +21,7 @@ pub day_number-some : (y m d : ℕ) (day : ℤ) → day_number y m d ≡ Some da
     → (is_date y m d ≡ true) × (days_from_civil (pos y) m d ≡ day)
 day_number-some y m d day e = grind arith
 
--- a date has the number of a day exactly where it is that day's year, month and day of the month
+-- a date has the number of a day if and only if it is that day's year, month and day of the month
 pub day_number-law : (y m d : ℕ) (n : ℤ)
     → (day_number y m d ≡ Some n) ↔ ((is_day n ≡ true) × (civil n ≡ (y, m, d)))
 day_number-law y m d n =

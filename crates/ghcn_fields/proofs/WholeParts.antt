@@ -18,7 +18,7 @@ use Rattle.ghcn_fields.proofs.Decimals.{is_point, decimal_number-by, up_to-some}
 use Rattle.ghcn_fields.proofs.Decimals.{joined-whole_over, units_over}
 use Rattle.ghcn_fields.proofs.Digits.{natural-from, too_great}
 
--- so many digits come first in a text
+-- that many digits come first in a text
 abbrev pub BeginsWithDigits : List ℕ → ℕ → Type 0
 BeginsWithDigits text i = list_all is_ascii_digit (take i text) ≡ true
 
@@ -40,7 +40,7 @@ no_point text i k digits le lt =
     ∙ digit_at (take i text) k digits (omega (arith, lt, length-take-le i text le)) in
     grind (arith, nat_tests)
 
--- the first point stands behind the first digits
+-- the first point stands after the first digits
 digits_before : (text : List ℕ) (i : ℕ) → BeginsWithDigits text i → i ≤ length text
     → i ≤ position_or_len is_point text
 digits_before text i digits le = elim (cases_lt (position_or_len is_point text) i) [
@@ -68,7 +68,7 @@ whole_number text i v digits le some point value small =
     ∙ ap (λ (n : ℕ). up_to (2 ^ 31) (Some n)) (sym value)
     ∙ grind (arith, nat_tests)
 
--- behind the first digits another byte than a digit or a point leaves no number
+-- after the first digits another byte than a digit or a point leaves no number
 pub no_whole : (text : List ℕ) (i : ℕ) → BeginsWithDigits text i → i < length text
     → is_ascii_digit (get_or text i 0) ≡ false → is_point (get_or text i 0) ≡ false
     → natural (before_first is_point text) ≡ None
@@ -119,7 +119,7 @@ no_first_digit (b ∷ bytes) other = elim (is_point b) as (λ p. is_point b ≡ 
       | false ↦ λ plain. no_whole (b ∷ bytes) 0 refl (omega arith) (sym (or-false (is_ascii_digit b)) ∙ other) plain
     ] refl
 
--- a point stands behind a first digit
+-- a point stands after a first digit
 pub some_digits : (text : List ℕ) (i : ℕ) → is_ascii_digit (get_or text 0 0) ≡ true → get_or text i 0 ≡ 46 → 1 ≤ i
 some_digits text zero digit point = absurd (let bad = sym digit ∙ ap is_ascii_digit point in cc)
 some_digits text (suc i) digit point = omega arith
@@ -132,7 +132,7 @@ no_point_number : (places : ℕ) (text : List ℕ) → length text ≤ position_
 no_point_number places text nowhere = decimal_number-by places text (list_any_none is_point text
     (λ k d lt. fails_before_first is_point text k d (omega (arith, lt, nowhere))))
 
--- the first point stands between the whole part and the part behind it
+-- the first point stands between the whole part and the part after it
 point_number : (places : ℕ) (text : List ℕ) → position_or_len is_point text < length text
     → decimal_number places text ≡ joined places (natural (before_first is_point text))
     (natural (after_first is_point text)) (length (after_first is_point text))
@@ -153,7 +153,7 @@ no_number places limit text none = elim (cases_lt (position_or_len is_point text
       ∙ units_over limit places (natural text) (ap (λ (t : List ℕ). up_to limit (natural t)) (sym all) ∙ none)
 ]
 
--- where nothing follows the whole part it is all
+-- if nothing follows the whole part it is all
 pub number_whole : (places limit whole : ℕ) (text rest : List ℕ)
     → Some whole ≡ up_to limit (natural (before_first is_point text)) → rest ≡ drop (position_or_len is_point text) text
     → length rest < 1 → decimal_number places text ≡ Some (whole * 10 ^ places)
@@ -169,7 +169,7 @@ number_whole places limit whole text rest is behind nothing =
 abbrev behind_first : List ℕ → List ℕ
 behind_first rest = take (length rest - 1) (drop 1 rest)
 
--- else it is joined with what stands behind the point
+-- otherwise it is joined with what comes after the point
 pub number_joined : (places limit whole : ℕ) (text rest : List ℕ)
     → Some whole ≡ up_to limit (natural (before_first is_point text)) → rest ≡ drop (position_or_len is_point text) text
     → 1 ≤ length rest

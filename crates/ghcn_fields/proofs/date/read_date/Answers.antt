@@ -6,7 +6,7 @@ use Rattle.ghcn_fields.proofs.DateForms.{other_length, no_first_dash, no_second_
 use Rattle.ghcn_fields.proofs.DateForms.{year_digits, month_digits, day_digits, month-lt, day-lt}
 use Rattle.ghcn_fields.proofs.date.read_date.Goals as goal
 
--- a text of another form is no date
+-- a text of another form isn't a date
 pub returns-in_default-clause-value : goal.returns-in_default-clause-value
 returns-in_default-clause-value c = grind (arith, nat_tests, other_length, no_first_dash, no_second_dash)
 

@@ -16,7 +16,7 @@ returns-in-empty-clause-number c = whole_numbers_by c.args.field.now _ (returns-
 pub returns-in-empty-clause-blank : goal.returns-in-empty-clause-blank
 returns-in-empty-clause-blank c = blank_by (signed_by natural) c.args.field.now _ (returns-in-empty-clause-value c)
 
--- behind a minus the digits are read
+-- after a minus the digits are read
 pub returns-in-45-clause-value : goal.returns-in-45-clause-value
 returns-in-45-clause-value c = grind (arith, common_steps)
 

@@ -19,7 +19,7 @@ pub returns-in-empty-clause-blank : goal.returns-in-empty-clause-blank
 returns-in-empty-clause-blank c = blank_by (signed_by (decimal_number c.args.places)) c.args.field.now _
     (returns-in-empty-clause-value c)
 
--- behind a minus the decimal number is read
+-- after a minus the decimal number is read
 pub returns-in-45-clause-value : goal.returns-in-45-clause-value
 returns-in-45-clause-value c = grind (arith, common_steps, nat_tests, field_by-minus)
 

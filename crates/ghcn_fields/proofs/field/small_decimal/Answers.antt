@@ -2,7 +2,7 @@ use Rattle.std.proofs.Common.{◌∙◌, ◌^◌, sym}
 use Rattle.ghcn_fields.proofs.WholeParts.{no_number, number_whole, number_joined}
 use Rattle.ghcn_fields.proofs.field.small_decimal.Goals as goal
 
--- without a whole part there is no number
+-- without a whole part there isn't a number
 pub returns-in_err-whole : goal.returns-in_err-whole
 returns-in_err-whole c =
     c.from_residual.ensures
@@ -16,7 +16,7 @@ returns-in_default-empty c =
     c.in_ok-whole.ensures.number c.in_ok-whole.ensures.rest c.in_default-empty.len_below in
     rw (is, sym c.units.ensures.units) c.small.ensures
 
--- with one there is a part behind it
+-- with one there is a part after it
 pub returns-in_default-len1-up : goal.returns-in_default-len1-up
 returns-in_default-len1-up c =
     let whole = c.in_ok-whole.field-0.0 in

@@ -3,7 +3,7 @@ use Rattle.ghcn_fields.specs.Lines.{are_above}
 use Rattle.ghcn_fields.proofs.LineFeeds.{AreAbove}
 use Rattle.ghcn_fields.proofs.line.ends_whole.Given as goal
 
--- where all lanes are above a line feed, so are the last bytes before the end and those so far
+-- if all lanes are above a line feed, so are the last bytes before the end and those so far
 abbrev pub invariant-loop-part : goal.invariant-loop-part
 invariant-loop-part l = record {
   many : length l.least ≡ 16;

@@ -4,7 +4,7 @@ use Rattle.ghcn_fields.proofs.FieldLanes.{sixteen_are, set_mask_but}
 use Rattle.ghcn_fields.proofs.VisibleLanes.{lane, behind_eleven, eleven_show}
 use Rattle.ghcn_fields.proofs.visible.eleven_are_visible.Goals as goal
 
--- the mask is full where each byte shows
+-- the mask is full if each byte shows
 pub returns : goal.returns
 returns c =
     let xs : List ℕ = c.args.bytes.now in
