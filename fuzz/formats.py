@@ -208,7 +208,7 @@ def flags(line):
 
 
 def describe(stations, daily):
-    """The answer of `extremes describe`."""
+    """The status and the outputs of `extremes describe`."""
     try:
         listed = read_stations(stations)
         series, unlisted = read_daily(daily, listed)
@@ -369,7 +369,7 @@ def is_admitted(station, region):
     return south <= station.latitude <= north and (after and before if west <= east else after or before)
 
 
-# ---- candidates and the papers ----
+# ---- candidates and the report ----
 
 def runs(days):
     """The longest runs of consecutive days, each as its first and last."""
@@ -445,7 +445,7 @@ def read_all(query_text, stations, daily):
 
 
 def rank(query_text, stations, daily, workers=4, guess=None):
-    """The answer of `extremes rank`."""
+    """The status and the outputs of `extremes rank`."""
     try:
         if not 1 <= workers <= 64:
             raise Refused("refused 18 BadWorkers")

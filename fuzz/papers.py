@@ -1,5 +1,5 @@
-"""The two papers of a run, papers changed at random, the verdict of `extremes check` on them, and merged papers, by
-docs/FORMATS.md and docs/CERTIFICATE.md alone."""
+"""The report and the certificate of a run, both changed at random, the verdict of `extremes check` on them, and merged
+ones, by docs/FORMATS.md and docs/CERTIFICATE.md alone. A paper is a report or a certificate."""
 import random
 import re
 
@@ -15,7 +15,7 @@ KTH = re.compile(rb"kth (none|-?(?:0|[1-9][0-9]*))\n")
 
 
 class Unlike(Exception):
-    """A line of a paper that isn't in the format of its place."""
+    """A line of a paper that doesn't match the format there."""
 
 
 def is_number(text):
@@ -148,7 +148,7 @@ def verdict(query, found, everyone, report, certificate):
 
 
 def check(query_text, stations, daily, report, certificate):
-    """The answer of `extremes check`."""
+    """The status and the outputs of `extremes check`."""
     try:
         query, found, _ = formats.read_all(query_text, stations, daily)
     except Refused as refusal:
@@ -199,7 +199,7 @@ def head_fault(query, asked, rows, other, kth, series):
 
 
 def head_refusal(query, asked, rows, other, kth, series):
-    """The same as a part of the files says it: the paper, its line and why."""
+    """The same as the verdict of a part reports it: the paper, its line and why."""
     fault = head_fault(query, asked, rows, other, kth, series)
     if fault is None:
         return None
@@ -224,7 +224,7 @@ def line_fault(its, rows, worst, kind, limit):
 
 
 def part_verdict(query, found, report, certificate):
-    """What files with these series say of papers of a whole archive: how many series and how many lines there are, or
+    """The verdict of files with these series on the papers of a whole archive: the numbers of series and of lines, or
     the paper that is refused, the line and why."""
     forms = []
     for name, read, text in (("report", read_report, report), ("certificate", read_certificate, certificate)):
@@ -262,7 +262,7 @@ def read_part(query, number, report, certificate):
 
 
 def merge(query_text, parts):
-    """The answer of `extremes merge`, and the certificate that it writes, None if it writes none."""
+    """The status and the outputs of `extremes merge`, and the certificate that it writes, None if it writes none."""
     try:
         query = formats.read_query(query_text)
         read = [read_part(query, number, *it) for number, it in enumerate(parts, 1)]
@@ -341,7 +341,7 @@ def recounted(paper):
 
 
 def change(number, report, certificate):
-    """The papers, most of them with some changes. The number alone decides them."""
+    """The papers, most of them with some changes. The number alone decides the changes."""
     rng = random.Random(f"papers {number}")
     made = [report, certificate]
     for _ in range(rng.choice((0, 1, 1, 1, 2))):
