@@ -1,4 +1,4 @@
-//! The verdict on two papers that were read.
+//! The verdict on a report and a certificate that were read.
 
 ghost use Rattle.std.specs.Prelude.{◌≡◌, true, [], ◌∷◌, Ok, Some, IfOk, nat_le, length, map};
 ghost use Rattle.ghcn_fields.specs.Faults.{first_failing};
@@ -36,7 +36,7 @@ pub(crate) fn judge(
     ensures { IfOk result (λ verdict. verdict ≡ tests.judged query.now dataset.now
         (Ok (reported_in report.now)) (Ok (certified_in certificate.now))) }
 {
-    // The k-th row has the k-th score, as the candidates of right data stand apart.
+    // The k-th row has the k-th score, since no two candidates of right data are of one station and begin on one day.
     candidates_of_queries();
     certificates_are_read();
     let _stations = dataset.stations();
@@ -84,7 +84,7 @@ fn number_fault(query: &Query, rows: &[Row], found: &Findings) -> Option<Verdict
     refused(Paper::Report, rows.len() as u64 + 3, Why::TooFew)
 }
 
-/// Whether there are as many rows as were asked for, or as there are candidates.
+/// Whether there are k rows, or a row for each candidate.
 fn are_enough(query: &Query, rows: u64, candidates: u64) -> bool
     ensures { result ≡ tests.are_enough query.now.k candidates rows }
 {
@@ -135,7 +135,7 @@ fn length_fault(tops: &[Top], lines: &[Line]) -> Option<Verdict>
     refused(Paper::Certificate, lines.len() as u64 + 4, Why::OtherSeries)
 }
 
-/// Whether two scores are the same, or there are none.
+/// Whether two scores are the same, or both are absent.
 fn is_same_score(a: Option<i64>, b: Option<i64>) -> bool
     ensures { result ≡ head.same_score a b }
 {

@@ -6,17 +6,17 @@ ghost use Rattle.rank_check.specs.Laws as laws;
 use rank_papers::{certificates_are_read, reports_are_read};
 use rank_scores::{candidates_of_queries, one_element_is_enough};
 
-/// Papers are accepted if and only if the report is the right one, and the certificate a right one.
+/// A report and a certificate are accepted if and only if the report is the right one, and the certificate a right one.
 pub fn accepted_where_right()
     ensures { laws.AcceptedWhereRight }
 {
-    // Right papers are read, and their rows are those of the candidates.
+    // A right report and a right certificate are read, and the rows are those of the candidates.
     candidates_of_queries();
     certificates_are_read();
     reports_are_read();
 }
 
-/// A verdict says nothing of the series of other elements than the query's: it is the same if
+/// A verdict doesn't depend on series of other elements than the query's: it is the same if
 /// these are left out of the data.
 pub fn verdict_of_one_element()
     ensures { laws.VerdictStays }
@@ -25,9 +25,9 @@ pub fn verdict_of_one_element()
     one_element_is_enough();
 }
 
-/// Papers with a certificate of version 2 say what is right if and only if the head is right, each line
-/// is accepted by itself, and so is each listed station without a line. The pieces may be judged in
-/// any order. So `check` accepts them exactly there.
+/// A report and a certificate of version 2 say what is right if and only if the head is right, each line is
+/// accepted by itself, and each listed station without a line is accepted by itself. The pieces may be checked in
+/// any order. So `check` accepts the two if and only if their pieces are accepted.
 pub fn right_in_pieces()
     ensures says { pieces.RightInPieces }
     ensures accepted { pieces.AcceptedInPieces }

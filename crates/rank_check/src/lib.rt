@@ -1,7 +1,7 @@
-//! The checker of papers, which looks at the data again and stands on no block, pool, plan or crew.
+//! The checker of reports and certificates. It goes through the data again, and uses no block, pool, plan or crew.
 //!
-//! Users judge papers of any maker by it. It promises that a report and a certificate are accepted
-//! if and only if both are right.
+//! Users check a report and a certificate by it, whatever program made them. The crate promises that these are
+//! accepted if and only if both are right.
 #![tactic(auto)]
 
 mod judge;

@@ -1,4 +1,4 @@
-//! The verdict on the texts of two papers.
+//! The verdict on the texts of a report and a certificate.
 
 ghost use Rattle.std.specs.Prelude.{◌≡◌, ◌↔◌, IfOk};
 ghost use Rattle.ghcn_series.specs.Held.{IsContents};
@@ -20,8 +20,8 @@ use std::alloc::Global;
 /// verdict of the first test that fails, and `Accepted` if and only if the report is the right one
 /// and the certificate a right one.
 ///
-/// Each series is scanned once. Beside both papers it holds two numbers for each row, and an ID and a
-/// score for each series.
+/// Each series is scanned once. Besides what both texts say, the call holds two numbers for each row, and an ID and
+/// a score for each series.
 pub fn check(
     alloc: Global,
     dataset: &Data,
@@ -75,7 +75,7 @@ fn judge_texts(
     judge(alloc, dataset, query, &report, &certificate)
 }
 
-/// A refusal of a line that isn't in the format of its place.
+/// A refusal of a line that doesn't match the format there.
 fn bad_form(paper: Paper, line: u64) -> Verdict
     ensures { result ≡ Verdict.Refused paper line Why.Form }
 {

@@ -1,5 +1,5 @@
-//! A certificate in pieces: one line by itself, and one station without a line. Neither takes memory,
-//! and they may be judged in any order, on any machines.
+//! A certificate in pieces: one line by itself, and one station without a line. Neither check takes memory,
+//! and pieces may be checked in any order, on any machines.
 
 ghost use Rattle.std.specs.Prelude.{◌≡◌, ◌↔◌, None, length, map, not};
 ghost use Rattle.std.specs.List.{list_all};
@@ -22,12 +22,12 @@ use rank_papers::{Line, Row, trimmed};
 use rank_query::Query;
 use rank_scores::{Candidate, Sink, has_admitted_day, precedes, scan};
 
-/// Judges one line of a certificate of version 2 by itself: the first test that it fails, and None
-/// if and only if it is right.
+/// Checks one line of a certificate of version 2 by itself. Returns the first test that the line fails, and `None`
+/// if and only if the line is right.
 ///
-/// The series is that of the station and the query's element, `printed` the line's count, 0 on a
-/// `skip`. The rows are the report's of the station, in their order, and `worst` is the report's last
-/// row if it has as many as were asked for. The series is scanned once, and once more for each row.
+/// The series is that of the station and the query's element. `printed` is the line's count, 0 on a
+/// `skip`. The rows are those of the report with the station's ID, in their order. `worst` is the report's last
+/// row if the report has k rows. The series is scanned once, and once more for each row.
 pub fn check_line(
     query: &Query,
     station: &Station,
@@ -100,7 +100,7 @@ fn line_fault(
     None
 }
 
-/// Judges one station without a line by itself: whether its series isn't a morsel of the query.
+/// Checks one station without a line by itself: whether its series isn't a morsel of the query.
 ///
 /// The series is that of the station and the query's element.
 pub fn check_absent(query: &Query, station: &Station, series: Option<&Series>) -> bool

@@ -1,43 +1,43 @@
-//! What is said of two papers.
+//! The verdict on a report and a certificate.
 
-/// Which paper is refused.
+/// Which of the two is refused.
 #[derive(Clone, Copy, Debug, PartialEq, Eq)]
 pub enum Paper {
     Report,
     Certificate,
 }
 
-/// Why a line of a paper is refused.
+/// Why a line of the report or the certificate is refused.
 #[derive(Clone, Copy, Debug, PartialEq, Eq)]
 pub enum Why {
-    /// It isn't in the format of its place.
+    /// It doesn't match the format there.
     Form,
-    /// It has another query than the one that was asked.
+    /// It has another query than the one that the caller passes.
     OtherQuery,
     /// No candidate has this ID, these days, this score and this name.
     NotACandidate,
     /// The row before it doesn't precede it.
     OutOfOrder,
-    /// As many candidates as its rank says don't precede it.
+    /// Fewer or more candidates precede it than its rank says.
     NotBest,
     /// There are more candidates than rows, and fewer rows than were asked for.
     TooFew,
-    /// The morsel of its place has another ID, or there is none.
+    /// The morsel at its place has another ID, or there is no morsel at its place.
     OtherSeries,
     /// A candidate of the series scores above the bound.
     NoBound,
-    /// A series is skipped whose bound isn't strictly below the k-th score.
+    /// The series is skipped, and its bound isn't strictly below the k-th score.
     NotBelow,
-    /// It has another count than the report has rows of its station.
+    /// Its count isn't the number of the report's rows of its station.
     NotCounted,
-    /// It has another k-th score than the candidates have.
+    /// Its k-th score isn't that of the candidates.
     OtherFloor,
 }
 
-/// What is said of a report and a certificate.
+/// The verdict on a report and a certificate.
 #[derive(Clone, Copy, Debug, PartialEq, Eq)]
 pub enum Verdict {
     Accepted,
-    /// The first test that fails is of this line, counted from 1.
+    /// The first test that fails is one of this line. Lines are counted from 1.
     Refused { paper: Paper, line: u64, why: Why },
 }
