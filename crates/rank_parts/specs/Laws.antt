@@ -17,18 +17,18 @@ use Rattle.rank_parts.specs.Parts.{part_verdict}
 
 -- ---- parts of data
 
--- a part accepts the papers: it has that many series, of that many lines
+-- a part accepts the report and the certificate: it has this many series, and the certificate has this many lines
 abbrev pub Accepts : Asked → List ℕ → List ℕ → ℕ → Contents → ℕ → Type 0
 Accepts q report certificate lines d series = part_verdict q d report certificate ≡ Accepted series lines
 
--- each part accepts the papers, and the numbers of their series add up to that of the lines
+-- each part accepts the two, and the numbers of the parts' series add up to the number of the lines
 pub record AllAccept (q : Asked) (report certificate : List ℕ) (ds : List Contents) : Type 0 where
   pub lines : ℕ
   pub series : List ℕ
   pub accepted : AllZip (Accepts q report certificate lines) ds series
   pub sum : sum series ≡ lines
 
--- papers are right for data that are cut into parts, at least one, if and only if all parts accept them
+-- the two are right for data that are cut into parts, at least one, if and only if all parts accept them
 abbrev pub PartsMakeTheWhole : Type 0
 PartsMakeTheWhole = (q : Asked) (c : Contents) (ds : List Contents) (report certificate : List ℕ) → IsAsked q
     → IsContents c → IsCut q c ds → 0 < length ds
@@ -47,7 +47,7 @@ pub record ArePartsOfData (q : Asked) (stations : List Station) (parts : List (L
   pub all : AreDataOf stations (flat_map (λ files. files) parts) c
   pub apart : IsDistinct same_id (morsel_ids q ds)
 
--- papers are right for all files, and the stations of a list without a fault, exactly where each part of the files
+-- if the station list has no error, the two are right for it and all files if and only if each part of the files
 -- accepts them
 abbrev pub FilesMakeTheWhole : Type 0
 FilesMakeTheWhole = (q : Asked) (list : List ℕ) (stations : List Station) (parts : List (List (List ℕ)))

@@ -1,4 +1,4 @@
-//! The verdict of one part on two papers that were read.
+//! The verdict of one part on a report and a certificate that were read.
 
 ghost use Rattle.std.specs.Prelude.{◌≡◌, Ok, Some, IfOk};
 ghost use Rattle.rank_papers.specs.ReportLines.{reported_in, IsReported};

@@ -8,14 +8,14 @@ use rank_head::heads_are_right;
 use rank_papers::{certificates_are_read, reports_are_read};
 use rank_scores::{files_in_parts, one_element_is_enough};
 
-/// Papers are right for all data if and only if each part accepts them, and the numbers of the parts'
-/// series add up to the number of the lines: of data that a query sees as cut into these parts, and so
-/// of files, if no station has a series with an admitted day in two parts.
+/// A report and a certificate are right for all data if and only if each part accepts them, and the numbers of the
+/// parts' series add up to the number of the lines. This is so for data that a query sees as cut into these parts,
+/// and for files if no station has a series with an admitted day in two parts.
 pub fn parts_make_the_whole()
     ensures data { laws.PartsMakeTheWhole }
     ensures files { laws.FilesMakeTheWhole }
 {
-    // Papers are accepted in pieces, a part's data have the pieces of its series, and what is read is right.
+    // Texts are accepted in pieces, a part's data have the pieces of its series, and what is read is right.
     certificates_are_read();
     reports_are_read();
     heads_are_right();
@@ -24,8 +24,8 @@ pub fn parts_make_the_whole()
     data_are_right();
 }
 
-/// What a part says rests on no series of other elements than the query's: it is the same if these
-/// are left out of its data.
+/// The verdict of a part doesn't depend on series of other elements than the query's: it is the same if these
+/// are left out of the part's data.
 pub fn part_verdict_of_one_element()
     ensures { laws.PartVerdictStays }
 {

@@ -1,8 +1,8 @@
-//! Papers of a whole archive, judged in parts: each from the files of some stations alone.
+//! A report and a certificate of a whole archive, checked in parts: each part by the files of some stations alone.
 //!
-//! A caller that holds an archive in parts judges papers by it, each part by itself and in any order. It
-//! promises that papers are right for all files if and only if each part accepts them, and the numbers
-//! of the parts' series add up to that of the lines.
+//! A caller that holds an archive in parts checks a report and a certificate by it, each part by itself and in any
+//! order. The crate promises that the two are right for all files if and only if each part accepts them, and the
+//! numbers of the parts' series add up to the number of the lines.
 #![tactic(auto)]
 
 mod judge;

@@ -1,4 +1,4 @@
-//! The verdict of one part on the texts of two papers.
+//! The verdict of one part on the texts of a report and a certificate.
 
 ghost use Rattle.std.specs.Prelude.{◌≡◌, IfOk};
 ghost use Rattle.rank_parts.specs.Parts as parts;
@@ -15,12 +15,12 @@ use rank_query::Query;
 use std::alloc::Global;
 
 /// Checks a report and a certificate of a query over a whole archive, whatever program made them, as
-/// far as the data of some of its stations show: the head of both papers, the lines of the series
-/// that these data hold, and that none of these is without a line.
+/// far as the data of some of its stations show: the head of both, the lines of the series that these data
+/// hold, and that none of these series is without a line.
 ///
-/// Each series of these data is scanned once, and once more for each row of its station. The papers
-/// are right for the whole if and only if all parts accept them, and the numbers of their series add
-/// up to that of the lines.
+/// Each series of these data is scanned once, and once more for each row of its station. The two are
+/// right for the whole if and only if all parts accept them, and the numbers of the parts' series add up to
+/// the number of the lines.
 pub fn check_part(
     alloc: Global,
     dataset: &Data,
@@ -64,7 +64,7 @@ fn judge_texts(
     judge(alloc, dataset, query, &report, &certificate)
 }
 
-/// A refusal of a line that isn't in the format of its place.
+/// A refusal of a line that doesn't match the format there.
 fn bad_form(paper: Paper, line: u64) -> PartVerdict
     ensures { result ≡ PartVerdict.Refused paper line Why.Form }
 {

@@ -1,12 +1,12 @@
-//! What a part says of papers.
+//! The verdict of a part on a report and a certificate.
 
 use rank_check::{Paper, Why};
 
-/// What the files of some stations say of a report and a certificate of a whole archive.
+/// The verdict of the files of some stations on a report and a certificate of a whole archive.
 #[derive(Clone, Copy, Debug, PartialEq, Eq)]
 pub enum PartVerdict {
-    /// That many series of these files have an admitted day, of that many lines of the certificate.
+    /// No test fails: these files have this many series of the query, and the certificate has this many lines.
     Accepted { series: u64, lines: u64 },
-    /// The first test that fails is of this line, counted from 1.
+    /// The first test that fails is one of this line. Lines are counted from 1.
     Refused { paper: Paper, line: u64, why: Why },
 }
