@@ -18,9 +18,9 @@ use rank_papers::{Certificate, Line, Report, Row};
 use rank_query::Query;
 use std::alloc::Global;
 
-/// The first error of the head of these papers, as papers of this query.
+/// The first error of the head of this report and this certificate, for this query.
 ///
-/// Of papers that were read there is none if and only if their head is right.
+/// If the two were read from texts, there is no error if and only if their head is right.
 pub fn check_head(
     alloc: Global,
     query: &Query,
@@ -32,13 +32,13 @@ pub fn check_head(
     ensures right { IfOk result
         (right.IsNoneWhereRight query.now (reported_in report.now) (certified_in certificate.now)) }
 {
-    // Clause `right` is the law, for a query that can be asked: `k` says that.
+    // Clause `right` is the law, for a query that can be asked. `k` shows that this one can.
     heads_are_right();
     let _k = query.k();
     head_fault(alloc, query, report, certificate)
 }
 
-/// The first error of the head of these papers.
+/// The first error of the head of this report and this certificate.
 fn head_fault(
     alloc: Global,
     query: &Query,

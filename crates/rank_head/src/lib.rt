@@ -1,7 +1,7 @@
-//! The heads of papers: what can be seen of a report and its certificate without any data.
+//! The head of a report and a certificate: what can be seen of the two without any data.
 //!
-//! A caller that merges the papers of parts tests them by it, and so does one that judges papers in pieces. It
-//! promises that a head has no error if and only if it is right.
+//! A caller that merges reports and certificates of parts tests them by it. So does a caller that checks them in
+//! pieces. The crate promises that a head has no error if and only if the head is right.
 #![tactic(auto)]
 
 mod fault;
