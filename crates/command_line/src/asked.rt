@@ -13,26 +13,26 @@ pub enum Command {
         query: String,
         /// How many workers look for records; 1 to 64 may run.
         workers: u64,
-        /// A score, in the raw unit of the data, that the k-th best is supposed to reach.
+        /// A score, in the raw unit of the data, that the k-th best record should reach.
         guess: Option<i64>,
         /// Where the certificate goes, if it is wanted.
         certificate: Option<String>,
         files: Vec<String>,
     },
-    /// Merge the papers of parts into those of all files. No data is read.
+    /// Merge the reports and the certificates of parts into those of all files. No data is read.
     Merge {
         query: String,
         /// Where the certificate goes, if it is wanted.
         certificate: Option<String>,
         parts: Vec<Part>,
     },
-    /// Judge a report and a certificate over files, named by their paths.
+    /// Check a report and a certificate against files, named by their paths.
     Check {
         stations: String,
         query: String,
         report: String,
         certificate: String,
-        /// Whether the files are a part of those that the papers are of.
+        /// Whether the files are a part of those that the report and the certificate are of.
         part: bool,
         files: Vec<String>,
     },
@@ -43,7 +43,7 @@ pub enum Command {
     },
 }
 
-/// The papers of a part, named by their paths.
+/// The report and the certificate of a part, named by their paths.
 #[derive(Debug, Drop)]
 pub struct Part {
     pub report: String,
@@ -57,7 +57,7 @@ pub enum CommandFault {
     Words(String),
     /// The arguments ask for the version: the text to show.
     Version(String),
-    /// Memory was refused.
+    /// Out of memory.
     Memory,
 }
 

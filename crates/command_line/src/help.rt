@@ -227,10 +227,10 @@ pub const DESCRIBE_HELP: &str =
   element CODE lines N series N days N flagged N from DAY to DAY
                            of each of the five elements, and of listed stations alone: the lines, the
                            stations that have a usable day, the usable days, the values that a quality
-                           check flagged, and the first and last usable day where there is one
+                           check flagged, and the first and last usable day if there is one
   other CODE lines N       lines with another code in columns 18 to 21; ? stands for a byte that can't
                            be seen. The first 200 codes by their bytes are named
-  others lines N           lines with further codes, where there are any
+  others lines N           lines with further codes, if there are any
   odd lines N              lines with another code that aren't laid out as lines of daily files: lines of
                            the five elements may be lost with them
   unlisted lines N         lines of the five elements whose station isn't listed

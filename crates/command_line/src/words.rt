@@ -210,7 +210,7 @@ fn flag<'a>(alloc: Global, name: &'a str, help: &'a str) -> Arg<'a>
         .action(ArgAction::SetTrue)
 }
 
-/// What comes after the options, as many as there are.
+/// What comes after the options, any number of arguments.
 fn many<'a>(alloc: Global, name: &'a str, value: &'a str, help: &'a str) -> Arg<'a>
     ensures rule { rule_of result ≡ many_of name.now }
     ensures local { is_global result ≡ false }
@@ -306,7 +306,7 @@ fn copies(alloc: Global, texts: &[&str]) -> Result<Vec<String>, AllocError>
     Ok(copies)
 }
 
-/// The parts whose papers these are, two of each.
+/// The parts whose reports and certificates these are, two of each part.
 fn parts(alloc: Global, papers: &[&str]) -> Result<Vec<Part>, AllocError>
     requires { length papers.now % 2 ≡ 0 }
     ensures { IfOk result (λ parts. paths_of parts.items ≡ map (λ s. s.now) papers.now) }
