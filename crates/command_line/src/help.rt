@@ -1,7 +1,7 @@
 //! The texts that the program prints if it is asked for help.
 
-/// The version, which follows the program's name.
-pub const VERSION: &str = "1.0";
+/// The version and its date, which follow the program's name.
+pub const VERSION: &str = "1.0 (2026-11-28)";
 
 /// The help of `--stations`.
 pub const STATIONS_HELP: &str = "The station list, ghcnd-stations.txt";
