@@ -27,7 +27,7 @@ pub fn verdict_of_one_element()
 
 /// Papers with a certificate of version 2 say what is right if and only if the head is right, each line
 /// is accepted by itself, and so is each listed station without a line. The pieces may be judged in
-/// any order. So `check` accepts them exactly there.
+/// any order. So `check` accepts them if and only if their pieces are right.
 pub fn right_in_pieces()
     ensures says { pieces.RightInPieces }
     ensures accepted { pieces.AcceptedInPieces }

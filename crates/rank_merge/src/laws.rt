@@ -7,10 +7,11 @@ use rank_head::heads_are_right;
 use rank_papers::{certificates_are_read, reports_are_read};
 use rank_scores::files_in_parts;
 
-/// Where the papers of each part are right for the part's files, with one station list, and neither
-/// this nor all files together have a fault, what is merged of them is right for all files. Its bounds are
-/// those of the series where the parts' are, and no station has series in two parts. Right papers
-/// are merged exactly where no station has series with an admitted day in two parts.
+/// Suppose that the papers of each part are right for the part's files, with one station list, and that
+/// neither the list nor all files together have an error. Then what is merged of them is right for all
+/// files. If also the bounds of each part are those of its series, and no station has series of the
+/// query in two parts, the merged bounds are those of the series. Right papers are merged if and only
+/// if no station has series with an admitted day in two parts.
 pub fn merged_are_right()
     ensures right { laws.MergedAreRight }
     ensures measured { laws.MergedAreMeasured }
