@@ -1,6 +1,6 @@
 -- Worked examples of a worker that broke off, by computation.
-use Rattle.std.proofs.Common.{◌≡◌, ℕ, List, [], ◌∷◌, ◌++◌, ◌≤◌, length, length-append, Option, None, Some, refl, sym, ap}
-use Rattle.std.proofs.Common.{◌∙◌, false, arith, ℤ, pos, option_to_list}
+use Rattle.std.proofs.Common.{◌≡◌, ℕ, List, [], ◌∷◌, ◌++◌, ◌≤◌, length, length-append, Option, None, Some, refl, sym}
+use Rattle.std.proofs.Common.{ap, ◌∙◌, false, arith, ℤ, pos, option_to_list}
 use Rattle.rank_board.specs.declared.seat.Seat.{Seat}
 use Rattle.rank_board.specs.Seats.{claims_of, raised_of, seen_of}
 use Rattle.rank_sched.specs.declared.record.Record.{Record}
