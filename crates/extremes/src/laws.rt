@@ -26,9 +26,9 @@ pub fn merged_is_ranked()
 }
 
 /// A report is the right one and a certificate a right one for the files of all parts, one part after
-/// the other, exactly where each part accepts them and the numbers of the parts' series add up to that
-/// of the certificate's lines. There is a part, the files have no fault together, and no station has an
-/// admitted day in two parts. Each part may spell the query in its own way.
+/// the other, if and only if each part accepts them and the numbers of the parts' series add up to that
+/// of the certificate's lines. This is so if there is a part, the files have no error together, and no
+/// station has an admitted day in two parts. Each part may spell the query in its own way.
 pub fn parts_judge_the_whole()
     ensures { PartsJudgeTheWhole }
 {

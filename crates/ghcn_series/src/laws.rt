@@ -1,11 +1,11 @@
-//! What is true of all that files without a fault hold, as laws over the definitions.
+//! What is true of all that files without an error hold, as laws over the definitions.
 
 ghost use Rattle.ghcn_series.specs.Laws as laws;
 
-/// Where a station list has no fault, its stations are right: no ID twice, at most 2^20, and each with
-/// its fields in their ranges. Where the daily files have none either, what they hold of these stations
-/// is right: no two series of one station and element, each of a listed station, with a day, its days
-/// rising and its values in the range of its element.
+/// If a station list has no error, its stations are right: no ID is listed twice, there are at most
+/// 2^20, and each has its fields in their ranges. If the daily files have no error either, what they
+/// hold of these stations is right: no two series are of one station and element, and each series is of
+/// a listed station and has a day; its days rise, and its values are in the range of its element.
 pub fn data_are_right()
     ensures listed { laws.ListsAreRight }
     ensures held { laws.DataAreRight }

@@ -6,3 +6,4 @@ pub mod Turning
 pub mod Groups
 pub mod Whole
 pub mod Parts
+pub mod Examples

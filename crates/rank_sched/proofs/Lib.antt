@@ -9,6 +9,7 @@ pub mod Ends
 pub mod Counted
 pub mod Finished
 pub mod OneList
+pub mod SoundRecords
 pub mod OneWay
 pub mod ScanLines
 pub mod PlanBest

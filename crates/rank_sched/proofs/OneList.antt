@@ -44,7 +44,7 @@ by-own w [] h = refl
 by-own w (r ∷ rs) h = grind (arith, by-own w rs h.1)
 
 -- and no other's
-by-other : (w : ℕ) (rs : List Record) → AllByRecursion (λ r. r.worker ≢ w) rs → records_by w rs ≡ []
+pub by-other : (w : ℕ) (rs : List Record) → AllByRecursion (λ r. r.worker ≢ w) rs → records_by w rs ≡ []
 by-other w [] h = refl
 by-other w (r ∷ rs) h = grind (arith, by-other w rs h.1)
 

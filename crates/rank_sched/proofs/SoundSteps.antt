@@ -73,7 +73,7 @@ known-more guess F V Z B x = ⊎_elim (λ g. inl g) (λ c. let New : List ℤ = 
     (All-without (Contains New) F V Z B (All-contains_itself New)).0 c))
 
 -- one more score is raised, or none
-floor-more : (guess floor up : Option ℤ) (F V B : List ℤ) → IsFloorOf guess (F ++ (V ++ B)) floor
+pub floor-more : (guess floor up : Option ℤ) (F V B : List ℤ) → IsFloorOf guess (F ++ (V ++ B)) floor
     → IsFloorOf guess (F ++ ((V ++ option_to_list up) ++ B)) (greater_floor floor up)
 floor-more guess floor up F V B f =
     let New : List ℤ = F ++ ((V ++ option_to_list up) ++ B) in

@@ -60,6 +60,13 @@ AreHaulsOf vs hs = AllZip (λ h v. (records_of h ≡ v.records) × (h.pool ≡ v
 abbrev pub records_by : ℕ → List Record → List Record
 records_by w rs = filter (λ r. r.worker == w) rs
 
+-- hauls of the workers with these numbers and upwards have these records: each has those of its worker, in their order,
+-- and its pool is that of these
+abbrev pub HaveRecords : Task → ℕ → List Record → List Haul → Type 0
+HaveRecords t w rs [] = Unit {0}
+HaveRecords t w rs (h ∷ hs) =
+    ((records_of h ≡ records_by w rs) × (h.pool ≡ pool_of t (records_by w rs))) × HaveRecords t (w + 1) rs hs
+
 -- the turns of that many workers, worker after worker
 abbrev pub turns_by : Task → ℕ → List Record → List Exchange
 turns_by t workers rs = flat_map (λ w. exchanges t [] (records_by w rs)) (range_with_len 0 workers)

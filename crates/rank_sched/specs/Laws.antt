@@ -24,7 +24,7 @@ use Rattle.rank_sched.specs.Machine.{Worker, State, started, refusal, IsStep, Re
 use Rattle.rank_sched.specs.Run.{Running, IsAnswered, IsOfMemory, is_stopped, HasSettled}
 use Rattle.rank_sched.specs.SoundRun.{AreSoundFrom, IsSoundState, IsSoundEnd, all_exchanges, claims_in}
 use Rattle.rank_sched.specs.Hauls.{records_of, all_records, exchanges_in, turns_of, IsHaulOf, AreSound, AreUnderFloor}
-use Rattle.rank_sched.specs.Hauls.{AreHaulsOf, AreSoundRecords}
+use Rattle.rank_sched.specs.Hauls.{AreHaulsOf, AreSoundRecords, HaveRecords}
 use Rattle.rank_sched.specs.TakingBack.{was_skipped, is_justified, stays, is_taken_back, taken_back, back_below}
 use Rattle.rank_sched.specs.Answers.{best_of_plan, line_of, AreRecordsAlone}
 
@@ -215,6 +215,17 @@ SkipsStayOnwards = (t : Task) (rs : List Record) (m n : ℕ) → IsFair t → m 
 abbrev pub RecordsAreSound : Type 0
 RecordsAreSound = (t : Task) (guess : Option ℤ) (hs : List Haul) (floor : Option ℤ) → AreSound t hs
     → AreUnderFloor t guess hs floor → AreSoundRecords t guess (length hs) (all_records hs)
+
+-- hauls that have the records of a sound run of that many workers are sound, under some floor
+abbrev pub HaulsOfRecordsAreSound : Type 0
+HaulsOfRecordsAreSound = (t : Task) (guess : Option ℤ) (rs : List Record) (hs : List Haul)
+    → AreSoundRecords t guess (length hs) rs → HaveRecords t 0 rs hs
+    → AreSound t hs × ((floor : Option ℤ) × AreUnderFloor t guess hs floor)
+
+-- the records of a sound run of some workers are those of a sound run of more, of which the others have none
+abbrev pub FewerWorkersAreSound : Type 0
+FewerWorkersAreSound = (t : Task) (guess : Option ℤ) (fewer more : ℕ) (rs : List Record) → fewer ≤ more
+    → AreSoundRecords t guess fewer rs → AreSoundRecords t guess more rs
 
 -- a line is a scan if and only if its morsel's record isn't a skip or the morsel is undone, and never are both so
 abbrev pub ScansHaveOneCause : Type 0

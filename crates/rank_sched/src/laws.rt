@@ -15,11 +15,15 @@ pub fn runs_are_sound()
     ensures failed { laws.FailedStaysFailed }
 {}
 
-/// A run that has stopped has sound hauls, and as many events as it must have.
+/// A run that has stopped has sound hauls, and as many events as it must have. The records of sound
+/// hauls are those of a sound run, and hauls that have such records are sound. A sound run of some
+/// workers is also one of more workers.
 pub fn ends_are_sound()
     ensures ends { laws.EndsAreSound }
     ensures events { laws.EventsAreCounted }
     ensures records { laws.RecordsAreSound }
+    ensures hauls { laws.HaulsOfRecordsAreSound }
+    ensures fewer { laws.FewerWorkersAreSound }
     ensures none { laws.NoHauls }
 {}
 
