@@ -34,7 +34,7 @@ def recipes():
 def blocks(heading, parts):
     """The lines of the blocks under a heading, for this number of parts instead of 64."""
     texts = [text for _, text in recipes().get(heading, [])]
-    return [re.sub(r"\b64\b", str(parts), text).replace("0-63", f"0-{parts - 1}") for text in texts]
+    return [re.sub(r"\b64\b", str(parts), text) for text in texts]
 
 
 def until(test, seconds=60):
@@ -82,17 +82,17 @@ def children(process):
 
 
 class Processes:
-    """Processes that run in a folder, each in a session of its own."""
+    """Processes that run in a folder, or in the folder `work` in it, each in a session of its own."""
 
     def __init__(self):
-        self.folder, self.env, self.started = None, dict(os.environ), {}
+        self.folder, self.work, self.env, self.started = None, None, dict(os.environ), {}
         ctypes.CDLL(None).prctl(SET_CHILD_SUBREAPER, 1, 0, 0, 0)
 
     def start(self, *words, **env):
         """Starts a process. What it prints goes to the file `log` of the process."""
         path = self.folder / f"{len(self.started)}.log"
         with path.open("wb") as log:
-            it = subprocess.Popen([str(word) for word in words], cwd=self.folder, env={**self.env, **env},
+            it = subprocess.Popen([str(word) for word in words], cwd=self.work or self.folder, env={**self.env, **env},
                                   stdin=subprocess.DEVNULL, stdout=log, stderr=log, start_new_session=True)
         it.log = path
         self.started[it.pid] = it
