@@ -81,6 +81,16 @@ def children(process):
     return found
 
 
+def descendants(*processes):
+    """The ids of the children of processes, of the children of these, and so on."""
+    found, new = set(), set(processes)
+    while new:
+        its = children(new.pop()) - found
+        found |= its
+        new |= its
+    return found
+
+
 class Processes:
     """Processes that run in a folder, or in the folder `work` in it, each in a session of its own."""
 
@@ -110,12 +120,7 @@ class Processes:
         for it in children(os.getpid()) - set(self.started):
             with suppress(ChildProcessError):
                 os.waitpid(it, os.WNOHANG)
-        found, new = set(running), {os.getpid(), *running}
-        while new:
-            its = children(new.pop()) - found
-            found |= its
-            new |= its
-        return sorted(found)
+        return sorted(running | descendants(os.getpid(), *running))
 
     def end(self):
         """Ends them all, and removes the folder."""
