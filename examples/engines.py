@@ -34,7 +34,7 @@ def recipes():
 def blocks(heading, parts):
     """The lines of the blocks under a heading, for this number of parts instead of 64."""
     texts = [text for _, text in recipes().get(heading, [])]
-    return [re.sub(r"\b64\b", str(parts), text).replace("0-63", f"0-{parts - 1}") for text in texts]
+    return [re.sub(r"\b64\b", str(parts), text) for text in texts]
 
 
 def until(test, seconds=60):
@@ -81,18 +81,28 @@ def children(process):
     return found
 
 
+def descendants(*processes):
+    """The ids of the children of processes, of the children of these, and so on."""
+    found, new = set(), set(processes)
+    while new:
+        its = children(new.pop()) - found
+        found |= its
+        new |= its
+    return found
+
+
 class Processes:
-    """Processes that run in a folder, each in a session of its own."""
+    """Processes that run in a folder, or in the folder `work` in it, each in a session of its own."""
 
     def __init__(self):
-        self.folder, self.env, self.started = None, dict(os.environ), {}
+        self.folder, self.work, self.env, self.started = None, None, dict(os.environ), {}
         ctypes.CDLL(None).prctl(SET_CHILD_SUBREAPER, 1, 0, 0, 0)
 
     def start(self, *words, **env):
         """Starts a process. What it prints goes to the file `log` of the process."""
         path = self.folder / f"{len(self.started)}.log"
         with path.open("wb") as log:
-            it = subprocess.Popen([str(word) for word in words], cwd=self.folder, env={**self.env, **env},
+            it = subprocess.Popen([str(word) for word in words], cwd=self.work or self.folder, env={**self.env, **env},
                                   stdin=subprocess.DEVNULL, stdout=log, stderr=log, start_new_session=True)
         it.log = path
         self.started[it.pid] = it
@@ -110,12 +120,7 @@ class Processes:
         for it in children(os.getpid()) - set(self.started):
             with suppress(ChildProcessError):
                 os.waitpid(it, os.WNOHANG)
-        found, new = set(running), {os.getpid(), *running}
-        while new:
-            its = children(new.pop()) - found
-            found |= its
-            new |= its
-        return sorted(found)
+        return sorted(running | descendants(os.getpid(), *running))
 
     def end(self):
         """Ends them all, and removes the folder."""
