@@ -1,4 +1,5 @@
 pub mod Delivering
+pub mod Comparing
 pub mod PlanAnswers
 pub mod Answering
 pub mod FedRuns

@@ -8,4 +8,5 @@ pub mod Merges
 pub mod Runs
 pub mod Describes
 pub mod RankedInParts
+pub mod Targets
 pub mod Commands

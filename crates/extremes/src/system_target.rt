@@ -17,7 +17,7 @@ const OPEN_FILES: &str = "/dev/fd";
 /// How many names are tried for a new file.
 const NAMES: u32 = 10_000;
 
-/// A certificate's file in the system.
+/// A certificate's file in the system. Of its files nothing is known.
 #[derive(Drop)]
 pub struct SystemTarget<'r, R: Files> {
     rt: &'r R,
@@ -69,6 +69,12 @@ impl<'r, R: Files + AllocGlobal> SystemTarget<'r, R> {
 }
 
 impl<'r, R: Files + AllocGlobal> Target for SystemTarget<'r, R> {
+    ghost use Rattle.std.specs.Prelude.{⊤};
+
+    ghost one_file = { λ _ _ _ _. ⊤ };
+
+    ghost other_text = { λ _ _ _. ⊤ };
+
     /// By what the system says of both, or by the paths as given if it says nothing. Devices and
     /// pipes keep nothing.
     fn is_one_file(&self, one: &str, other: &str) -> bool {

@@ -1,6 +1,8 @@
 //! Where the certificate goes: a file that the run neither reads nor prints to, and that holds at
 //! most an earlier certificate.
 
+ghost use Rattle.extremes.specs.Targets.{IsInUse, IsPaper, IsPaperOrOutput, IsTaken};
+
 use command_line::Part;
 use std::io;
 use std::io::Write;
@@ -13,11 +15,22 @@ const STANDARD_ERROR: &str = "/dev/stderr";
 
 /// The file that a certificate is written to. It has what was written once that is flushed.
 pub trait Target: Write {
+    ghost use Rattle.std.specs.Prelude.{ℕ, Bool, List};
+
+    /// Whether two paths may be found to name one file, and whether they may be found to name two.
+    ghost one_file: { Self → List ℕ → List ℕ → Bool → Type 0 };
+
+    /// Whether the file of a path may be found to hold anything that isn't a certificate, and whether
+    /// it may be found to hold nothing else.
+    ghost other_text: { Self → List ℕ → Bool → Type 0 };
+
     /// Whether two paths name one file that writing would change.
-    fn is_one_file(&self, one: &str, other: &str) -> bool;
+    fn is_one_file(&self, one: &str, other: &str) -> bool
+        ensures { one_file self.now one.now other.now result };
 
     /// Whether the file of a path holds anything that isn't a certificate.
-    fn holds_other(&self, path: &str) -> bool;
+    fn holds_other(&self, path: &str) -> bool
+        ensures { other_text self.now path.now result };
 
     /// Opens the file of a path, to be written from its first byte.
     fn open(&mut self, path: &str) -> io::Result<()>;
@@ -28,29 +41,49 @@ pub trait Target: Write {
 
 /// Whether a certificate's file holds anything else, or is the station list, a daily file or the
 /// file of standard output or standard error.
-pub(crate) fn is_in_use<T: Target>(
-    target: &T,
-    out: &str,
-    stations: &str,
-    files: &[String],
-) -> bool {
-    is_taken(target, out)
-        || target.is_one_file(out, stations)
-        || files.iter().any(|file| target.is_one_file(out, file))
+pub(crate) fn is_in_use<T: Target>(target: &T, out: &str, stations: &str, files: &[String]) -> bool
+    ensures { IsInUse (T.one_file target.now out.now) (T.other_text target.now out.now)
+        stations.now files.now result }
+{
+    if is_taken(target, out) || target.is_one_file(out, stations) {
+        return true;
+    }
+    for file in files {
+        if target.is_one_file(out, file) {
+            return true;
+        }
+    }
+    false
 }
 
 /// Whether a certificate's file holds anything else, or is a paper of a part or the file of standard
 /// output or standard error.
-pub(crate) fn is_paper_or_output<T: Target>(target: &T, out: &str, parts: &[Part]) -> bool {
-    is_taken(target, out)
-        || parts.iter().any(|part| {
-            target.is_one_file(out, &part.report) || target.is_one_file(out, &part.certificate)
-        })
+pub(crate) fn is_paper_or_output<T: Target>(target: &T, out: &str, parts: &[Part]) -> bool
+    ensures { IsPaperOrOutput (T.one_file target.now out.now) (T.other_text target.now out.now) parts.now result }
+{
+    if is_taken(target, out) {
+        return true;
+    }
+    for part in parts {
+        if is_paper(target, out, part) {
+            return true;
+        }
+    }
+    false
+}
+
+/// Whether a certificate's file is a paper of a part.
+fn is_paper<T: Target>(target: &T, out: &str, part: &Part) -> bool
+    ensures { IsPaper (T.one_file target.now out.now) part.now result }
+{
+    target.is_one_file(out, &part.report) || target.is_one_file(out, &part.certificate)
 }
 
 /// Whether a certificate's file holds anything else, or is the file of standard output or standard
 /// error.
-fn is_taken<T: Target>(target: &T, out: &str) -> bool {
+fn is_taken<T: Target>(target: &T, out: &str) -> bool
+    ensures { IsTaken (T.one_file target.now out.now) (T.other_text target.now out.now) result }
+{
     target.is_one_file(out, STANDARD_OUTPUT)
         || target.is_one_file(out, STANDARD_ERROR)
         || target.holds_other(out)
