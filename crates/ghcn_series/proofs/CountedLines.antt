@@ -88,7 +88,7 @@ pub counted-line : (old new : LineCounts) (ended : List (List ℕ)) (whole more 
     ≡ daily_lines ended ++ file_lines (length ended + 1, more) → CountsLine old new place line
     → HaveCounted old ended whole → HaveCounted new ended more
 counted-line old new ended whole more line place all behind adds is = record {
-  number = omega (arith, adds.number, is.number, ap length all, length-append (lines whole) (line ∷ []));
+  number = adds.number ∙ is.number;
   blank = omega (
     arith,
     adds.blank,
@@ -233,20 +233,21 @@ pub same_test : (c : LineCounts) (ended : List (List ℕ)) (whole : List ℕ) �
 same_test c ended whole is = rw (is.has_line, is.has_element) refl
 
 -- the counts of the lines of one file more
-pub counted-end : (old : LineCounts) (foreign : Foreign) (ended : List (List ℕ)) (whole : List ℕ)
-    → foreign ≡ foreign_of (ended ++ whole ∷ []) → HaveCounted old ended whole → HaveCounted (record {
-      lines = old.lines;
+pub counted-end : (old : LineCounts) (n : ℕ) (foreign : Foreign) (ended : List (List ℕ)) (whole : List ℕ)
+    → n ≡ old.lines + length (lines whole) → foreign ≡ foreign_of (ended ++ whole ∷ [])
+    → HaveCounted old ended whole → HaveCounted (record {
+      lines = n;
       blank = old.blank;
       warnings = record { foreign = foreign; odd = old.warnings.odd };
       has_line = false;
       has_element = false;
     }) (ended ++ whole ∷ []) []
-counted-end old foreign ended whole same is =
+counted-end old n foreign ended whole more same is =
     let all : all_lines (ended ++ whole ∷ []) ≡ all_lines ended ++ lines whole =
     flat_map-append lines ended (whole ∷ [])
     ∙ ap (λ (ls : List (List ℕ)). all_lines ended ++ ls) (append-nil (lines whole)) in
     record {
-      number = omega (arith, is.number, ap length all, length-append (all_lines ended) (lines whole));
+      number = omega (arith, more, is.number, ap length all, length-append (all_lines ended) (lines whole));
       blank = omega (
         arith,
         is.blank,

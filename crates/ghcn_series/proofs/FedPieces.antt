@@ -245,7 +245,7 @@ module _ {L : Type 0} {has_read : Reading L} where
   -- the current file is ended, after its last line feed
   pub end-read : (old new : Cutter L) (fed : Fed) → old.ended ≡ length fed.files.ended → old.rest.items ≡ []
       → new.reader ≡ old.reader
-      → ((ended : List (List ℕ)) (whole : List ℕ) → old.ended ≡ length ended
+      → ((ended : List (List ℕ)) (whole : List ℕ) → old.ended ≡ length ended → old.line ≡ length (lines whole)
       → HaveCounted old.counts ended whole → HaveCounted new.counts (ended ++ whole ∷ []) [])
       → new.line ≡ 0 → new.rest.items ≡ [] → HasReadFed has_read old fed
       → HasReadFed has_read new (with_files fed (with_end fed.files))
@@ -254,7 +254,7 @@ module _ {L : Type 0} {has_read : Reading L} where
       is.cut.parts ∙ ap (λ (xs : List ℕ). is.whole ++ xs) none ∙ append-nil is.whole in
       file-read old new fed (lines_to fed.files is.whole) line empty
       (rw (daily_lines-one fed.files.ended fed.files.current, all) refl)
-      (rw all (counts fed.files.ended is.whole at is.counted)) (rw reader is.read)
+      (rw all (counts fed.files.ended is.whole at is.numbered is.counted)) (rw reader is.read)
 
   -- the lines of the files, with the last line of the current one
   with_last : (c : Cutter L) (fed : Fed) (is : HasReadFed has_read c fed) → c.ended ≡ length fed.files.ended
@@ -268,14 +268,18 @@ module _ {L : Type 0} {has_read : Reading L} where
   -- the current file is ended in its last line
   pub last-read : (old mid new : Cutter L) (fed : Fed) → old.ended ≡ length fed.files.ended
       → 0 < length old.rest.items → AddsLine has_read old mid [] → mid.ended ≡ old.ended → new.reader ≡ mid.reader
-      → ((ended : List (List ℕ)) (whole : List ℕ) → mid.ended ≡ length ended
+      → ((ended : List (List ℕ)) (whole : List ℕ) → mid.ended ≡ length ended → mid.line ≡ length (lines whole)
       → HaveCounted mid.counts ended whole → HaveCounted new.counts (ended ++ whole ∷ []) [])
       → new.line ≡ 0 → new.rest.items ≡ [] → HasReadFed has_read old fed
       → HasReadFed has_read new (with_files fed (with_end fed.files))
   last-read old mid new fed at some adds same reader counts line empty is =
-      let last = counted old mid fed old.rest.items [] is at (lines-rest old.rest.items some is.unended) adds in
+      let one = lines-rest old.rest.items some is.unended in
+      let last = counted old mid fed old.rest.items [] is at one adds in
+      let number : mid.line ≡ length (lines (is.whole ++ old.rest.items)) =
+      rw (lines-append is.whole old.rest.items is.cut.ends, one)
+      (omega (arith, adds.numbered, is.numbered, length-append {A = List ℕ})) in
       let all : HaveCounted new.counts (fed.files.ended ++ fed.files.current ∷ []) [] =
-      rw is.cut.parts (counts fed.files.ended (is.whole ++ old.rest.items) (same ∙ at) last) in
+      rw is.cut.parts (counts fed.files.ended (is.whole ++ old.rest.items) (same ∙ at) number last) in
       let read = adds.read.holds fed.stations fed.keep (lines_to fed.files is.whole) is.read in
       file-read old new fed _ line empty (with_last old fed is at some) all (rw reader read)
 

@@ -12,9 +12,9 @@ use Rattle.ghcn_series.specs.DailyFaults.{file_lines, daily_lines}
 use Rattle.ghcn_series.specs.Says.{in_64_bits}
 use Rattle.ghcn_series.specs.LineKinds.{all_lines, blank_lines, has_element, is_odd, foreign_of, odd_among}
 
--- these are the counts of the files that were ended, and of these whole lines of the current one
+-- these are the counts of the ended files and of these whole lines of the current one, which `lines` leaves out
 pub record HaveCounted (c : LineCounts) (ended : List (List ℕ)) (whole : List ℕ) : Type 0 where
-  pub number : c.lines ≡ length (all_lines ended) + length (lines whole)
+  pub number : c.lines ≡ length (all_lines ended)
   pub blank : c.blank ≡ blank_lines ended + count_by is_blank (lines whole)
   pub foreign : c.warnings.foreign ≡ foreign_of ended
   pub odd : c.warnings.odd ≡ odd_among (daily_lines ended ++ file_lines (length ended + 1, whole))
@@ -27,7 +27,7 @@ with_odd odd place = record { count = odd.count + 1; first = option_or odd.first
 
 -- a line of the current file, which stands at a place, is counted
 pub record CountsLine (old new : LineCounts) (place : LinePlace) (line : List ℕ) : Type 0 where
-  pub number : new.lines ≡ old.lines + 1
+  pub number : new.lines ≡ old.lines
   pub blank : new.blank ≡ old.blank + (if is_blank line then 1 else 0)
   pub foreign : new.warnings.foreign ≡ old.warnings.foreign
   pub odd : new.warnings.odd ≡ (if is_odd line then with_odd old.warnings.odd place else old.warnings.odd)

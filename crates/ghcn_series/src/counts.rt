@@ -1,6 +1,7 @@
 //! What is counted on the lines of daily files.
 
 ghost use Rattle.std.specs.Prelude.{◌≡◌, ℕ, ◌≤◌, ◌^◌, ◌&&◌, not, List, [], ◌∷◌, ◌++◌, length, IfSome};
+ghost use Rattle.ghcn_fields.specs.Lines as text;
 ghost use Rattle.ghcn_series.specs.LineKinds.{line_kind, foreign_of, odd_among, warnings_of};
 ghost use Rattle.ghcn_series.specs.Counted.{HaveCounted, CountsLine, AddsForeign, with_odd};
 
@@ -75,13 +76,13 @@ impl OddLines {
     }
 
     /// One line more, at a place behind the others, unless the number gets too great. It isn't built into the loop
-    /// over lines.
+    /// over lines, which makes no place for the other lines.
     #[inline(never)]
-    fn add(&mut self, at: LinePlace) -> Option<()>
-        ensures { IfSome result (λ _. self.new ≡ with_odd self.old at) }
+    fn add(&mut self, file: u64, line: u64) -> Option<()>
+        ensures { IfSome result (λ _. self.new ≡ with_odd self.old (record { file = file; line = line })) }
     {
         self.count = self.count.checked_add(1)?;
-        self.first = self.first.or(Some(at));
+        self.first = self.first.or(Some(LinePlace { file, line }));
         Some(())
     }
 }
@@ -108,7 +109,7 @@ impl Warnings {
 /// What was counted on the lines of files that are read one after another.
 #[derive(Clone, Copy, Debug)]
 pub struct LineCounts {
-    /// How many lines there are, blank ones too.
+    /// How many lines the files have that were ended, blank ones too.
     pub lines: u64,
     pub blank: u64,
     /// The foreign files among those that were ended, and the odd lines.
@@ -133,12 +134,13 @@ impl LineCounts {
         }
     }
 
-    /// Counts a line of the current file, which stands at a place, unless a number gets too great.
-    pub(crate) fn add(&mut self, kind: LineKind, place: LinePlace) -> Option<()>
-        ensures { IfSome result (λ _.
-            (line : List ℕ) → kind ≡ line_kind line → CountsLine self.old self.new place line) }
+    /// Counts a line of the current file by its kind, unless a number gets too great. The file has a place among all
+    /// files, and the line a number in it. It is built into the loop over lines, where each kind is known already.
+    #[inline(always)]
+    pub(crate) fn add(&mut self, kind: LineKind, file: u64, line: u64) -> Option<()>
+        ensures { IfSome result (λ _. (bytes : List ℕ) → kind ≡ line_kind bytes
+            → CountsLine self.old self.new (record { file = file; line = line }) bytes) }
     {
-        self.lines = self.lines.checked_add(1)?;
         match kind {
             LineKind::Blank => self.blank = self.blank.checked_add(1)?,
             LineKind::OfElement => {
@@ -148,23 +150,26 @@ impl LineCounts {
             LineKind::Other => self.has_line = true,
             LineKind::Odd => {
                 self.has_line = true;
-                self.warnings.odd.add(place)?;
+                self.warnings.odd.add(file, line)?;
             }
         }
         Some(())
     }
 
-    /// Ends the current file, which stands at a place among all files.
-    pub(crate) fn end_file(&mut self, place: u64)
+    /// Ends the current file, which has a place among all files and that many lines, unless a number gets too great.
+    pub(crate) fn end_file(&mut self, place: u64, count: u64) -> Option<()>
         requires few { place ≤ 2 ^ 20 }
-        ensures { (ended : List (List ℕ)) (whole : List ℕ) → place ≡ length ended
-            → HaveCounted self.old ended whole → HaveCounted self.new (ended ++ whole ∷ []) [] }
+        ensures { IfSome result (λ _. (ended : List (List ℕ)) (whole : List ℕ) → place ≡ length ended
+            → count ≡ length (text.lines whole) → HaveCounted self.old ended whole
+            → HaveCounted self.new (ended ++ whole ∷ []) []) }
     {
+        self.lines = self.lines.checked_add(count)?;
         if self.is_foreign() {
             self.warnings.foreign.add(place);
         }
         self.has_line = false;
         self.has_element = false;
+        Some(())
     }
 
     /// Whether the current file is foreign, as far as its lines have come.

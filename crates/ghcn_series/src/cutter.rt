@@ -10,7 +10,7 @@ ghost use Rattle.ghcn_series.specs.Fed.{IsOfMemory, nothing_fed};
 ghost use Rattle.ghcn_series.specs.LineKinds.{line_kind};
 ghost use Rattle.ghcn_series.specs.LinesRead.{HasReadSome, Reads, Refuses};
 
-use crate::counts::{LineCounts, LineKind, LinePlace};
+use crate::counts::{LineCounts, LineKind};
 use crate::data::MOST_FILES;
 use crate::fault::DataFault;
 use crate::form::has_form;
@@ -182,9 +182,13 @@ impl<L: LineReader + Drop> Cutter<L> {
         if !self.rest.is_empty() {
             self.end_line(&[])?;
         }
-        self.counts.end_file(self.ended);
-        self.line = 0;
-        Ok(())
+        match self.counts.end_file(self.ended, self.line) {
+            Some(()) => {
+                self.line = 0;
+                Ok(())
+            }
+            None => Err(DataFault::Memory(Memory)),
+        }
     }
 
     /// Ends the line of which these are the last bytes. It is built into its callers, which would otherwise clear
@@ -209,11 +213,7 @@ impl<L: LineReader + Drop> Cutter<L> {
             kind
         };
         self.line = line;
-        let place = LinePlace {
-            file: self.ended,
-            line,
-        };
-        match self.counts.add(kind, place) {
+        match self.counts.add(kind, self.ended, line) {
             Some(()) => Ok(()),
             None => Err(DataFault::Memory(Memory)),
         }

@@ -8,7 +8,7 @@ pub returns-in_ok-self-in-Blank : goal.returns-in_ok-self-in-Blank
 returns-in_ok-self-in-Blank c = λ line is.
     let blank = blank_kind line (sym c.in-Blank.is ∙ is) in
     record {
-      number = search rules;
+      number = refl;
       blank = rw blank.0 (search rules);
       foreign = refl;
       odd = rw blank.1.1 refl;
@@ -21,7 +21,7 @@ pub returns-in-OfElement : goal.returns-in-OfElement
 returns-in-OfElement c = λ line is.
     let element = element_kind line (sym c.in-OfElement.is ∙ is) in
     record {
-      number = search rules;
+      number = refl;
       blank = rw element.0 (search rules);
       foreign = refl;
       odd = rw element.1.1 refl;
@@ -34,7 +34,7 @@ pub returns-in-Other : goal.returns-in-Other
 returns-in-Other c = λ line is.
     let other = other_kind line (sym c.in-Other.is ∙ is) in
     record {
-      number = search rules;
+      number = refl;
       blank = rw other.0 (search rules);
       foreign = refl;
       odd = rw other.1.1 refl;
@@ -47,7 +47,7 @@ pub returns-in_ok-add-in-Odd : goal.returns-in_ok-add-in-Odd
 returns-in_ok-add-in-Odd c = λ line is.
     let odd = odd_kind line (sym c.in-Odd.is ∙ is) in
     record {
-      number = search rules;
+      number = refl;
       blank = rw odd.0 (search rules);
       foreign = refl;
       odd = rw odd.1.1 c.in_ok-add-in-Odd.ensures;

@@ -4,7 +4,8 @@ use Rattle.std.proofs.lemmas.List.{nil_from_length}
 use Rattle.std.proofs.lemmas.Result.{err_from_is_err_and}
 use Rattle.ghcn_series.specs.declared.cutter.Cutter.{Cutter}
 use Rattle.ghcn_series.specs.Counted.{HaveCounted}
-use Rattle.ghcn_series.proofs.FedPieces.{end-read, last-read, last-found}
+use Rattle.ghcn_series.specs.Fed.{with_end, with_files}
+use Rattle.ghcn_series.proofs.FedPieces.{end-read, last-read, last-found, memory-found}
 use Rattle.ghcn_series.proofs.cutter.Cutter.read_end.Goals as goal
 use Rattle.ghcn_series.proofs.cutter.Cutter.read_end.Goals.{then-not-is_empty+in_ok-end_line, else-not-is_empty}
 
@@ -20,8 +21,8 @@ returns-in_err-end_line-clause-fault g c =
     })
 
 -- the file is read to its end, in its last line or after it
-pub returns-clause-read : goal.returns-clause-read
-returns-clause-read g c =
+pub returns-in-Some-clause-read : goal.returns-in-Some-clause-read
+returns-in-Some-clause-read g c =
     let old = c.args.self.now in
     let mid = c.if-not-is_empty.self in
     let new : Cutter g.row.L.Denot = record {
@@ -43,8 +44,9 @@ returns-clause-read g c =
             holds = λ fed at is.
                 last-read old w.end_line.new.self new fed at some w.in_ok-end_line.ensures.added
                 w.end_line.ensures.ended (ap (λ (r : Cutter g.row.L.Denot). r.reader) same)
-                (λ files whole place counted. c.end_file.ensures files whole
+                (λ files whole place number counted. c.in-Some.ensures files whole
                 (ap (λ (r : Cutter g.row.L.Denot). r.ended) same ∙ place)
+                (ap (λ (r : Cutter g.row.L.Denot). r.line) same ∙ number)
                 (subst (λ (r : Cutter g.row.L.Denot). HaveCounted r.counts files whole) (sym same) counted)) refl
                 (ap (λ (r : Cutter g.row.L.Denot). r.rest.items) same ∙ w.in_ok-end_line.ensures.added.rest) is;
           }
@@ -55,9 +57,16 @@ returns-clause-read g c =
           record {
             holds = λ fed at is.
                 end-read old new fed at none (ap (λ (r : Cutter g.row.L.Denot). r.reader) same)
-                (λ files whole place counted. c.end_file.ensures files whole
+                (λ files whole place number counted. c.in-Some.ensures files whole
                 (ap (λ (r : Cutter g.row.L.Denot). r.ended) same ∙ place)
+                (ap (λ (r : Cutter g.row.L.Denot). r.line) same ∙ number)
                 (subst (λ (r : Cutter g.row.L.Denot). HaveCounted r.counts files whole) (sym same) counted)) refl
                 (ap (λ (r : Cutter g.row.L.Denot). r.rest.items) same ∙ none) is;
           }
     ]
+
+-- unless a number gets too great
+pub returns-in-None-clause-fault : goal.returns-in-None-clause-fault
+returns-in-None-clause-fault g c = record {
+  found = λ fed at is. memory-found (with_files fed (with_end fed.files)) _ tt;
+}
