@@ -4,7 +4,8 @@
    FAIL_AT     the number of that call, from 1; 0 for each of them
    FAIL_HOW    fail: it ends with an error; one: it takes or gives one byte; signal: it is interrupted;
                full: writes take this many bytes in all, and then there is no space; FAIL_AT is that number;
-               most: each read gives at most FAIL_AT bytes, after three million of them what it asks for
+               most: each read gives at most FAIL_AT bytes, after three million of them what it asks for;
+               disks: all files have the number 1, each on a disk of its own
    FAIL_FILE   a file's name without its folder. FAIL_HOW cut: its reads end after FAIL_AT bytes;
                missing: it can't be opened; denied: it may not be opened
    FAIL_MARK   a file that is left if a call meets this for the first time. It has the path of that call's
@@ -21,6 +22,7 @@
 #include <stdio.h>
 #include <stdlib.h>
 #include <string.h>
+#include <sys/stat.h>
 #include <sys/syscall.h>
 #include <unistd.h>
 
@@ -134,6 +136,16 @@ ssize_t write(int file, const void *from, size_t size) {
 
 ssize_t __write(int file, const void *from, size_t size) {
     return write(file, from, size);
+}
+
+int statx(int folder, const char *path, int flags, unsigned wanted, struct statx *found) {
+    int status = (int)syscall(SYS_statx, folder, path, flags, wanted, found);
+    if (status == 0 && is_how("disks")) {
+        leave_mark(path, -1);
+        found->stx_dev_minor = (unsigned)found->stx_ino;
+        found->stx_ino = 1;
+    }
+    return status;
 }
 
 int pthread_create(pthread_t *thread, const pthread_attr_t *attributes, void *(*start)(void *), void *given) {
