@@ -21,7 +21,7 @@ use Rattle.extremes.specs.declared.files.Ranking.{Ranking}
 use Rattle.extremes.specs.declared.files.Judging.{Judging}
 use Rattle.extremes.specs.Merges.{Known, parts_paths, MergesFiles}
 
--- of the files that are named one can't be read, where those before it were opened, and nothing is printed
+-- of the files that are named one can't be read, those before it were opened, and nothing is printed
 pub record EndsAtAFile (opens : Opening) (paths : List (List ℕ)) (before after : Option (List ℕ)) (ending : Ending)
     : Type 0 where
   pub path : List ℕ

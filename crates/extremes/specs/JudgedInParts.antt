@@ -46,8 +46,8 @@ pub record AllAccept (parts : List JudgedPart) : Type 0 where
   pub accepted : AllZip (Accepts lines) parts series
   pub sum : sum series ≡ lines
 
--- a report is the right one and a certificate a right one for the files of all parts, one part after the other, exactly
--- where all parts accept them: there is a part, all files have no fault together, and the parts are apart
+-- a report is the right one and a certificate a right one for the files of all parts, one part after the other, if and
+-- only if all parts accept them: there is a part, all files have no fault together, and the parts are apart
 abbrev pub PartsJudgeTheWhole : Type 0
 PartsJudgeTheWhole = (query stations report certificate : List ℕ) (parts : List JudgedPart) (asked : Asked)
     (dataset : Contents) → IsReadOf query stations (files_of_parts parts) asked dataset → 0 < length parts

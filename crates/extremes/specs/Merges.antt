@@ -39,7 +39,7 @@ abbrev pub is_memory : MergingFault → Bool
 is_memory (Query cause) = false
 is_memory (Parts why) = merging.is_memory why
 
--- papers are those that are merged of these texts for the query of a text; wherever each part's are right for its
+-- papers are those that are merged of these texts for the query of a text; if each part's are right for its
 -- files, they are right for all files, with the bounds of the series if no station has series in two parts, and no
 -- station has morsels in two; they count no line as skipped
 pub record AreMerged (query : List ℕ) (texts : List Texts) (papers : Papers) : Type 0 where

@@ -1,4 +1,4 @@
-//! Writing the papers of a ranking.
+//! Writing the report and the certificate of a ranking.
 
 ghost use Rattle.std.specs.Prelude.{◌≡◌};
 ghost use Rattle.extremes.specs.Delivered.{IsDelivered, IsWritten, IsWrittenToEnd};
@@ -6,10 +6,10 @@ ghost use Rattle.extremes.specs.Delivered.{IsDelivered, IsWritten, IsWrittenToEn
 use crate::papers::Papers;
 use std::io::Write;
 
-/// How the writing of the papers ended.
+/// How the writing of the report and the certificate ended.
 #[derive(Clone, Copy, Debug, PartialEq, Eq)]
 pub enum Delivery {
-    /// Each paper that is wanted was written whole.
+    /// The report, and the certificate if it is wanted, were written whole.
     Done,
     /// The certificate wasn't written, and the report not at all.
     CertificateFailed,
@@ -40,7 +40,7 @@ pub fn deliver<C: Write, R: Write>(
     }
 }
 
-/// Writes a paper to its end and flushes it. Whether that was done.
+/// Writes a report or a certificate to its end and flushes it. Returns whether that was done.
 pub(crate) fn write_whole<W: Write>(paper: &[u8], out: &mut W) -> bool
     ensures { IsWritten paper.now (W.contents out.old) (W.contents out.new) result }
 {

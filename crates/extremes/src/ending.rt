@@ -6,9 +6,9 @@ ghost use Rattle.extremes.specs.Ending.{status_of};
 /// The end of a run.
 #[derive(Clone, Copy, Debug, PartialEq, Eq)]
 pub enum Ending {
-    /// The report or the version was written, or the papers were accepted.
+    /// The report or the version was written, or a report and a certificate were accepted.
     Done,
-    /// The input was refused, or the papers were.
+    /// The input was refused, or a report and a certificate were.
     Refused,
     /// The arguments weren't valid, or asked for help.
     Words,

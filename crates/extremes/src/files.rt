@@ -37,14 +37,14 @@ pub(crate) struct Ranking {
     pub(crate) guess: Option<i64>,
 }
 
-/// What is judged: two papers for a query, over files, all named by their paths.
+/// What is checked: a report and a certificate for a query, by files, all named by their paths.
 #[derive(Drop)]
 pub(crate) struct Judging {
     pub(crate) stations: String,
     pub(crate) files: Vec<String>,
     pub(crate) query: String,
     pub(crate) papers: Part,
-    /// Whether the files are a part of those that the papers are of.
+    /// Whether the files are a part of those that the report and the certificate are of.
     pub(crate) part: bool,
 }
 
@@ -98,8 +98,8 @@ fn rank_fed<R: Threads + Wait + AllocGlobal + Sync>(
     }
 }
 
-/// Reads the papers of the parts in order, and merges them, or returns the path of the first paper
-/// that can't be read.
+/// Reads the reports and certificates of the parts in order, and merges them, or returns the path of the
+/// first one that can't be read.
 pub(crate) fn merge_files<'p, A: Archive>(
     alloc: Global,
     archive: &A,
@@ -116,8 +116,8 @@ pub(crate) fn merge_files<'p, A: Archive>(
     Ok(merge_texts(alloc, query, texts.as_slice()))
 }
 
-/// Reads the papers of the parts in order into a list that has room for them, or returns the path of
-/// the first paper that can't be read.
+/// Reads the reports and certificates of the parts in order into a list that has room for them, or returns
+/// the path of the first one that can't be read.
 fn read_parts<'p, A: Archive>(
     alloc: Global,
     archive: &A,
@@ -139,7 +139,7 @@ fn read_parts<'p, A: Archive>(
     Ok(())
 }
 
-/// Reads both papers of a part, the report first, or returns the path of the one that can't be read.
+/// Reads the report and then the certificate of a part, or returns the path of the one that can't be read.
 fn read_part<'p, A: Archive>(
     alloc: Global,
     archive: &A,
@@ -162,9 +162,9 @@ fn read_part<'p, A: Archive>(
     })
 }
 
-/// Reads the station list, the report, the certificate and then the daily files in order, and judges
-/// the papers, as those of a whole of which the files are a part if that is so; beside it stand the
-/// foreign files and the odd lines. Or returns the path of the first file that can't be read.
+/// Reads the station list, the report, the certificate and then the daily files in order. Then it checks the
+/// report and the certificate, as those of a whole if the files are a part of one, and returns the foreign
+/// files and the odd lines too. Or it returns the path of the first file that can't be read.
 pub(crate) fn judge_files<'p, A: Archive>(
     alloc: Global,
     archive: &A,

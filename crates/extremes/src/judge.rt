@@ -1,4 +1,4 @@
-//! The judgement of papers, from the bytes of the files to a verdict.
+//! The check of a report and a certificate, from the bytes of the files to a verdict.
 
 ghost use Rattle.std.specs.Prelude.{◌≡◌, ◌↔◌, ℕ, IfOk, IfErr, map};
 ghost use Rattle.ghcn_fields.specs.Refusals.{IsRefusal};
@@ -44,10 +44,10 @@ pub fn judge(
     Ok(verdict)
 }
 
-/// Judges a report and a certificate of a whole archive over the station list and the daily files of
+/// Checks a report and a certificate of a whole archive against the station list and the daily files of
 /// some of its stations, as far as these show.
 ///
-/// The papers are right for the whole if each part accepts them, the numbers of the parts' series
+/// Both are right for the whole if each part accepts them, the numbers of the parts' series
 /// add up to that of the certificate's lines, no station is in two parts and the files together have
 /// no error. Files and errors are those of `judge`.
 pub fn judge_part(
@@ -71,8 +71,8 @@ pub fn judge_part(
     Ok(verdict)
 }
 
-/// Judges papers over what was given: as `judge_part` does if that is a part of their files, and
-/// as `judge` does where it isn't. Beside it stand the foreign files and the odd lines.
+/// Checks a report and a certificate against what was given: as `judge_part` does if that is a part of
+/// their files, and otherwise as `judge` does. Returns the foreign files and the odd lines too.
 pub fn judge_as(
     alloc: Global,
     intake: Intake,
@@ -93,7 +93,8 @@ pub fn judge_as(
     Ok((Judgement::Whole(verdict), warnings))
 }
 
-/// Judges papers over what was given, as `judge` does. Beside it stand the foreign files and the odd lines.
+/// Checks a report and a certificate against what was given, as `judge` does. Returns the foreign files and
+/// the odd lines too.
 pub fn judge_intake(
     alloc: Global,
     intake: Intake,
@@ -114,7 +115,7 @@ pub fn judge_intake(
     Ok((verdict, taken.warnings))
 }
 
-/// Judges papers of a query over some data.
+/// Checks a report and a certificate of a query against some data.
 fn judge_dataset(
     alloc: Global,
     dataset: &Data,
@@ -134,7 +135,8 @@ fn judge_dataset(
     check(alloc, dataset, query, report, certificate)
 }
 
-/// Judges papers over what was given, as `judge_part` does. Beside it stand the foreign files and the odd lines.
+/// Checks a report and a certificate against what was given, as `judge_part` does. Returns the foreign files
+/// and the odd lines too.
 pub fn judge_part_intake(
     alloc: Global,
     intake: Intake,

@@ -1,4 +1,4 @@
-//! What is said of papers: over the files that they are of, or over a part of these.
+//! What is said of a report and a certificate: by the files that they are of, or by a part of these.
 
 ghost use Rattle.std.specs.Prelude.{◌≡◌};
 ghost use Rattle.extremes.specs.Ending.{ending_of};
@@ -11,7 +11,7 @@ use std::fmt;
 /// What is said of a report and a certificate.
 #[derive(Clone, Copy, Debug, PartialEq, Eq)]
 pub enum Judgement {
-    /// By the files that the papers are of.
+    /// By the files that both are of.
     Whole(Verdict),
     /// By some of them.
     Part(PartVerdict),

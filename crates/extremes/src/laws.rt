@@ -8,12 +8,13 @@ use ghcn_series::data_are_right;
 use rank_papers::{papers_are_found, papers_are_said};
 use rank_parts::parts_make_the_whole;
 
-/// The papers that a ranking returns are accepted if they are judged on the same texts.
+/// The report and the certificate that a ranking returns are accepted if they are checked against the
+/// same texts.
 pub fn answers_are_accepted()
     ensures { AnswersAreAccepted }
 {}
 
-/// If each part's papers are what a ranking returns for its files, with one station list and one
+/// If each part has what a ranking returns for its files, with one station list and one
 /// query, which each may spell in its own way, what is merged of them has the report that a ranking
 /// answers to all files, byte for byte, and a certificate that is right for all files.
 pub fn merged_is_ranked()

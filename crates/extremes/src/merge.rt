@@ -1,4 +1,4 @@
-//! Merging the papers of parts, from their texts to the papers of all files.
+//! Merging the reports and certificates of parts, from their texts to those of all files.
 
 ghost use Rattle.std.specs.Prelude.{◌≡◌, IfOk, IfErr};
 ghost use Rattle.ghcn_fields.specs.Refusals.{IsRefusal};
@@ -55,16 +55,16 @@ impl From<AllocError> for MergingFault {
     }
 }
 
-/// The papers of a part, as texts.
+/// The report and the certificate of a part, as texts.
 #[derive(Drop)]
 pub struct PartTexts {
     pub report: Vec<u8>,
     pub certificate: Vec<u8>,
 }
 
-/// Merges the papers of parts for a query, whatever program ranked them.
+/// Merges the reports and certificates of parts for a query, whatever program ranked them.
 ///
-/// The papers are right for all files if those of each part are right for its files, with one
+/// What is merged is right for all files if what each part has is right for its files, with one
 /// station list, and the files together have no error. An error is the first in the order: query,
 /// parts in order, IDs on two lines.
 pub fn merge_texts(alloc: Global, query: &str, parts: &[PartTexts]) -> Result<Papers, MergingFault>

@@ -7,7 +7,7 @@ pub struct Papers {
     pub report: Vec<u8>,
     /// A bound for each series of the query, and whether the series was skipped, as a text.
     pub certificate: Vec<u8>,
-    /// How many lines of unlisted stations were skipped: 0 of merged papers, since papers don't
-    /// hold it.
+    /// How many lines of unlisted stations were skipped: 0 after a merge, since reports and
+    /// certificates don't hold it.
     pub unlisted: u64,
 }

@@ -104,7 +104,7 @@ fn tell_odd<R: Eprint>(rt: &R, odd: OddLines, files: &[String]) {
     }
 }
 
-/// Prints the papers after a word on what was skipped, or prints the error. The certificate
+/// Prints the report after a line on what was skipped, or prints the error. The certificate
 /// goes to the file of a path, if one is named, and the report after it.
 pub fn print_answer<R: Eprint, T: Target, W: Write, F: Display + Drop>(
     rt: &R,
@@ -170,7 +170,7 @@ pub(crate) fn print_description<R: Eprint, W: Write>(
     }
 }
 
-/// Prints what is said of papers over files, or prints the error.
+/// Prints what is said of a report and a certificate, or prints the error.
 pub(crate) fn print_judgement<R: Eprint, W: Write>(
     rt: &R,
     judged: Result<(Judgement, Warnings), Fault>,

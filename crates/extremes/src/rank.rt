@@ -1,4 +1,5 @@
-//! The ranking, from the bytes of the files to the bytes of the papers, in threads or on one.
+//! The ranking, from the bytes of the files to the bytes of the report and the certificate, in threads
+//! or on one.
 
 ghost use Rattle.std.specs.Prelude.{◌≡◌, ◌<◌, true, Err, IfOk, IfErr, map};
 ghost use Rattle.ghcn_series.specs.Held.{IsContents};
@@ -62,7 +63,7 @@ pub fn rank<R: Threads + Wait + AllocGlobal + Sync, G: Gate + Sync>(
 #[derive(Drop)]
 pub struct Ranked {
     pub answer: Result<Papers, Fault>,
-    /// The foreign files and the odd lines: none where there was a fault.
+    /// The foreign files and the odd lines: none if there was an error.
     pub warnings: Warnings,
     /// Nothing if there was an error in what was given. To free many series takes a while, so a
     /// caller may use the answer first.
@@ -162,7 +163,7 @@ pub fn serial_papers_are_one()
     runs_are_sound();
 }
 
-/// The papers of a query, from a run of one worker that begins with a guess or none.
+/// The report and the certificate of a query, from a run of one worker that begins with a guess or none.
 fn ranked_alone(
     alloc: Global,
     dataset: &Data,
@@ -183,7 +184,7 @@ fn ranked_alone(
     papers_of(alloc, &plan, &answer, dataset.unlisted())
 }
 
-/// The papers of a query, from a run of some workers in threads.
+/// The report and the certificate of a query, from a run of some workers in threads.
 fn ranked_by_crew<R: Threads + Wait + AllocGlobal + Sync, G: Gate + Sync>(
     rt: &R,
     dataset: &Data,
@@ -208,7 +209,7 @@ fn ranked_by_crew<R: Threads + Wait + AllocGlobal + Sync, G: Gate + Sync>(
     Ok(papers_of(rt.alloc(), &plan, &answer, dataset.unlisted())?)
 }
 
-/// The papers of a plan's answer, and how many lines were skipped.
+/// The report and the certificate of a plan's answer, and how many lines were skipped.
 fn papers_of(
     alloc: Global,
     plan: &Plan<'_>,

@@ -139,7 +139,7 @@ fn run_ranking<R: Eprint + Threads + Wait + AllocGlobal + Sync, A: Archive, T: T
     }
 }
 
-/// Merges the papers of parts that are named, and prints the report. The certificate goes to the
+/// Merges the reports and certificates of parts that are named, and prints the report. The certificate goes to the
 /// file of a path, if one is named.
 fn run_merge<R: Eprint + AllocGlobal, A: Archive, T: Target, W: Write>(
     rt: &R,
@@ -165,7 +165,7 @@ fn run_merge<R: Eprint + AllocGlobal, A: Archive, T: Target, W: Write>(
     }
 }
 
-/// Judges papers over files that are named, and prints the verdict.
+/// Checks a report and a certificate against files that are named, and prints the verdict.
 fn run_judging<R: Eprint + AllocGlobal, A: Archive, W: Write>(
     rt: &R,
     archive: &A,

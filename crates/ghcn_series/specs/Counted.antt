@@ -21,7 +21,7 @@ pub record HaveCounted (c : LineCounts) (ended : List (List ℕ)) (whole : List 
   pub has_line : c.has_line ≡ list_any (λ l. not (is_blank l)) (lines whole)
   pub has_element : c.has_element ≡ list_any has_element (lines whole)
 
--- one odd line more, at a place behind the others
+-- one odd line more, at a place after the others
 abbrev pub with_odd : OddLines → LinePlace → OddLines
 with_odd odd place = record { count = odd.count + 1; first = option_or odd.first (Some place) }
 

@@ -26,7 +26,7 @@ blank_lines files = count_by is_blank (all_lines files)
 abbrev pub has_element : List ℕ → Bool
 has_element line = is_some (element_of (columns 18 21 line))
 
--- a byte may stand in a code behind its first: it is a capital letter or a digit
+-- a code may have a byte after its first: the byte is a capital letter or a digit
 abbrev pub may_follow : ℕ → Bool
 may_follow b = is_ascii_uppercase b || is_ascii_digit b
 
@@ -39,7 +39,7 @@ is_code (b ∷ bytes) = is_ascii_uppercase b && list_all may_follow bytes
 abbrev pub has_code : List ℕ → Bool
 has_code line = is_code (columns 18 21 line)
 
--- the line has the form of all lines of daily files: a code, and only blanks behind the last column
+-- the line has the form of all lines of daily files: a code, and only blanks after the last column
 abbrev pub has_form : List ℕ → Bool
 has_form line = has_code line && is_blank (drop 269 line)
 

@@ -90,7 +90,7 @@ pub record IsLeastBlock (days : List DayValue) (from number : ℤ) : Type 0 wher
   pub has : (x : DayValue) × Contains days x × (block_of x.0 ≡ number)
   pub least : AllByRecursion (λ x. from ≤ℤ block_of x.0 → number ≤ℤ block_of x.0) days
 
--- the next block from a number on is the least, and there is none exactly where all days are in blocks before
+-- the next block from a number on is the least, and there is none if and only if all days are in blocks before
 abbrev pub IsNextBlock : List DayValue → ℤ → Option ℤ → Type 0
 IsNextBlock days from None = AllByRecursion (λ x. block_of x.0 <ℤ from) days
 IsNextBlock days from (Some number) = IsLeastBlock days from number

@@ -110,7 +110,7 @@ pub record IsRow (first : ℤ) (word : ℕ) (values : List ℤ) : Type 0 where
   pub zeros : (j : ℕ) → j < 32 → bit_at word j ≡ 0 → get_or values j (pos 0) ≡ pos 0
   pub days : (j : ℕ) → j < 32 → bit_at word j ≡ 1 → is_day (first +ℤ pos j) ≡ true
 
--- the value so many places after the beginning of the block where a row begins: 0 before the row and behind it
+-- the value so many places after the beginning of the block where a row begins: 0 before the row and after it
 pub record IsValueFrom (values : List ℤ) (place at : ℕ) (v : ℤ) : Type 0 where
   pub before : at < place → v ≡ pos 0
   pub behind : place + 32 ≤ at → v ≡ pos 0

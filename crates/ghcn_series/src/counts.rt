@@ -5,7 +5,7 @@ ghost use Rattle.ghcn_fields.specs.Lines as text;
 ghost use Rattle.ghcn_series.specs.LineKinds.{line_kind, foreign_of, odd_among, warnings_of};
 ghost use Rattle.ghcn_series.specs.Counted.{HaveCounted, CountsLine, AddsForeign, with_odd};
 
-/// What stands on a line of daily files.
+/// What is on a line of daily files.
 #[derive(Clone, Copy, Debug, PartialEq, Eq)]
 pub enum LineKind {
     /// Blanks, or nothing.
@@ -75,7 +75,7 @@ impl OddLines {
         }
     }
 
-    /// One line more, at a place behind the others, unless the number gets too great. It isn't built into the loop
+    /// One line more, at a place after the others, unless the number gets too great. It isn't built into the loop
     /// over lines, which makes no place for the other lines.
     #[inline(never)]
     fn add(&mut self, file: u64, line: u64) -> Option<()>

@@ -220,7 +220,7 @@ struct Blocks<'a> {
     numbers: &'a [i32],
     words: &'a [u32],
     values: &'a [[i32; 32]],
-    /// How many blocks are behind: one number that changes where three slices would.
+    /// How many blocks were passed: one number that changes in place of three slices.
     passed: usize,
 }
 

@@ -64,7 +64,7 @@ fn is_capital(byte: u8) -> bool
     BYTES[0][byte as usize]
 }
 
-/// Whether a byte may stand in a code behind its first.
+/// Whether a code may have a byte after its first.
 fn may_follow(byte: u8) -> bool
     ensures { result ≡ kinds.may_follow byte }
 {

@@ -77,8 +77,8 @@ impl DataReader {
         self.cutter.end_of_file();
     }
 
-    /// The data of the files that were fed, with the foreign ones and the odd lines; or their first fault: too many
-    /// files come before the fault of a line. The current file is ended where it has a byte.
+    /// The data of the files that were fed, with the foreign ones and the odd lines; or their first error: too many
+    /// files come before the error of a line. The current file is ended if it has a byte.
     pub fn finish(self) -> Result<(Data, Warnings), DataFault>
         requires { pieces.HasFedSome self }
         ensures ok { IfOk result (λ read. pieces.HoldsFed self read.0) }

@@ -1,4 +1,4 @@
-//! Why a text isn't a paper.
+//! Why a text isn't a report or a certificate.
 
 use ghcn_fields::Memory;
 

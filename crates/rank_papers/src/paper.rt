@@ -1,4 +1,4 @@
-//! What the texts of papers say.
+//! What reports and certificates say.
 
 use rank_query::Query;
 use rank_sched::Line;
