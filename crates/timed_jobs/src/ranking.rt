@@ -1,4 +1,4 @@
-//! Questions over whole archives: ranked, and the report and the certificate checked.
+//! Questions over whole archives: ranked, and the papers judged.
 ghost use Rattle.rank_input.specs.Taken.{HasTakenSome};
 
 use crate::archive::give_archive;
@@ -55,7 +55,7 @@ pub(crate) fn rank_archives<R: Threads + Wait + AllocGlobal + Sync>(
     Ok(())
 }
 
-/// Ranks that many archives of that many stations, and checks each report and certificate against what was read.
+/// Ranks that many archives of that many stations, and judges the papers over what was read.
 pub(crate) fn check_archives<R: Threads + Wait + AllocGlobal + Sync>(
     rt: &R,
     random: &mut Random,
@@ -107,7 +107,7 @@ pub(crate) fn new_intake(alloc: Global, query: &str, list: &[u8]) -> Intake
     Intake::new(alloc, query, list)
 }
 
-/// The report and the certificate of a query, ranked by one worker.
+/// The papers of a query, ranked by one worker.
 pub(crate) fn papers_of<R: Threads + Wait + Sync>(
     rt: &R,
     alloc: Global,
