@@ -12,7 +12,7 @@ use Rattle.ghcn_fields.specs.Lines.{columns}
 use Rattle.ghcn_files.specs.declared.element.Element.{Element}
 use Rattle.ghcn_files.specs.declared.element.Element.TheVariants.{Prcp, Snow, Snwd, Tmax, Tmin}
 use Rattle.ghcn_files.specs.declared.element.Keep.{Keep}
-use Rattle.ghcn_files.specs.declared.element.Keep.TheVariants.{Nothing}
+use Rattle.ghcn_files.specs.Elements.{nothing}
 use Rattle.ghcn_files.specs.declared.fault.LineWhy.TheVariants.{Short}
 use Rattle.ghcn_files.specs.declared.station.StationId.{StationId}
 use Rattle.ghcn_files.specs.declared.station.Station.{Station}
@@ -181,7 +181,7 @@ module _ (stations : List Station) (keep : Keep) (ls : List FileLine) (l : FileL
 
     -- a describer has counted a month of a listed station
     pub counted-month : (old new : Describer) (r : Reader) (place : ℕ) → AreListed stations
-        → place_of stations m.id ≡ Some place → HasReadFor r stations Nothing after
+        → place_of stations m.id ≡ Some place → HasReadFor r stations nothing after
         → CountsAt (record {
           reader = r;
           with_days = old.with_days;
@@ -219,7 +219,7 @@ module _ (stations : List Station) (keep : Keep) (ls : List FileLine) (l : FileL
         (λ b. set b index (get_or b index false || has_day m)) [] m.id stations place apart stands lt others_stay
         own_changes in
         record {
-          read = subst (λ x. HasReadFor x stations Nothing after) (sym adds.reader) has_read;
+          read = subst (λ x. HasReadFor x stations nothing after) (sym adds.reader) has_read;
           counts = subst (λ es. AllZip (AreCounts stations after) es elements) (sym adds.elements)
               (elements-more stations ls l m is-month listed apart old.elements adds.before adds.after of.counts
               adds.there
@@ -245,7 +245,7 @@ module _ (stations : List Station) (keep : Keep) (ls : List FileLine) (l : FileL
 
     -- a describer has counted a month of a station that isn't listed
     pub counted-unlisted : (old : Describer) (r : Reader) (n : ℕ) → place_of stations m.id ≡ None
-        → HasReadFor r stations Nothing after → n ≡ old.unlisted + 1 → HasDescribed old stations keep ls
+        → HasReadFor r stations nothing after → n ≡ old.unlisted + 1 → HasDescribed old stations keep ls
         → HasDescribed (record {
           reader = r;
           with_days = old.with_days;
@@ -286,7 +286,7 @@ module _ (stations : List Station) (keep : Keep) (ls : List FileLine) (l : FileL
         grind (arith, nat_tests)
 
     -- a describer has counted a line of another code
-    pub counted-other : (old : Describer) (r : Reader) (others : Others) → HasReadFor r stations Nothing after
+    pub counted-other : (old : Describer) (r : Reader) (others : Others) → HasReadFor r stations nothing after
         → CountsCode old.others others (code_on l) → HasDescribed old stations keep ls
         → HasDescribed (record {
           reader = r;
@@ -334,7 +334,7 @@ empty-counts stations c e is = record {
 
 -- a describer that has read no line
 pub described-nothing : (stations : List Station) (keep : Keep) (d : Describer)
-    → HasReadFor d.reader stations Nothing []
+    → HasReadFor d.reader stations nothing []
     → AllZip IsEmpty d.elements elements
     → d.with_days.items ≡ replicate (length stations) (false ∷ false ∷ false ∷ false ∷ false ∷ [])
     → AreOthers [] d.others.counts.items d.others.further → d.unlisted ≡ 0 → HasDescribed d stations keep []

@@ -6,7 +6,7 @@ use Rattle.ghcn_fields.specs.Faults.{HaveNoFault}
 use Rattle.ghcn_fields.specs.Refusals.{IsRefusal}
 use Rattle.ghcn_files.specs.declared.element.Element.{Element}
 use Rattle.ghcn_files.specs.declared.element.Keep.{Keep}
-use Rattle.ghcn_files.specs.declared.element.Keep.TheVariants.{Nothing}
+use Rattle.ghcn_files.specs.Elements.{nothing}
 use Rattle.ghcn_files.specs.declared.station.Station.{Station}
 use Rattle.ghcn_files.specs.declared.station.StationId.{StationId}
 use Rattle.ghcn_files.specs.declared.month.Month.{Month}
@@ -43,7 +43,7 @@ elements_with facts s = map (has_fact facts s.id) elements
 
 -- a describer has read these lines for these stations, and counted what stands on them
 pub record HasDescribed (d : Describer) (stations : List Station) (keep : Keep) (ls : List FileLine) : Type 0 where
-  pub read : HasReadFor d.reader stations Nothing ls
+  pub read : HasReadFor d.reader stations nothing ls
   pub counts : AllZip (AreCounts stations ls) d.elements elements
   pub with_days : d.with_days.items ≡ map (elements_with (usable_facts stations ls)) stations
   pub others : AreOthers ls d.others.counts.items d.others.further

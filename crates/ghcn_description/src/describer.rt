@@ -2,7 +2,7 @@
 
 ghost use Rattle.std.specs.Prelude.{◌≡◌, ◌<◌, [], true, length, IfOk, OnOk};
 ghost use Rattle.ghcn_files.specs.declared.element.Keep.{Keep};
-ghost use Rattle.ghcn_files.specs.declared.element.Keep.TheVariants.{All};
+ghost use Rattle.ghcn_files.specs.Elements.{everything};
 ghost use Rattle.ghcn_files.specs.Flags.{flagged_values};
 ghost use Rattle.ghcn_files.specs.Rows.{IsOfLine};
 ghost use Rattle.ghcn_series.specs.LinesRead.{HasReadSome};
@@ -53,7 +53,7 @@ impl LineReader for RowDescriber {
         line: u64,
         bytes: &[u8],
     ) -> Result<bool, DataFault> {
-        match self.months.read(bytes, Keep::All) {
+        match self.months.read(bytes, Keep::everything()) {
             Ok(true) => {}
             Ok(false) => {
                 return match self.describer.others.add(shown_code(bytes)) {
@@ -94,7 +94,7 @@ impl Describer {
             with_days.push([false; 5])?;
         }
         Ok(Describer {
-            reader: Reader::new(alloc, stations, Keep::Nothing)?,
+            reader: Reader::new(alloc, stations, Keep::nothing())?,
             with_days,
             elements: no_counts(),
             others: Others::new(alloc),
@@ -123,7 +123,7 @@ impl Describer {
     /// Adds the month of a line, or returns false if its station is listed and has that month already.
     #[inline(always)]
     fn add_month(&mut self, alloc: Global, line: &[u8], row: &MonthRow) -> Result<bool, Memory>
-        requires row { IsOfLine All line.now row.now }
+        requires row { IsOfLine everything line.now row.now }
         requires read { HasReadSome HasDescribed self.old }
         ensures { IfOk result (AddsMonth self.old self.new line.now) }
     {

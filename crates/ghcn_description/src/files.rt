@@ -1,7 +1,7 @@
 //! Describes daily files that come in pieces.
 
 ghost use Rattle.std.specs.Prelude.{IfOk, IfErr};
-ghost use Rattle.ghcn_files.specs.declared.element.Keep.TheVariants.{Nothing};
+ghost use Rattle.ghcn_files.specs.Elements.{nothing};
 ghost use Rattle.ghcn_series.specs.Fed.{IsOfMemory, nothing_fed};
 ghost use Rattle.ghcn_description.specs.Describing as describing;
 
@@ -21,7 +21,7 @@ pub struct FileDescriber {
 impl FileDescriber {
     /// Nothing fed yet.
     pub fn new(alloc: Global, stations: Stations) -> Result<Self, DataFault>
-        ensures fed { IfOk result (λ d. describing.HasFed d (nothing_fed Nothing stations)) }
+        ensures fed { IfOk result (λ d. describing.HasFed d (nothing_fed nothing stations)) }
         ensures going { IfOk result describing.HasFedSome }
         ensures fault { IfErr result IsOfMemory }
     {

@@ -9,7 +9,8 @@ use Rattle.ghcn_files.specs.declared.element.Element.TheVariants.{Prcp, Snow, Sn
 use Rattle.ghcn_files.specs.declared.fault.StationWhy.TheVariants as station
 use Rattle.ghcn_files.specs.declared.fault.StationsFault.TheVariants.{StationLine, TooManyStations}
 use Rattle.ghcn_files.specs.declared.fault.LineWhy.TheVariants as why
-use Rattle.ghcn_files.specs.Elements.{element_of, may_be_negative}
+use Rattle.ghcn_files.specs.Elements.{element_of, elements, may_be_negative}
+use Rattle.ghcn_files.specs.Elements.{is_kept, nothing, everything, with_one, only}
 use Rattle.ghcn_files.specs.StationLines.{id_of, station_of}
 use Rattle.ghcn_files.specs.Listed.{Numbered, listed, is_repeated, station_fault, is_station_of, place_of}
 use Rattle.ghcn_files.specs.Months.{read_month, month_of, reading, days_of_group}
@@ -252,6 +253,14 @@ all_codes : (map element_of
     ≡ Some Prcp ∷ Some Snow ∷ Some Snwd ∷ Some Tmax ∷ Some Tmin ∷ None ∷ [])
     × (map may_be_negative (Prcp ∷ Snow ∷ Snwd ∷ Tmax ∷ Tmin ∷ []) ≡ false ∷ false ∷ false ∷ true ∷ true ∷ [])
 all_codes = (refl, refl)
+
+-- no element, one, one more, that one once more, and all
+sets_of_elements : (map (is_kept nothing) elements ≡ replicate 5 false)
+    × (map (is_kept (only Tmax)) elements ≡ false ∷ false ∷ false ∷ true ∷ false ∷ [])
+    × (map (is_kept (with_one (only Tmax) Snow)) elements ≡ false ∷ true ∷ false ∷ true ∷ false ∷ [])
+    × (with_one (only Tmax) Tmax ≡ only Tmax)
+    × (map (is_kept everything) elements ≡ replicate 5 true) × (with_one everything Prcp ≡ everything)
+sets_of_elements = (refl, refl, refl, refl, refl, refl)
 
 -- a line of this head, without a value
 abbrev empty_line : List ℕ → List ℕ

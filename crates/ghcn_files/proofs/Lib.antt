@@ -1,4 +1,5 @@
 pub mod Examples
+pub mod KeptElements
 pub mod LineLaws
 pub mod FaultLaws
 pub mod IdLaws

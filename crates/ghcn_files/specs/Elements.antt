@@ -1,12 +1,11 @@
 -- The five elements and their codes.
-use Rattle.std.specs.Prelude.{ℕ, Bool, true, false, ◌==◌, List, [], ◌∷◌, codes, Option, ℤ, pos, neg_ℤ}
+use Rattle.std.specs.Prelude.{ℕ, Bool, true, false, ◌==◌, ◌||◌, List, [], ◌∷◌, codes, Option, ℤ, pos, neg_ℤ}
 use Rattle.std.specs.Prelude.{if◌then◌else◌}
 use Rattle.std.specs.List.{find}
 use Rattle.ghcn_fields.specs.Bytes.{same_bytes}
 use Rattle.ghcn_files.specs.declared.element.Element.{Element}
 use Rattle.ghcn_files.specs.declared.element.Element.TheVariants.{Prcp, Snow, Snwd, Tmax, Tmin}
 use Rattle.ghcn_files.specs.declared.element.Keep.{Keep}
-use Rattle.ghcn_files.specs.declared.element.Keep.TheVariants.{All, One, Nothing}
 
 -- the four bytes that name an element
 abbrev pub code_of : Element → List ℕ
@@ -32,11 +31,33 @@ element_index Tmin = 4
 abbrev pub same_element : Element → Element → Bool
 same_element a b = element_index a == element_index b
 
--- the values of an element are kept
+-- an element's values are kept
 abbrev pub is_kept : Keep → Element → Bool
-is_kept All e = true
-is_kept (One only) e = same_element e only
-is_kept Nothing e = false
+is_kept k Prcp = k.prcp
+is_kept k Snow = k.snow
+is_kept k Snwd = k.snwd
+is_kept k Tmax = k.tmax
+is_kept k Tmin = k.tmin
+
+-- the set of the elements that pass a test
+abbrev pub set_of : (Element → Bool) → Keep
+set_of p = record { prcp = p Prcp; snow = p Snow; snwd = p Snwd; tmax = p Tmax; tmin = p Tmin }
+
+-- the set of no element
+abbrev pub nothing : Keep
+nothing = set_of (λ e. false)
+
+-- the set of all five
+abbrev pub everything : Keep
+everything = set_of (λ e. true)
+
+-- a set with one element more
+abbrev pub with_one : Keep → Element → Keep
+with_one k e = set_of (λ f. same_element f e || is_kept k f)
+
+-- the set of one element alone
+abbrev pub only : Element → Keep
+only e = with_one nothing e
 
 -- the element that bytes name
 abbrev pub element_of : List ℕ → Option Element

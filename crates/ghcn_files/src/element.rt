@@ -1,7 +1,7 @@
 //! What a daily value measures.
 
 ghost use Rattle.std.specs.Prelude.{◌≡◌};
-ghost use Rattle.ghcn_files.specs.Elements.{code_of, element_of, is_kept};
+ghost use Rattle.ghcn_files.specs.Elements.{code_of, element_of, everything, is_kept, nothing, with_one};
 
 use std::fmt;
 
@@ -20,12 +20,55 @@ pub enum Element {
     Tmin,
 }
 
-/// Of which elements the daily values are kept. The lines of all five are tested.
+/// The set of the elements whose daily values are kept. The lines of all five are tested.
 #[derive(Clone, Copy, Debug, PartialEq, Eq)]
-pub enum Keep {
-    All,
-    One(Element),
-    Nothing,
+pub struct Keep {
+    pub prcp: bool,
+    pub snow: bool,
+    pub snwd: bool,
+    pub tmax: bool,
+    pub tmin: bool,
+}
+
+impl Keep {
+    /// The set of no element.
+    pub fn nothing() -> Self
+        ensures { result ≡ nothing }
+    {
+        Keep {
+            prcp: false,
+            snow: false,
+            snwd: false,
+            tmax: false,
+            tmin: false,
+        }
+    }
+
+    /// The set of all five.
+    pub fn everything() -> Self
+        ensures { result ≡ everything }
+    {
+        Keep {
+            prcp: true,
+            snow: true,
+            snwd: true,
+            tmax: true,
+            tmin: true,
+        }
+    }
+
+    /// This set with one element more, unless it has that one.
+    pub fn with(self, element: Element) -> Self
+        ensures { result ≡ with_one self element }
+    {
+        match element {
+            Element::Prcp => Keep { prcp: true, ..self },
+            Element::Snow => Keep { snow: true, ..self },
+            Element::Snwd => Keep { snwd: true, ..self },
+            Element::Tmax => Keep { tmax: true, ..self },
+            Element::Tmin => Keep { tmin: true, ..self },
+        }
+    }
 }
 
 impl Element {
@@ -47,10 +90,12 @@ impl Element {
     pub fn is_kept(self, asked: Keep) -> bool
         ensures { result ≡ is_kept asked self }
     {
-        match asked {
-            Keep::All => true,
-            Keep::One(only) => self == only,
-            Keep::Nothing => false,
+        match self {
+            Element::Prcp => asked.prcp,
+            Element::Snow => asked.snow,
+            Element::Snwd => asked.snwd,
+            Element::Tmax => asked.tmax,
+            Element::Tmin => asked.tmin,
         }
     }
 

@@ -7,7 +7,7 @@ ghost use Rattle.std.specs.List.{count_by, enumerate_from};
 ghost use Rattle.ghcn_files.specs.declared.month.Month.{Month};
 ghost use Rattle.ghcn_files.specs.Flags as flags;
 ghost use Rattle.ghcn_files.specs.Months as months;
-ghost use Rattle.ghcn_files.specs.declared.element.Keep.TheVariants.{All};
+ghost use Rattle.ghcn_files.specs.Elements.{everything};
 ghost use Rattle.ghcn_files.specs.Rows.{IsOfLine};
 
 use crate::MonthRow;
@@ -18,7 +18,7 @@ use std::simd::prelude::*;
 
 /// How many values of the line of a row a quality check flagged, on the days that its month has.
 pub fn flagged_values(line: &[u8], row: &MonthRow) -> u32
-    requires { IsOfLine All line.now row.now }
+    requires { IsOfLine everything line.now row.now }
     ensures { (m : Month) → months.read_month line.now ≡ Ok (Some m) → result ≡ flags.flagged_values m }
 {
     flagged_among(days_in_month(row.year, row.month), line)

@@ -11,13 +11,13 @@ use Rattle.ghcn_files.specs.declared.station.StationId.{StationId}
 use Rattle.ghcn_files.specs.declared.station.Station.{Station}
 use Rattle.ghcn_files.specs.declared.element.Element.{Element}
 use Rattle.ghcn_files.specs.declared.element.Keep.{Keep}
-use Rattle.ghcn_files.specs.declared.element.Keep.TheVariants.{All, One, Nothing}
 use Rattle.ghcn_files.specs.declared.element.Element.TheVariants.{Prcp, Snow, Snwd, Tmax, Tmin}
 use Rattle.ghcn_files.specs.declared.month.Month.{Month}
 use Rattle.ghcn_files.specs.Ids.{same_id}
-use Rattle.ghcn_files.specs.Elements.{elements, same_element, is_kept}
+use Rattle.ghcn_files.specs.Elements.{elements, same_element, is_kept, everything}
 use Rattle.ghcn_files.specs.Listed.{AreListed}
 use Rattle.ghcn_files.specs.Months.{IsMonth}
+use Rattle.ghcn_files.proofs.KeptElements.{is_kept-everything}
 use Rattle.ghcn_series.specs.declared.gathering.Gathering.{Gathering}
 use Rattle.ghcn_series.specs.declared.station.StationGathering.{StationGathering}
 use Rattle.ghcn_series.specs.Series.{DayValue, Usable, Contents, IsSeries, by_day}
@@ -358,14 +358,9 @@ are_by_station asked ms ss gs listed right all =
 -- ---- what is kept of them
 
 -- a test that each passes leaves all
-all_passed : (us : List Usable) → filter (λ u. true) us ≡ us
-all_passed [] = refl
-all_passed (u ∷ us) = ap (λ (vs : List Usable). u ∷ vs) (all_passed us)
-
--- a test that none passes leaves none
-none_passed : (us : List Usable) → filter (λ u. false) us ≡ []
-none_passed [] = refl
-none_passed (u ∷ us) = none_passed us
+all_passed : (test : Usable → Bool) (us : List Usable) → ((u : Usable) → test u ≡ true) → filter test us ≡ us
+all_passed test [] each = refl
+all_passed test (u ∷ us) each = rw (each u, all_passed test us each)
 
 -- what is kept of data are the series of the elements that are
 pub kept-is : (asked : Keep) (held : Contents) → kept asked held ≡ record {
@@ -374,12 +369,11 @@ pub kept-is : (asked : Keep) (held : Contents) → kept asked held ≡ record {
   unlisted = held.unlisted;
 }
 unfolding is_kept_series
-kept-is All held =
+kept-is asked held = refl
+
+-- where all elements are kept, data stay as they are
+pub kept-everything : (held : Contents) → kept everything held ≡ held
+kept-everything held =
     let of : List Usable → Contents = λ us.
     record { stations = held.stations; series = us; unlisted = held.unlisted } in
-    ap of (sym (all_passed held.series))
-kept-is (One e) held = refl
-kept-is Nothing held =
-    let of : List Usable → Contents = λ us.
-    record { stations = held.stations; series = us; unlisted = held.unlisted } in
-    ap of (sym (none_passed held.series))
+    ap of (all_passed (λ u. is_kept everything u.element) held.series (λ u. is_kept-everything u.element))

@@ -9,7 +9,7 @@ use Rattle.jiff_core.specs.Calendar.{days_from_civil, day_count, days_of_years, 
 use Rattle.ghcn_fields.specs.Days.{block_of}
 use Rattle.ghcn_fields.specs.Faults.{first_fault}
 use Rattle.ghcn_files.specs.declared.element.Element.{Element}
-use Rattle.ghcn_files.specs.declared.element.Keep.TheVariants.{All, One, Nothing}
+use Rattle.ghcn_files.specs.Elements.{nothing, everything, with_one, only}
 use Rattle.ghcn_files.specs.declared.element.Element.TheVariants.{Prcp, Snow, Tmax, Tmin}
 use Rattle.ghcn_files.specs.declared.station.Station.{Station}
 use Rattle.ghcn_files.specs.declared.fault.LineWhy.TheVariants as why
@@ -245,15 +245,17 @@ some = record {
   unlisted = 7;
 }
 
--- of one element its series, with all stations and the number of unlisted lines; of all their series; of none none
-of_one_element : (kept (One Tmax) some ≡ record {
+-- of one element its series, with all stations and the number of unlisted lines; of two those of both; of all their
+-- series; of none none
+of_some_elements : (kept (only Tmax) some ≡ record {
   stations = both;
   series = series bravo Tmax ((pos 18444, pos 311) ∷ [])
       ∷ series alpha Tmax ((pos 18444, pos 300) ∷ (pos 18446, pos 305) ∷ []) ∷ [];
   unlisted = 7;
-}) × (kept (One Tmin) some ≡ record { stations = both; series = []; unlisted = 7 }) × (kept All some ≡ some)
-    × (kept Nothing some ≡ record { stations = both; series = []; unlisted = 7 })
-of_one_element = (refl, refl, refl, refl)
+}) × (kept (only Tmin) some ≡ record { stations = both; series = []; unlisted = 7 })
+    × (kept (with_one (only Snow) Tmax) some ≡ some) × (kept everything some ≡ some)
+    × (kept nothing some ≡ record { stations = both; series = []; unlisted = 7 })
+of_some_elements = (refl, refl, refl, refl, refl)
 
 -- the series of a station and element, if there is one, and the values of its days
 looked_up : (series_of some alpha.id Snow ≡ Some (series alpha Snow ((pos 18444, pos 5) ∷ [])))
@@ -266,7 +268,7 @@ looked_up = (refl, refl, refl)
 
 -- nothing yet
 abbrev begun : Files
-begun = (nothing_fed (One Tmax) both).files
+begun = (nothing_fed (only Tmax) both).files
 
 -- no file as long as no byte came and none was ended; one file by pieces
 pieces : (files_of begun ≡ []) × (files_of (more begun []) ≡ [])

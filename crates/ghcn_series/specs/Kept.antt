@@ -1,17 +1,18 @@
 -- What is kept of data.
-use Rattle.std.specs.Prelude.{◌≡◌, ℕ, List, [], filter, Ok}
+use Rattle.std.specs.Prelude.{◌≡◌, ℕ, List, filter, Ok}
 use Rattle.ghcn_files.specs.declared.station.Station.{Station}
 use Rattle.ghcn_files.specs.declared.element.Keep.{Keep}
-use Rattle.ghcn_files.specs.declared.element.Keep.TheVariants.{All, One, Nothing}
+use Rattle.ghcn_files.specs.Elements.{is_kept}
 use Rattle.ghcn_series.specs.Series.{Contents}
 use Rattle.ghcn_series.specs.Says.{data_of}
-use Rattle.ghcn_series.specs.Held.{is_of_element}
 
 -- of these data, the series of the elements that are kept
 abbrev pub kept : Keep → Contents → Contents
-kept All c = c
-kept (One e) c = record { stations = c.stations; series = filter (is_of_element e) c.series; unlisted = c.unlisted }
-kept Nothing c = record { stations = c.stations; series = []; unlisted = c.unlisted }
+kept keep c = record {
+  stations = c.stations;
+  series = filter (λ u. is_kept keep u.element) c.series;
+  unlisted = c.unlisted;
+}
 
 -- these data are what is kept of the data that the files hold
 pub record AreKept (keep : Keep) (stations : List Station) (files : List (List ℕ)) (held : Contents)

@@ -1,7 +1,7 @@
 //! Reads the series of daily files that come in pieces.
 
 ghost use Rattle.std.specs.Prelude.{IfOk, IfErr};
-ghost use Rattle.ghcn_files.specs.declared.element.Keep.TheVariants.{All, One};
+ghost use Rattle.ghcn_files.specs.Elements.{everything, only};
 ghost use Rattle.ghcn_series.specs.Fed.{IsOfMemory, nothing_fed};
 ghost use Rattle.ghcn_series.specs.Pieces as pieces;
 
@@ -24,11 +24,11 @@ pub struct DataReader {
 impl DataReader {
     /// Nothing fed yet. The series of all elements are kept.
     pub fn new(alloc: Global, stations: Stations) -> Result<Self, DataFault>
-        ensures fed { IfOk result (λ reader. pieces.HasFed reader (nothing_fed All stations)) }
+        ensures fed { IfOk result (λ reader. pieces.HasFed reader (nothing_fed everything stations)) }
         ensures going { IfOk result pieces.HasFedSome }
         ensures fault { IfErr result IsOfMemory }
     {
-        DataReader::of(alloc, stations, Keep::All)
+        DataReader::of(alloc, stations, Keep::everything())
     }
 
     /// Nothing fed yet. The series of one element alone are kept; the lines of all five are tested.
@@ -37,15 +37,15 @@ impl DataReader {
         stations: Stations,
         element: Element,
     ) -> Result<Self, DataFault>
-        ensures fed { IfOk result (λ reader. pieces.HasFed reader (nothing_fed (One element) stations)) }
+        ensures fed { IfOk result (λ reader. pieces.HasFed reader (nothing_fed (only element) stations)) }
         ensures going { IfOk result pieces.HasFedSome }
         ensures fault { IfErr result IsOfMemory }
     {
-        DataReader::of(alloc, stations, Keep::One(element))
+        DataReader::of(alloc, stations, Keep::nothing().with(element))
     }
 
-    /// Nothing fed yet.
-    pub(crate) fn of(alloc: Global, stations: Stations, keep: Keep) -> Result<Self, DataFault>
+    /// Nothing fed yet. The series of a set of elements are kept; the lines of all five are tested.
+    pub fn of(alloc: Global, stations: Stations, keep: Keep) -> Result<Self, DataFault>
         ensures fed { IfOk result (λ reader. pieces.HasFed reader (nothing_fed keep stations)) }
         ensures going { IfOk result pieces.HasFedSome }
         ensures fault { IfErr result IsOfMemory }

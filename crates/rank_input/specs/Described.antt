@@ -1,6 +1,6 @@
 -- What an intake of files to describe was given so far, and what it returns.
 use Rattle.std.specs.Prelude.{◌≡◌, ℕ, List, Result, Ok, Err}
-use Rattle.ghcn_files.specs.declared.element.Keep.TheVariants.{Nothing}
+use Rattle.ghcn_files.specs.Elements.{nothing}
 use Rattle.ghcn_files.specs.declared.station.Station.{Station}
 use Rattle.ghcn_files.specs.Listed.{listed}
 use Rattle.ghcn_series.specs.Fed.{Files, Fed}
@@ -16,7 +16,7 @@ use Rattle.rank_input.specs.Takes.{Input}
 
 -- what a describer is fed for some stations: it keeps no days
 abbrev pub fed_for : List Station → Files → Fed
-fed_for stations files = record { keep = Nothing; stations = stations; files = files }
+fed_for stations files = record { keep = nothing; stations = stations; files = files }
 
 -- the station list has no error, and a describer was fed the daily files for it
 pub record HasDescriber (i : Input) (d : FileDescriber) : Type 0 where

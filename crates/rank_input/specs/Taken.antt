@@ -1,6 +1,6 @@
 -- What an intake was given so far.
 use Rattle.std.specs.Prelude.{◌≡◌, ℕ, List, Result, Ok, Err}
-use Rattle.ghcn_files.specs.declared.element.Keep.TheVariants.{One}
+use Rattle.ghcn_files.specs.Elements.{only}
 use Rattle.ghcn_files.specs.declared.station.Station.{Station}
 use Rattle.ghcn_files.specs.Listed.{listed}
 use Rattle.ghcn_series.specs.declared.counts.Warnings.{Warnings}
@@ -22,7 +22,7 @@ use Rattle.rank_input.specs.Takes.{Input}
 -- what a reader is fed for a query and some stations: it keeps the series of the query's element
 abbrev pub fed_for : Asked → List Station → Files → Fed
 fed_for q stations files = record {
-  keep = One (score_element q.score);
+  keep = only (score_element q.score);
   stations = stations;
   files = files;
 }

@@ -1,16 +1,16 @@
 -- The verdict of a part rests on the series of the query's element alone.
-use Rattle.std.proofs.Common.{◌≡◌, ℕ, ◌+◌, cond, not, length, Some, None, Result, Ok, Err, refl, ap, ◌||◌}
+use Rattle.std.proofs.Common.{◌≡◌, ◌∙◌, ℕ, ◌+◌, cond, not, length, Some, None, Result, Ok, Err, refl, ap, ◌||◌}
 use Rattle.std.specs.List.{find, list_all}
 use Rattle.std.specs.Option.{option_or, option_map, option_and_then}
 use Rattle.std.proofs.Math.Path.{fun_ext}
 use Rattle.std.proofs.lemmas.Bool.{and_parts}
 use Rattle.ghcn_fields.specs.Faults.{first_failing}
 use Rattle.ghcn_files.specs.declared.station.Station.{Station}
-use Rattle.ghcn_files.specs.Elements.{same_element}
+use Rattle.ghcn_files.specs.Elements.{same_element, is_kept, only}
 use Rattle.ghcn_files.specs.Ids.{same_id}
 use Rattle.ghcn_files.specs.Listed.{is_station_of}
+use Rattle.ghcn_files.proofs.KeptElements.{is_kept-only}
 use Rattle.ghcn_series.specs.Series.{Contents, is_series_of}
-use Rattle.ghcn_series.specs.Held.{is_of_element}
 use Rattle.rank_query.specs.Asked.{Asked, score_element}
 use Rattle.rank_scores.specs.Morsels.{morsels}
 use Rattle.rank_scores.specs.OneElement.{data_for, MorselsStay}
@@ -30,9 +30,9 @@ use Rattle.rank_parts.specs.Laws.{PartVerdictStays}
 module _ (series : MorselsStay) (q : Asked) (c : Contents) where
   -- a station has the same series
   own_stays : own_series q (data_for q c) ≡ own_series q c
-  own_stays = fun_ext (λ (st : Station).
-      find-filter (is_series_of st.id (score_element q.score)) (is_of_element (score_element q.score)) c.series
-      (λ s passes. (and_parts (same_id s.id st.id) (same_element s.element (score_element q.score)) passes).1))
+  own_stays = let e = score_element q.score in fun_ext (λ (st : Station).
+      find-filter (is_series_of st.id e) (λ u. is_kept (only e) u.element) c.series
+      (λ u is. is_kept-only e u.element ∙ (and_parts (same_id u.id st.id) (same_element u.element e) is).1))
 
   -- so the verdict is the same
   pub judged-same : (r : Result Reported ℕ) (z : Result Certified ℕ)

@@ -1,6 +1,7 @@
 -- What a query needs of all data, the series of its element, as statements for the contract of a public function.
-use Rattle.std.specs.Prelude.{◌≡◌}
-use Rattle.ghcn_files.specs.declared.element.Keep.TheVariants.{One}
+use Rattle.std.specs.Prelude.{◌≡◌, true}
+use Rattle.ghcn_files.specs.declared.element.Keep.{Keep}
+use Rattle.ghcn_files.specs.Elements.{is_kept, only}
 use Rattle.ghcn_series.specs.Series.{Contents}
 use Rattle.ghcn_series.specs.Kept.{kept}
 use Rattle.rank_query.specs.Asked.{Asked, score_element}
@@ -8,7 +9,7 @@ use Rattle.rank_scores.specs.Morsels.{admitted_series, all_candidates, morsels, 
 
 -- what a query needs of these data: of all series, those of its element
 abbrev pub data_for : Asked → Contents → Contents
-data_for q c = kept (One (score_element q.score)) c
+data_for q c = kept (only (score_element q.score)) c
 
 -- in what a query needs of any data, it is about the same series as in all of them
 abbrev pub SeriesStay : Type 0
@@ -29,3 +30,8 @@ BestStay = (q : Asked) (c : Contents) → best_of_query q (data_for q c) ≡ bes
 -- and the same k-th score
 abbrev pub KthStays : Type 0
 KthStays = (q : Asked) (c : Contents) → kth_of_query q (data_for q c) ≡ kth_of_query q c
+
+-- a query's own element is enough among others: what it needs of the series that are kept, it needs of all
+abbrev pub KeptAreEnough : Type 0
+KeptAreEnough = (keep : Keep) (q : Asked) (c : Contents) → is_kept keep (score_element q.score) ≡ true
+    → data_for q (kept keep c) ≡ data_for q c

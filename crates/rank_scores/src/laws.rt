@@ -33,6 +33,11 @@ pub fn one_element_is_enough()
     ensures kth { one_element.KthStays }
 {}
 
+/// What a query needs of all series, it needs of those of any set of elements that has its own.
+pub fn own_element_among_others()
+    ensures { one_element.KeptAreEnough }
+{}
+
 /// Files that are cut into parts are cut as a query sees them, if no station has morsels in two
 /// parts: the candidates of all files are those of the parts, and the morsels serve for those of
 /// the parts. If no station has a series of the query's element in two parts, they are the same

@@ -22,6 +22,7 @@ pub use candidate::{Candidate, bound_is_below, precedes};
 pub use floor::FloorSink;
 pub use laws::{
     candidates_of_queries, candidates_of_series, files_in_parts, one_element_is_enough,
+    own_element_among_others,
 };
 pub use morsel::{morsel_at, series_at};
 pub use scans::{scan, scan_to_floor};

@@ -88,7 +88,7 @@ fn months(rt: HostRuntime) {
         } else {
             (0x40000001, [311, 0, 0, 0, -15])
         };
-        let found = row_of(&july[..columns], Keep::All);
+        let found = row_of(&july[..columns], Keep::everything());
         assert_eq!(rt;
             found,
             Ok(Some((head, days))),
@@ -102,9 +102,9 @@ fn months(rt: HostRuntime) {
 fn faults_of(line: &[u8]) -> [Option<LineWhy>; 4] {
     [
         read_month(line).err(),
-        read_days(line, Keep::All).err(),
-        read_days(line, Keep::One(Element::Tmax)).err(),
-        read_days(line, Keep::Nothing).err(),
+        read_days(line, Keep::everything()).err(),
+        read_days(line, only(Element::Tmax)).err(),
+        read_days(line, Keep::nothing()).err(),
     ]
 }
 
@@ -213,9 +213,14 @@ fn rows_of_months(rt: HostRuntime) {
         ),
     ];
     for (text, head, days) in cases {
-        let found = row_of(&line_of(text, &GROUPS), Keep::All);
+        let found = row_of(&line_of(text, &GROUPS), Keep::everything());
         assert_eq!(rt; found, Ok(Some((head, days))), "at {text:?}");
     }
+}
+
+/// The set of one element.
+fn only(element: Element) -> Keep {
+    Keep::nothing().with(element)
 }
 
 #[test]
@@ -229,10 +234,13 @@ fn rows_of_elements_that_are_kept(rt: HostRuntime) {
     let kept = (0x40000001, [311, 0, 0, 0, -15]);
     let none = (0, [0; 5]);
     let cases = [
-        (Keep::All, true, kept),
-        (Keep::One(Element::Tmax), true, kept),
-        (Keep::One(Element::Tmin), false, none),
-        (Keep::Nothing, false, none),
+        (Keep::everything(), true, kept),
+        (only(Element::Tmax), true, kept),
+        (only(Element::Tmax).with(Element::Prcp), true, kept),
+        (only(Element::Snow).with(Element::Tmax), true, kept),
+        (only(Element::Tmin), false, none),
+        (only(Element::Tmin).with(Element::Snwd), false, none),
+        (Keep::nothing(), false, none),
     ];
     for (keep, is_kept, days) in cases {
         assert_eq!(rt; Element::Tmax.is_kept(keep), is_kept, "for {keep:?}");
@@ -322,12 +330,12 @@ fn lines_one_after_another(rt: HostRuntime) {
             continue;
         };
         assert_eq!(rt;
-            next_row(&mut months, line, Keep::All),
+            next_row(&mut months, line, Keep::everything()),
             *expected,
             "turn {turn}"
         );
         assert_eq!(rt;
-            row_of(line, Keep::All),
+            row_of(line, Keep::everything()),
             *expected,
             "turn {turn}, by itself"
         );
@@ -343,13 +351,17 @@ fn lines_of_other_elements(rt: HostRuntime) {
     ];
     for line in lines {
         assert_eq!(rt; month_of(line), Ok(None), "at {line:?}");
-        assert_eq!(rt; row_of(line, Keep::All), Ok(None), "the row at {line:?}");
+        assert_eq!(rt;
+            row_of(line, Keep::everything()),
+            Ok(None),
+            "the row at {line:?}"
+        );
     }
 }
 
 /// How many values of a line are flagged, if it is a month.
 fn flagged_of(line: &[u8]) -> Result<Option<u32>, LineWhy> {
-    match read_days(line, Keep::All)? {
+    match read_days(line, Keep::everything())? {
         Some(row) => Ok(Some(flagged_values(line, &row))),
         None => Ok(None),
     }

@@ -77,10 +77,7 @@ fn reader(alloc: Global, keep: Keep) -> Result<DataReader, DataFault>
 fn reader_for(alloc: Global, stations: Stations, keep: Keep) -> Result<DataReader, DataFault>
     ensures { IfOk result pieces.HasFedSome }
 {
-    match keep {
-        Keep::One(element) => DataReader::of_element(alloc, stations, element),
-        _ => DataReader::new(alloc, stations),
-    }
+    DataReader::of(alloc, stations, keep)
 }
 
 /// The foreign files and odd lines that a reader of whole files finds among these.
@@ -102,9 +99,11 @@ fn warnings_by_lines(alloc: Global, keep: Keep, files: &[&[u8]]) -> Result<Warni
 /// Whether both have the same fault, and else find the same foreign files and odd lines, whichever elements they keep.
 pub(super) fn are_alike(alloc: Global, files: &[&[u8]]) -> bool {
     let keeps = [
-        Keep::All,
-        Keep::One(Element::Tmax),
-        Keep::One(Element::Tmin),
+        Keep::everything(),
+        Keep::nothing().with(Element::Tmax),
+        Keep::nothing().with(Element::Tmin),
+        Keep::nothing().with(Element::Prcp).with(Element::Tmin),
+        Keep::nothing(),
     ];
     for keep in keeps {
         let by_files = warnings_by_files(alloc, keep, files);
@@ -122,7 +121,7 @@ pub(super) fn fault_by_lines(
     behind: &[u8],
     files: u32,
 ) -> Option<DataFault> {
-    match cutter(alloc, Keep::All) {
+    match cutter(alloc, Keep::everything()) {
         Ok(mut cutter) => {
             cutter.piece(text);
             cutter.piece(behind);

@@ -1,4 +1,4 @@
-//! Readers that keep one element.
+//! Readers that keep one element, or some.
 
 ghost use Rattle.std.specs.Prelude.{IfOk};
 ghost use Rattle.ghcn_series.specs.Pieces.{HasFedSome};
@@ -8,7 +8,7 @@ use super::pieces::{data_of, read_by_bytes};
 use super::{A, B, JULY, STATIONS, refused};
 use crate::lines::{line_of, text_of};
 use ghcn_fields::{Day, Memory};
-use ghcn_files::{Element, LineWhy, StationId, Stations};
+use ghcn_files::{Element, Keep, LineWhy, StationId, Stations};
 use ghcn_series::{DailyWhy, Data, DataFault, DataReader};
 use std::alloc::Global;
 
@@ -18,6 +18,16 @@ fn reader_of(alloc: Global, element: Element) -> Result<DataReader, DataFault>
 {
     match Stations::read(alloc, STATIONS) {
         Ok(stations) => DataReader::of_element(alloc, stations, element),
+        Err(_) => Err(DataFault::Memory(Memory)),
+    }
+}
+
+/// A reader of the same files that keeps a set of elements.
+fn reader_of_set(alloc: Global, keep: Keep) -> Result<DataReader, DataFault>
+    ensures { IfOk result HasFedSome }
+{
+    match Stations::read(alloc, STATIONS) {
+        Ok(stations) => DataReader::of(alloc, stations, keep),
         Err(_) => Err(DataFault::Memory(Memory)),
     }
 }
@@ -63,16 +73,58 @@ fn kept_by_bytes(alloc: Global, lines: &[&[u8]], element: Element) -> Result<Val
     Ok(values(&read_by_bytes(reader_of(alloc, element)?, &text)?))
 }
 
+/// What is kept of a set of elements.
+fn kept_of_set(alloc: Global, lines: &[&[u8]], keep: Keep) -> Result<Values, DataFault> {
+    let text = text_of(alloc, lines, b"\n").map_err(DataFault::Memory)?;
+    let mut reader = reader_of_set(alloc, keep)?;
+    reader.piece(&text);
+    Ok(values(&data_of(reader)?))
+}
+
+/// A month of each element, and one of another station.
+fn six_lines() -> [[u8; 269]; 6] {
+    [
+        line_of(b"ZZA00000001202007TMAX", &[(1, b"  311   ")]),
+        line_of(b"ZZA00000001202007TMIN", &[(1, b"  -12   ")]),
+        line_of(b"ZZA00000002202007TMAX", &[(1, b"  250   ")]),
+        line_of(b"ZZA00000001202007PRCP", &[(1, b"   25   ")]),
+        line_of(b"ZZA00000001202007SNOW", &[(1, b"    0   ")]),
+        line_of(b"ZZA00000001202007SNWD", &[(1, b"  120   ")]),
+    ]
+}
+
+#[test]
+fn series_of_a_set_of_elements(rt: HostRuntime) {
+    let lines = six_lines();
+    let [tmax, tmin, other, prcp, snow, snwd] = &lines;
+    let lines: [&[u8]; 6] = [tmax, tmin, other, prcp, snow, snwd];
+    let two = Keep::nothing().with(Element::Tmin).with(Element::Snow);
+    let four = two.with(Element::Tmax).with(Element::Prcp);
+    let cases: [(Keep, [Option<i32>; 5], Option<i32>); 4] = [
+        (Keep::nothing(), [None; 5], None),
+        (two, [None, Some(0), None, None, Some(-12)], None),
+        (
+            four,
+            [Some(25), Some(0), None, Some(311), Some(-12)],
+            Some(250),
+        ),
+        (
+            Keep::everything(),
+            [Some(25), Some(0), Some(120), Some(311), Some(-12)],
+            Some(250),
+        ),
+    ];
+    for (keep, first, second) in cases {
+        let found = kept_of_set(rt.alloc(), &lines, keep);
+        assert_eq!(rt; found, Ok((first, second, 0)), "{keep:?}");
+    }
+}
+
 #[test]
 fn series_of_one_element(rt: HostRuntime) {
-    let lines: [&[u8]; 6] = [
-        &line_of(b"ZZA00000001202007TMAX", &[(1, b"  311   ")]),
-        &line_of(b"ZZA00000001202007TMIN", &[(1, b"  -12   ")]),
-        &line_of(b"ZZA00000002202007TMAX", &[(1, b"  250   ")]),
-        &line_of(b"ZZA00000001202007PRCP", &[(1, b"   25   ")]),
-        &line_of(b"ZZA00000001202007SNOW", &[(1, b"    0   ")]),
-        &line_of(b"ZZA00000001202007SNWD", &[(1, b"  120   ")]),
-    ];
+    let lines = six_lines();
+    let [tmax, tmin, other, prcp, snow, snwd] = &lines;
+    let lines: [&[u8]; 6] = [tmax, tmin, other, prcp, snow, snwd];
     let cases: [(Element, [Option<i32>; 5], Option<i32>); 5] = [
         (Element::Prcp, [Some(25), None, None, None, None], None),
         (Element::Snow, [None, Some(0), None, None, None], None),

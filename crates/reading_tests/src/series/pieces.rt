@@ -196,7 +196,7 @@ type Shown = (Warnings, Warnings, (u64, u64, u64));
 /// What both show of files.
 fn shown(alloc: Global, files: &[&[u8]]) -> Result<Shown, DataFault> {
     let warnings = warnings_of(alloc, files)?;
-    let found = found_by_lines(alloc, Keep::All, files)?;
+    let found = found_by_lines(alloc, Keep::everything(), files)?;
     let counts = (found.files, found.lines, found.blank);
     Ok((warnings, found.warnings, counts))
 }
@@ -259,6 +259,6 @@ fn files_without_one_of_the_elements(rt: HostRuntime) {
         why: DailyWhy::Line(LineWhy::Short),
     };
     assert_eq!(rt; warnings_of(alloc, &[&other, b"short"]), Err(fault));
-    let by_lines = found_by_lines(alloc, Keep::All, &[&other, b"short"]);
+    let by_lines = found_by_lines(alloc, Keep::everything(), &[&other, b"short"]);
     assert_eq!(rt; by_lines.err(), Some(fault));
 }

@@ -1,5 +1,6 @@
-use Rattle.std.proofs.Common.{◌+◌, ◌∷◌, [], ◌++◌, false, refl, ap, ◌∙◌, arith}
+use Rattle.std.proofs.Common.{◌+◌, ◌∷◌, [], ◌++◌, false, refl, ap, ◌∙◌, subst, arith}
 use Rattle.std.specs.Prelude.{replicate}
+use Rattle.ghcn_series.specs.Gathered.{HasReadFor}
 use Rattle.ghcn_description.proofs.DescribedLines.{described-nothing, one-more}
 use Rattle.ghcn_description.proofs.describer.Describer.new.Goals as goal
 
@@ -16,6 +17,8 @@ loop-preserved c = record {
 -- no line is read
 pub returns : goal.returns
 returns c = λ keep.
-    described-nothing c.args.stations keep _ c.in_ok-new.ensures c.no_counts.ensures
+    described-nothing c.args.stations keep _
+    (subst (λ k. HasReadFor c.in_ok-new.field-0 c.args.stations k []) c.nothing.ensures c.in_ok-new.ensures)
+    c.no_counts.ensures
     (c.loop.invariant.marks ∙ ap (λ n. replicate n (false ∷ false ∷ false ∷ false ∷ false ∷ []))
     (omega (arith, c.loop.invariant.many, c.loop.invariant.within, c.loop-test.false))) c.new-2.ensures refl

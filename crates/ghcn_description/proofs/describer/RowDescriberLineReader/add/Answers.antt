@@ -1,5 +1,5 @@
 use Rattle.std.proofs.Common.{◌≡◌, Ok, None, refl, sym, subst}
-use Rattle.ghcn_files.specs.declared.element.Keep.TheVariants.{All, Nothing}
+use Rattle.ghcn_files.specs.Elements.{everything, nothing}
 use Rattle.ghcn_files.specs.Months.{read_month}
 use Rattle.ghcn_files.specs.Rows.{IsOfLine}
 use Rattle.ghcn_series.specs.DailyFaults.{file_line}
@@ -24,13 +24,14 @@ returns-in-Ok-clause-read c =
           counted-other stations keep before (file_line c.args.file (c.args.line, c.args.bytes.now)) is
           c.args.self.now.describer c.args.self.now.describer.reader c.add.new.self
           (read-passed c.args.self.now.describer.reader (file_line c.args.file (c.args.line, c.args.bytes.now)) is
-          stations Nothing before of.read) adds of;
+          stations nothing before of.read) adds of;
     }
 
 -- the row is that of the line
 pub add_month-requires-clause-row : goal.add_month-requires-clause-row
 add_month-requires-clause-row c =
-    subst (IsOfLine All c.args.bytes.now) (sym c.row.ensures) (rw c.in-Ok-true.field-0-test at c.in-Ok-true.ensures)
+    subst (IsOfLine everything c.args.bytes.now) (sym c.row.ensures)
+    (rw (c.in-Ok-true.field-0-test, c.everything.ensures) at c.in-Ok-true.ensures)
 
 -- a month of an earlier line is refused
 pub returns-in-Ok-false-add_month-clause-fault : goal.returns-in-Ok-false-add_month-clause-fault

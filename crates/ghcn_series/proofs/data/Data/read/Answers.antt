@@ -1,7 +1,8 @@
 use Rattle.std.proofs.Common.{[], ℕ, Bor, List, get_or, arith}
 use Rattle.std.proofs.lemmas.Result.{err_from_is_err_and}
-use Rattle.ghcn_files.specs.declared.element.Keep.TheVariants.{All}
+use Rattle.ghcn_files.specs.Elements.{everything}
 use Rattle.ghcn_series.specs.Fed.{more, with_files}
+use Rattle.ghcn_series.proofs.AllSeries.{kept-everything}
 use Rattle.ghcn_series.proofs.ReadFiles.{all_texts}
 use Rattle.ghcn_series.proofs.FedFiles.{fed_files, texts-more}
 use Rattle.ghcn_series.proofs.data.Data.read.Goals as goal
@@ -14,7 +15,7 @@ nothing = record { ref_ptr = (0, 0); now = [] }
 pub loop-file-preserved : goal.loop-file-preserved
 unfolding nothing
 loop-file-preserved c =
-    let fed = fed_files All c.args.stations c.args.files.now c.loop-file.file-index in
+    let fed = fed_files everything c.args.stations c.args.files.now c.loop-file.file-index in
     let text = (get_or c.args.files.now c.loop-file.file-index nothing).now in
     rw (texts-more c.args.files.now c.loop-file.file-index nothing c.loop-file-test.true)
     (c.end_of_file.ensures.fed.holds (with_files fed (more fed.files text))
@@ -23,15 +24,15 @@ loop-file-preserved c =
 -- the data of all files that were fed
 pub returns-clause-ok : goal.returns-clause-ok
 returns-clause-ok c =
-    let fed = fed_files All c.args.stations c.args.files.now c.loop-file.file-index in
+    let fed = fed_files everything c.args.stations c.args.files.now c.loop-file.file-index in
     let all = all_texts c.args.files.now c.loop-file.file-index (omega (arith, c.loop-file-test.false)) in
     let held = rw all at (c.in_ok-dataset.ensures.ok.is fed c.loop-file.invariant) in
-    rw held.is held.read
+    rw (held.is, kept-everything held.whole) held.read
 
 -- the refusal of all files that were fed
 pub returns-in_err-dataset-clause-err : goal.returns-in_err-dataset-clause-err
 returns-in_err-dataset-clause-err c =
-    let fed = fed_files All c.args.stations c.args.files.now c.loop-file.file-index in
+    let fed = fed_files everything c.args.stations c.args.files.now c.loop-file.file-index in
     let all = all_texts c.args.files.now c.loop-file.file-index (omega (arith, c.loop-file-test.false)) in
     let p = err_from_is_err_and c.from_residual-in_err-dataset.result c.from_residual-in_err-dataset.ensures.1 in
     rw (p.1, p.2, ← all) (c.in_err-dataset.ensures.err.is fed c.loop-file.invariant)
@@ -39,7 +40,7 @@ returns-in_err-dataset-clause-err c =
 -- and of their first line with an error
 pub returns-in_err-dataset-clause-first : goal.returns-in_err-dataset-clause-first
 returns-in_err-dataset-clause-first c =
-    let fed = fed_files All c.args.stations c.args.files.now c.loop-file.file-index in
+    let fed = fed_files everything c.args.stations c.args.files.now c.loop-file.file-index in
     let all = all_texts c.args.files.now c.loop-file.file-index (omega (arith, c.loop-file-test.false)) in
     let p = err_from_is_err_and c.from_residual-in_err-dataset.result c.from_residual-in_err-dataset.ensures.1 in
     rw (p.1, p.2, ← all) (c.in_err-dataset.ensures.err.first fed c.loop-file.invariant)
