@@ -1,4 +1,4 @@
--- The meaning of words that are written out.
+-- The meaning of arguments that are written out.
 use Rattle.std.proofs.Common.{◌≡◌, List, [], ◌∷◌, Some, None, option_map, codes, refl}
 use Rattle.clap.specs.Words.{Text, fault_of, subcommand_of, first_of, one_of, all_of}
 use Rattle.clap.specs.declared.error.ErrorKind.TheVariants.{DisplayVersion, MissingRequiredArgument, ValueValidation}
@@ -10,7 +10,7 @@ abbrev words : List Text
 words = codes "extremes" ∷ codes "rank" ∷ codes "a" ∷ codes "--query=q" ∷ codes "--stations" ∷ codes "s"
     ∷ codes "--guess=-3" ∷ codes "b" ∷ []
 
--- `clap` has no error to tell
+-- `clap` has no error to report
 right : fault_of extremes_app words ≡ []
 unfolding clap_on_literals
 right = refl
@@ -33,7 +33,7 @@ files : option_map (λ p. all_of (codes "files") p.1) (subcommand_of extremes_ap
 unfolding clap_on_literals
 files = refl
 
--- words without the stations lack an argument
+-- a command line without the stations lacks an argument
 without : fault_of extremes_app (codes "extremes" ∷ codes "rank" ∷ codes "--query=q" ∷ [])
     ≡ MissingRequiredArgument ∷ []
 unfolding clap_on_literals
@@ -45,12 +45,12 @@ no_number : fault_of extremes_app (codes "extremes" ∷ codes "rank" ∷ codes "
 unfolding clap_on_literals
 no_number = refl
 
--- a command line to check papers
+-- a command line to check a report and a certificate
 abbrev to_check : List Text
 to_check = codes "extremes" ∷ codes "check" ∷ codes "--query=q" ∷ codes "--stations=s" ∷ codes "--certificate=c"
     ∷ codes "--report" ∷ codes "r" ∷ codes "a" ∷ []
 
--- `clap` has no error to tell
+-- `clap` has no error to report
 check_right : fault_of extremes_app to_check ≡ []
 unfolding clap_on_literals
 check_right = refl
@@ -61,7 +61,7 @@ check_report : option_map (λ p. first_of (codes "report") p.1) (subcommand_of e
 unfolding clap_on_literals
 check_report = refl
 
--- papers can't be checked without a certificate
+-- a report can't be checked without a certificate
 check_without : fault_of extremes_app (codes "extremes" ∷ codes "check" ∷ codes "--query=q" ∷ codes "--stations=s"
     ∷ codes "--report=r" ∷ []) ≡ MissingRequiredArgument ∷ []
 unfolding clap_on_literals
@@ -73,12 +73,12 @@ check_whole : option_map (λ p. one_of (codes "part") p.1) (subcommand_of extrem
 unfolding clap_on_literals
 check_whole = refl
 
--- a command line to check papers of a whole archive by a part of it
+-- a command line to check a report and a certificate of a whole archive by a part of it
 abbrev to_check_part : List Text
 to_check_part = codes "extremes" ∷ codes "check" ∷ codes "--part" ∷ codes "--query=q" ∷ codes "--stations=s"
     ∷ codes "--certificate=c" ∷ codes "--report=r" ∷ codes "a" ∷ []
 
--- `clap` has no error to tell
+-- `clap` has no error to report
 check_part_right : fault_of extremes_app to_check_part ≡ []
 unfolding clap_on_literals
 check_part_right = refl
@@ -95,16 +95,16 @@ check_part_files : option_map (λ p. all_of (codes "files") p.1) (subcommand_of 
 unfolding clap_on_literals
 check_part_files = refl
 
--- a command line to merge the papers of two parts
+-- a command line to merge the reports and certificates of two parts
 abbrev to_merge : List Text
 to_merge = codes "extremes" ∷ codes "merge" ∷ codes "r" ∷ codes "c" ∷ codes "--query=q" ∷ codes "s" ∷ codes "d" ∷ []
 
--- `clap` has no error to tell
+-- `clap` has no error to report
 merge_read : fault_of extremes_app to_merge ≡ []
 unfolding clap_on_literals
 merge_read = refl
 
--- its papers are those four, in order
+-- its reports and certificates are those four, in order
 merge_papers : option_map (λ p. papers_to_merge p.1) (subcommand_of extremes_app to_merge)
     ≡ Some (codes "r" ∷ codes "c" ∷ codes "s" ∷ codes "d" ∷ [])
 unfolding clap_on_literals
@@ -115,13 +115,13 @@ merge_writes : option_map (λ p. first_of (codes "certificate") p.1) (subcommand
 unfolding clap_on_literals
 merge_writes = refl
 
--- without papers there are none
+-- without reports and certificates there are none
 no_papers : option_map (λ p. papers_to_merge p.1)
     (subcommand_of extremes_app (codes "extremes" ∷ codes "merge" ∷ codes "--query=q" ∷ [])) ≡ Some []
 unfolding clap_on_literals
 no_papers = refl
 
--- papers can't be merged without a query
+-- parts can't be merged without a query
 merge_without : fault_of extremes_app (codes "extremes" ∷ codes "merge" ∷ codes "r" ∷ codes "c" ∷ [])
     ≡ MissingRequiredArgument ∷ []
 unfolding clap_on_literals
@@ -131,12 +131,12 @@ merge_without = refl
 abbrev odd : List Text
 odd = codes "extremes" ∷ codes "merge" ∷ codes "--query=q" ∷ codes "r" ∷ []
 
--- `clap` has no error to tell of it
+-- `clap` has no error to report about it
 odd_read : fault_of extremes_app odd ≡ []
 unfolding clap_on_literals
 odd_read = refl
 
--- its subcommand has that one paper
+-- its subcommand has that one report
 odd_papers : option_map (λ p. papers_to_merge p.1) (subcommand_of extremes_app odd) ≡ Some (codes "r" ∷ [])
 unfolding clap_on_literals
 odd_papers = refl
@@ -156,7 +156,7 @@ no_version = refl
 abbrev to_describe : List Text
 to_describe = codes "extremes" ∷ codes "describe" ∷ codes "a" ∷ codes "--stations=s" ∷ codes "b" ∷ []
 
--- `clap` has no error to tell
+-- `clap` has no error to report
 describe_right : fault_of extremes_app to_describe ≡ []
 unfolding clap_on_literals
 describe_right = refl

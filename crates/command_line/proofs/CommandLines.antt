@@ -54,7 +54,7 @@ only_memory k [] none (inl memory) = memory
 only_memory k [] none (inr among) = absurd among
 only_memory k (x ∷ xs) none has = absurd cc
 
--- if the version alone is to be told, an error tells it, or it is out of memory
+-- if only the version is to be reported, an error reports it, or memory ran out
 pub only_version : (k : ErrorKind) (kinds : Kinds) (f : CommandFault) → kinds ≡ DisplayVersion ∷ []
     → (k ≡ OutOfMemory) ⊎ IsAmong k kinds → (k ≡ OutOfMemory → f ≡ fault.Memory)
     → (k ≡ DisplayVersion → TellsVersion f) → TellsVersion f
@@ -64,7 +64,7 @@ only_version k kinds f alone (inr among) refuses tells = elim (subst (λ ks. IsA
   | inr none ↦ absurd none
 ]
 
--- if the version is told, it is among what may be told
+-- if the version is reported, it is among what may be reported
 pub version_among : (k : ErrorKind) (kinds : Kinds) (f : CommandFault) → OnVersion (k ≡ DisplayVersion) f
     → (k ≡ OutOfMemory) ⊎ IsAmong k kinds → OnVersion (IsAmong DisplayVersion kinds) f
 version_among k kinds (fault.Words text) told has = tt
@@ -72,13 +72,13 @@ version_among k kinds (fault.Version text) told (inl memory) = absurd cc
 version_among k kinds (fault.Version text) told (inr among) = subst (λ x. IsAmong x kinds) told among
 version_among k kinds fault.Memory told has = tt
 
--- if the version is never told, anything is true of where it is
+-- if the version is never reported, anything is true if it is
 pub never_told : (P : Type 0) (f : CommandFault) → OnVersion ⊥ f → OnVersion P f
 never_told P (fault.Words text) none = tt
 never_told P (fault.Version text) none = absurd none
 never_told P fault.Memory none = tt
 
--- words of which nothing is told don't ask for the version
+-- if no kind of error may come, the version isn't asked for
 pub not_asked : (kinds : Kinds) → kinds ≡ [] → kinds ≡ DisplayVersion ∷ [] → ⊥
 not_asked [] none asks = cc
 not_asked (k ∷ ks) none asks = cc
@@ -106,7 +106,7 @@ IsOneOf a b c d name = (name ≡ a) ⊎ ((name ≡ b) ⊎ ((name ≡ c) ⊎ (nam
 abbrev pub IsName : Text → Type 0
 IsName name = IsOneOf (codes "rank") (codes "merge") (codes "check") (codes "describe") name
 
--- a subcommand that the program's words meet is one of these
+-- a subcommand that the program's arguments name is one of these
 met_name : (stop : Option (Text × List Text)) (r : Text × List Row) → entered (built extremes_app) stop ≡ Some r
     → IsName r.0
 met_name None r e = absurd cc
@@ -146,7 +146,7 @@ met_same a b rows others e = (
   ap (λ (q : Option (Text × List Row)). (unwrap_or q (a, rows)).1) e,
 )
 
--- parts have two papers each
+-- each part has a report and a certificate
 pub paths-even : (parts : List Part) → length (paths_of parts) % 2 ≡ 0
 paths-even [] = refl
 paths-even (p ∷ ps) = let rest = paths-even ps in omega (arith, rest)
@@ -155,7 +155,7 @@ paths-even (p ∷ ps) = let rest = paths-even ps in omega (arith, rest)
 first_code : (a : ℕ) (more bs : List ℕ) → a ∷ more ≡ bs → a ≡ get_or bs 0 a
 first_code a more bs e = ap (λ (t : List ℕ). get_or t 0 a) e
 
--- so the papers of a command that merges stand in pairs
+-- so the reports and certificates of a command that merges come in pairs
 merges-pairs : (name : Text) (rows : List Row) (c : Command) → IsCommand name rows c → name ≡ codes "merge"
     → AreInPairs rows
 merges-pairs name rows c (inl is) e = let bad : 109 ≡ 114 = first_code _ _ _ (sym e ∙ is.0) in absurd
@@ -171,8 +171,8 @@ merges-pairs name rows (Describe stations files) (inr (inl is)) e = absurd is.1
 merges-pairs name rows (Merge query certificate parts) (inr (inl is)) e =
     ap (λ (ps : List Text). length ps % 2) (sym is.1.2) ∙ paths-even parts.items
 
--- words without an error in which a subcommand was met by this name, with these rows after it, name the command that
--- is read of the rows
+-- arguments without an error in which a subcommand was met by this name, with these rows after it, name the command
+-- that is read of the rows
 pub command-met : {Z : Type 0} (words : List Text) (o : Option (Box SubCommand Z)) (name : Text) (rows : List Row)
     (c : Command) → fault_of extremes_app words ≡ [] → subcommand_rows o ≡ subcommand_of extremes_app words
     → name_met o ≡ Some name → option_map (λ p. p.1) (subcommand_rows o) ≡ Some rows → IsCommand name rows c
@@ -192,7 +192,7 @@ command-met words o name rows c read rows_are met behind is =
       named = is;
     }
 
--- so do papers that are lent, if those of the rows do
+-- so do reports and certificates that are lent, if those of the rows do
 pub lent-pairs : (papers : List (Bor Text)) (rows : List Row) → map (λ s. s.now) papers ≡ papers_to_merge rows
     → AreInPairs rows → length papers % 2 ≡ 0
 lent-pairs papers rows same pairs =

@@ -1,4 +1,4 @@
--- Papers that are taken two by two.
+-- Reports and certificates that are taken two by two.
 use Rattle.std.proofs.Common.{◌≡◌, ℕ, List, ◌++◌, length, ◌%◌, map}
 use denote.Ref.{Bor}
 use Rattle.clap.specs.Words.{Text}
@@ -9,7 +9,7 @@ use Rattle.command_line.specs.CommandLine.{paths_of}
 abbrev pub texts : List (Bor Text) → List Text
 texts papers = map (λ s. s.now) papers
 
--- of some papers all but the rest are those of parts, and the rest is to be taken two by two
+-- of some reports and certificates all but the rest are those of parts, and the rest is to be taken two by two
 pub record HasPaired (papers rest : List (Bor Text)) (size : ℕ) (parts : List Part) : Type 0 where
   pub two : size ≡ 2
   pub even : length rest % 2 ≡ 0

@@ -1,4 +1,4 @@
--- What the words of a command line ask for, in `clap`'s words.
+-- What the arguments ask for, in the terms of `clap`.
 use Rattle.std.specs.Prelude.{◌≡◌, ◌⊎◌, List, [], ◌∷◌, map, codes, Option, Some, None, unwrap_or, Bool, true, false}
 use Rattle.std.specs.Prelude.{String, string_bytes, ⊤}
 use Rattle.std.specs.Prelude.{length, ◌%◌, ℕ, ◌<◌, ◌^◌, ℤ, pos, negsuc, FitsSigned}
@@ -66,7 +66,7 @@ rank_app = with_rule (with_rule (with_rule (with_rule (with_rule (with_rule (new
     (parsed whole_number (option_of (codes "guess"))))
     (option_of (codes "certificate"))) (many_of (codes "files"))
 
--- `merge` with its options, of which the query must be given, and papers
+-- `merge` with its options, of which the query must be given, and the reports and certificates of parts
 abbrev pub merge_app : App
 merge_app = with_rule (with_rule (with_rule (new_app (codes "merge"))
     (required (option_of (codes "query"))))
@@ -97,11 +97,11 @@ extremes_app = with_subcommand (with_subcommand (with_subcommand (with_subcomman
   };
 }) rank_app.top) merge_app.top) check_app.top) describe_app.top
 
--- all words, the program's name first
+-- all arguments, the program's name first
 abbrev pub all_words : {A : Type 0} → List (String A) → List Text
 all_words words = codes "extremes" ∷ map (λ w. string_bytes w) words
 
--- the papers that `merge` is given, in their order
+-- the reports and certificates that `merge` is given, in their order
 abbrev pub papers_to_merge : List Row → List Text
 papers_to_merge rows = unwrap_or (all_of (codes "papers") rows) []
 
@@ -109,7 +109,8 @@ papers_to_merge rows = unwrap_or (all_of (codes "papers") rows) []
 abbrev pub AreInPairs : List Row → Type 0
 AreInPairs rows = length (papers_to_merge rows) % 2 ≡ 0
 
--- the words are a right command line: `clap` has no error to tell, and papers to merge stand in pairs
+-- the arguments are a valid command line: `clap` has no error to report, and reports and certificates to merge come in
+-- pairs
 pub record AreRightWords (words : List Text) : Type 0 where
   pub read : fault_of extremes_app words ≡ []
   pub paired : (rows : List Row) → subcommand_of extremes_app words ≡ Some (codes "merge", rows) → AreInPairs rows
@@ -128,11 +129,11 @@ IsCount (Some text) None =
 IsCount (Some text) (Some number) =
     IsNumeral 10 (without_leading_plus text) × (number ≡ digits_value 10 (without_leading_plus text))
 
--- that many workers are given by the text, or there are 4 if no text is given
+-- the text writes that many workers; there are 4 if no text is given
 abbrev pub AreWorkers : Option Text → ℕ → Type 0
 AreWorkers text workers = (given : Option ℕ) × IsCount text given × (workers ≡ unwrap_or given 4)
 
--- a flag is on if its text is `true`, which it is given if the flag stands, and off if it is `false` or none
+-- a flag is on if its text is `true`, which `clap` sets if the flag is given, and off if it is `false` or there is none
 abbrev pub IsFlag : Option Text → Bool → Type 0
 IsFlag None on = on ≡ false
 IsFlag (Some text) on = (text ≡ codes "true" → on ≡ true) × (text ≡ codes "false" → on ≡ false)
@@ -151,11 +152,11 @@ IsRank rows (Rank stations query workers guess certificate files) =
     × (option_map (λ s. string_bytes s) certificate ≡ first_of (codes "certificate") rows)
     × (map (λ s. string_bytes s) files.items ≡ unwrap_or (all_of (codes "files") rows) [])
 
--- the paths of the papers of parts, those of a part side by side
+-- the paths of the reports and certificates of parts, those of a part side by side
 abbrev pub paths_of : List Part → List Text
 paths_of parts = flat_map (λ p. string_bytes p.report ∷ string_bytes p.certificate ∷ []) parts
 
--- the same for a subcommand that merges papers
+-- the same for a subcommand that merges parts
 abbrev pub IsMerge : List Row → Command → Type 0
 IsMerge rows Sample = ⊥
 IsMerge rows (Rank stations query workers guess certificate files) = ⊥
@@ -166,7 +167,7 @@ IsMerge rows (Merge query certificate parts) =
     × (option_map (λ s. string_bytes s) certificate ≡ first_of (codes "certificate") rows)
     × (paths_of parts.items ≡ papers_to_merge rows)
 
--- the same for a subcommand that judges papers
+-- the same for a subcommand that checks a report and a certificate
 abbrev pub IsCheck : List Row → Command → Type 0
 IsCheck rows Sample = ⊥
 IsCheck rows (Merge query certificate parts) = ⊥
@@ -196,7 +197,7 @@ IsCommand name rows c = ((name ≡ codes "rank") × IsRank rows c)
     ⊎ (((name ≡ codes "merge") × IsMerge rows c)
     ⊎ (((name ≡ codes "check") × IsCheck rows c) ⊎ ((name ≡ codes "describe") × IsDescribe rows c)))
 
--- the words are right and name a subcommand, and the command has what `clap` reads after it
+-- the arguments are valid and name a subcommand, and the command has what `clap` reads after it
 pub record IsCommandOf (words : List Text) (c : Command) : Type 0 where
   pub name : Text
   pub rows : List Row
@@ -204,11 +205,11 @@ pub record IsCommandOf (words : List Text) (c : Command) : Type 0 where
   pub entered : subcommand_of extremes_app words ≡ Some (name, rows)
   pub named : IsCommand name rows c
 
--- the words ask for the version: that is all that `clap` has to tell of them
+-- the arguments ask for the version: that is all that `clap` has to report about them
 abbrev pub AskVersion : List Text → Type 0
 AskVersion words = fault_of extremes_app words ≡ DisplayVersion ∷ []
 
--- the version is among what `clap` may have to tell of the words
+-- the version is among what `clap` may have to report about the arguments
 abbrev pub MayAskVersion : List Text → Type 0
 MayAskVersion words = IsAmong DisplayVersion (fault_of extremes_app words)
 

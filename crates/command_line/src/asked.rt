@@ -32,7 +32,7 @@ pub enum Command {
         query: String,
         report: String,
         certificate: String,
-        /// Whether the files are a part of those that the report and the certificate are of.
+        /// Whether the files are a part of those that the report and the certificate cover.
         part: bool,
         files: Vec<String>,
     },

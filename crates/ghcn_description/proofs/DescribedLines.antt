@@ -54,7 +54,7 @@ five R (a ∷ b ∷ c ∷ d ∷ []) h = absurd h.1.1.1.1
 five R (a ∷ b ∷ c ∷ d ∷ e ∷ []) h = (a, b, c, d, e, refl)
 five R (a ∷ b ∷ c ∷ d ∷ e ∷ f ∷ cs) h = absurd h.1.1.1.1.1
 
--- what is true of each of five counts and its element is true where that of one element is another
+-- what is true of each of five counts and its element stays so if the count of one element is replaced
 five-set : (P Q : ElementCounts → Element → Type 0) (x : Element) (a b c d e was new : ElementCounts)
     → AllZip P (a ∷ b ∷ c ∷ d ∷ e ∷ []) elements
     → ((v : ElementCounts) (y : Element) → same_element x y ≡ false → P v y → Q v y)
@@ -87,11 +87,11 @@ below-five Snwd = omega arith
 below-five Tmax = omega arith
 below-five Tmin = omega arith
 
--- tests that agree answer the same of the elements
+-- tests that agree return the same for the elements
 five-agree : (g h : Element → Bool) → ((x : Element) → g x ≡ h x) → map g elements ≡ map h elements
 five-agree g h same = rw (same Prcp, same Snow, same Snwd, same Tmax, same Tmin) refl
 
--- of which elements the station of an ID has a fact, if it stands
+-- of which elements the station of an ID has a fact, if it is listed
 found-bits : (facts : List Fact) (id : StationId) (ss : List Station) (k : ℕ)
     → position_or_len (is_station_of id) ss ≡ k → k < length ss
     → get_or (map (elements_with facts) ss) k [] ≡ map (has_fact facts id) elements
@@ -115,7 +115,7 @@ zip-weaker P Q [] (y ∷ ys) f h = absurd h
 zip-weaker P Q (x ∷ xs) [] f h = absurd h
 zip-weaker P Q (x ∷ xs) (y ∷ ys) f h = (f x y h.0, zip-weaker P Q xs ys f h.1)
 
--- the counts of the elements where one has a month more
+-- the counts of the elements if one has a month more
 elements-more : (stations : List Station) (ls : List FileLine) (l : FileLine) (m : Month) → month_on l ≡ Some m
     → is_listed stations m.id ≡ true → IsDistinct same_id (ids stations) → (cs : List ElementCounts)
     (was new : ElementCounts) → AllZip (AreCounts stations ls) cs elements
@@ -154,7 +154,7 @@ month-line true e line m is = absurd cc
 month-line false None line m is = absurd cc
 month-line false (Some x) line m is = refl
 
--- a line without an error that is no month has another code
+-- a line without an error that isn't a month has another code
 other-line : (short : Bool) (e : Option Element) (line : List ℕ) → cond short (Err Short) (month_if e line) ≡ Ok None
     → (short ≡ false) × (not (is_some e) ≡ true)
 other-line true e line is = absurd cc
@@ -268,7 +268,7 @@ module _ (stations : List Station) (keep : Keep) (ls : List FileLine) (l : FileL
         }
 
   module _ (read : read_month l.bytes ≡ Ok None) where
-    -- the line is no month
+    -- the line isn't a month
     no-month : filter_map month_on after ≡ filter_map month_on ls
     no-month =
         filter_map-append month_on ls (l ∷ [])

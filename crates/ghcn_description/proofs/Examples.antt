@@ -20,12 +20,12 @@ other_codes : (length (all_lines files) ≡ 3) × (blank_lines files ≡ 1) × (
     × (lines_with ls (codes "WESD") ≡ 1) × (lines_with ls (codes "W??D") ≡ 1) × (lines_with ls (codes "PRCP") ≡ 0)
 other_codes = (refl, refl, refl, refl, refl, refl, refl)
 
--- a code of the five elements is no other one
+-- a code of the five elements isn't another one
 of_elements :
     map is_other (file_line 1 (1, codes "ZZA00000001202007TMAX") ∷ file_line 1 (2, codes "ZZA00000001202007tmax") ∷ [])
     ≡ false ∷ true ∷ []
 of_elements = refl
 
--- no further code is no line
+-- if no line has a further code, there is no text line for such codes
 no_further : further_line 0 ≡ []
 no_further = refl

@@ -148,7 +148,7 @@ ones-of_row m row right of =
 le_test : (a b : ℤ) → a ≤ℤ b → int_le a b ≡ true
 le_test a b le = grind (arith, ints)
 
--- of two days of a month, the one at the later place is as many days later as their places are apart, and is of the
+-- of two days of a month, the one at the later place is as many days later as their places are apart, and is in the
 -- calendar
 day-behind : (y m j k : ℕ) (x z : ℤ) → j ≤ k → day_number y m (j + 1) ≡ Some x → day_number y m (k + 1) ≡ Some z
     → (z ≡ x +ℤ pos (k - j)) × (day_if (x +ℤ pos (k - j)) ≡ Some z)
@@ -281,7 +281,7 @@ row-span m row low high span right of low_set below high_set above at_first at_l
     not_above j set (inl lt) = absurd (let clear = above j lt in omega (arith, set, clear))
     not_above j set (inr le) = le
 
--- the day of a bit is of the calendar
+-- the day of a bit is in the calendar
 pub marked-day : (m : Month) (row : MonthRow) (j : ℕ) → IsMonth m → IsRowOf true m row → bit_at row.word j ≡ 1
     → day_number row.year row.month (j + 1) ≡ None → ⊥
 marked-day m row j right of set none =
@@ -312,7 +312,7 @@ marked-behind m row low high first right of le set at =
     let last = marked-there m row high right of set in
     (day-behind row.year row.month low high first last.0 le at last.1).1 ∙ sym last.1
 
--- a word without bits is of a month without a usable day
+-- a word without bits belongs to a month without a usable day
 pub none-usable : (m : Month) (row : MonthRow) → IsMonth m → IsRowOf true m row → row.word ≡ 0 → days_of_month m ≡ []
 none-usable m row right of zero_word =
     no-days (days_of_month m) (sym (ones-of_row m row right of) ∙ ap count_ones zero_word ∙ no-ones)
@@ -421,7 +421,7 @@ zero-together zero (suc n) f g = absurd (let bad = f refl in cc)
 zero-together (suc w) zero f g = absurd (let bad = g refl in cc)
 zero-together (suc w) (suc n) f g = grind (arith, nat_tests)
 
--- a row's word has a bit where its month has a usable day
+-- a row's word has a bit if its month has a usable day
 pub word-has_day : (m : Month) (row : MonthRow) → IsMonth m → IsRowOf true m row → not (row.word == 0) ≡ has_day m
 word-has_day m row right of =
     let ones = ones-of_row m row right of in

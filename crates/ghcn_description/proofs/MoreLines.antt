@@ -47,7 +47,7 @@ AreOfMonth m fs = AllByRecursion (OfMonth m) fs
 abbrev usable_among : List Station → Month → List (ℕ × Reading) → List Fact
 usable_among stations m xs = filter (is_usable stations) (filter_map (fact_of m) xs)
 
--- they are of its station and element
+-- they belong to its station and element
 own-facts : (stations : List Station) (m : Month) (xs : List (ℕ × Reading)) → AreOfMonth m (usable_among stations m xs)
 own-facts stations m [] = tt
 own-facts stations m (x ∷ xs) =
@@ -125,7 +125,7 @@ abbrev pub some : {A : Type 0} → List A → Bool
 some [] = false
 some (x ∷ xs) = true
 
--- of facts of a month, one is of a station and element where there is one and the month is
+-- of facts of a month, one belongs to a station and element if there is one and the month does
 of-series : (m : Month) (id : StationId) (e : Element) (fs : List Fact) → AreOfMonth m fs
     → has_fact fs id e ≡ ((same_id m.id id && same_element m.element e) && some fs)
 of-series m id e [] of = go (same_id m.id id && same_element m.element e)
@@ -159,7 +159,7 @@ any-left p (x ∷ xs) = go (p x) (any-left p xs)
     go true h = ap not (not_zero (length (filter p xs)))
     go false h = h
 
--- a series has a day where a fact is of it
+-- a series has a day if a fact belongs to it
 has-days : (facts : List Fact) (id : StationId) (e : Element)
     → not (length (days_of facts id e) == 0) ≡ has_fact facts id e
 has-days facts id e =
@@ -167,7 +167,7 @@ has-days facts id e =
     ap (λ n. not (n == 0)) (length-sorted (map (λ f. (f.day, f.value)) mine) ∙ length-map mine (λ f. (f.day, f.value)))
     ∙ any-left (λ f. same_id f.id id && same_element f.element e) facts
 
--- one element more is counted where it is left and passes
+-- one element more is counted if it is kept and passes
 count-left : {A : Type 0} (p q : A → Bool) (x : A) (xs : List A)
     → count_by p (filter q (x ∷ xs)) ≡ cond (q x && p x) 1 0 + count_by p (filter q xs)
 count-left p q x xs = elim (q x) as
@@ -181,12 +181,12 @@ nothing : (b : Bool) → cond {A = ℕ} (b && false) 1 0 ≡ 0
 nothing true = refl
 nothing false = refl
 
--- what passes it counts where it is left
+-- what passes the test counts if it is kept
 something : (b : Bool) → cond {A = ℕ} (b && true) 1 0 ≡ cond b 1 0
 something true = refl
 something false = refl
 
--- of five, one is of an element
+-- of five, one belongs to an element
 one-of-five : (e : Element) (h : Element → Bool)
     → cond {A = ℕ} (h Prcp && same_element Prcp e) 1 0 + (cond {A = ℕ} (h Snow && same_element Snow e) 1 0
     + (cond {A = ℕ} (h Snwd && same_element Snwd e) 1 0 + (cond {A = ℕ} (h Tmax && same_element Tmax e) 1 0
@@ -203,7 +203,7 @@ one-of-five Tmin h =
     omega (arith, nothing (h Prcp), nothing (h Snow), nothing (h Snwd), nothing (h Tmax), something (h Tmin))
 
 module _ (facts : List Fact) (e : Element) where
-  -- the series is of the element
+  -- the series belongs to the element
   abbrev of_it : Usable → Bool
   of_it u = same_element u.element e
 
@@ -211,7 +211,7 @@ module _ (facts : List Fact) (e : Element) where
   abbrev with_day : Usable → Bool
   with_day u = not (length u.days == 0)
 
-  -- of five series of a station, that of an element counts where it has a day
+  -- of five series of a station, that of an element counts if it has a day
   one-series : (s : Station) → count_by of_it (filter with_day (map (usable_of facts s) elements))
       ≡ cond (has_fact facts s.id e) 1 0
   one-series s =
@@ -282,7 +282,7 @@ counts-once f b id (s ∷ ss) apart =
         or_nothing true = refl
         or_nothing false = refl
 
--- where two functions of stations differ at one alone
+-- if two functions of stations differ at one alone
 pub changed-at : {A : Type 0} (f g : Station → A) (h : A → A) (d : A) (id : StationId) (ss : List Station) (k : ℕ)
     → IsDistinct same_id (ids ss) → position_or_len (is_station_of id) ss ≡ k → k < length ss
     → ((s : Station) → same_id s.id id ≡ false → g s ≡ f s) → ((s : Station) → same_id s.id id ≡ true → g s ≡ h (f s))
@@ -330,7 +330,7 @@ bit-set Tmin h b = rw (or_false (h Prcp), or_false (h Snow), or_false (h Snwd), 
 
 -- ---- one more line
 
--- there is one where their number isn't nothing
+-- there is one if their number isn't nothing
 some-is : {A : Type 0} (xs : List A) → some xs ≡ not (length xs == 0)
 some-is [] = refl
 some-is (x ∷ xs) = sym (ap not (not_zero (length xs)))
@@ -403,7 +403,7 @@ module _ (stations : List Station) (ls : List FileLine) (l : FileLine) (m : Mont
       }
 
   module _ (listed : is_listed stations m.id ≡ true) (apart : IsDistinct same_id (ids stations)) where
-    -- there are facts where there are usable days
+    -- there are facts if there are usable days
     some-own : some own ≡ has_day m
     some-own =
         let days = own-days stations m (enumerate_from 1 m.days) listed in
@@ -431,7 +431,7 @@ module _ (stations : List Station) (ls : List FileLine) (l : FileLine) (m : Mont
         (of-element m e own (own-facts stations m (enumerate_from 1 m.days))
         ∙ ap (λ ds. cond (same_element m.element e) ds []) (own-days stations m (enumerate_from 1 m.days) listed))
 
-    -- its series is one more where it had no usable day and the month has one
+    -- its series is one more if it had no usable day and the month has one
     series-more : (e : Element) → series_of_element stations after e ≡ series_of_element stations ls e
         + cond ((same_element m.element e && has_day m) && not (has_fact (usable_facts stations ls) m.id e)) 1 0
     series-more e =
@@ -494,7 +494,7 @@ module _ (stations : List Station) (ls : List FileLine) (l : FileLine) (m : Mont
           span = subst (λ ds. IsSpan ds new.span) (sym days) (adds.span (days_of_element stations ls e) of.span);
         }
 
--- a line that is no month adds nothing to an element
+-- a line that isn't a month adds nothing to an element
 pub same-months : (stations : List Station) (ls more : List FileLine) (c : ElementCounts) (e : Element)
     → filter_map month_on more ≡ filter_map month_on ls → AreCounts stations ls c e → AreCounts stations more c e
 same-months stations ls more c e same of =

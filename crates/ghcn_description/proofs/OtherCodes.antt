@@ -645,7 +645,7 @@ all-drop P (x ∷ xs) zero h = (
 )
 all-drop P (x ∷ xs) (suc i) h = all-drop P xs i (λ k d low lt. h (suc k) d (omega arith) (omega arith))
 
--- if a search answers a place for a code, it belongs there
+-- if a search returns a place for a code, it belongs there
 pub place-is : (code : List ℕ) (cs : List CodeCount) (i : ℕ) → i ≤ length cs
     → IsPartitionPoint (λ c. slice_cmp nat_cmp c.code code ≡ Less) (λ c. slice_cmp nat_cmp c.code code ≡ Greater) cs i
     → IsPlaceOf code cs i

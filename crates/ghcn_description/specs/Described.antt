@@ -81,7 +81,7 @@ IsBehind codes l = IsTrue (is_other l && not (has_code_among codes l))
 abbrev pub IsCounted : List FileLine → CodeCount → Type 0
 IsCounted ls c = (0 < c.lines) × (c.lines ≡ lines_with ls c.code)
 
--- the least codes that are none of the five elements' are counted so, and that many lines have further ones
+-- the smallest codes that are none of the five elements' are counted so, and that many lines have further ones
 pub record AreOthers (ls : List FileLine) (counts : List CodeCount) (further : ℕ) : Type 0 where
   pub few : length counts ≤ most_codes
   pub rising : IsStrictlySortedBy (slice_cmp nat_cmp) (codes_of counts)

@@ -33,7 +33,7 @@ use Rattle.ghcn_description.specs.Steps.{CountsMonth, has_day}
 
 -- ---- lines
 
--- some fact is of this station and element
+-- some fact belongs to this station and element
 abbrev pub has_fact : List Fact → StationId → Element → Bool
 has_fact facts id e = list_any (λ f. same_id f.id id && same_element f.element e) facts
 
@@ -41,7 +41,7 @@ has_fact facts id e = list_any (λ f. same_id f.id id && same_element f.element 
 abbrev pub elements_with : List Fact → Station → List Bool
 elements_with facts s = map (has_fact facts s.id) elements
 
--- a describer has read these lines for these stations, and counted what stands on them
+-- a describer has read these lines for these stations, and counted what is on them
 pub record HasDescribed (d : Describer) (stations : List Station) (keep : Keep) (ls : List FileLine) : Type 0 where
   pub read : HasReadFor d.reader stations nothing ls
   pub counts : AllZip (AreCounts stations ls) d.elements elements

@@ -1,4 +1,4 @@
--- The lines of daily files by what stands on them.
+-- The lines of daily files by what is on them.
 use Rattle.std.specs.Prelude.{ℕ, Bool, ◌&&◌, not, if◌then◌else◌, List, map}
 use Rattle.std.specs.List.{filter_map, count_by}
 use Rattle.ghcn_fields.specs.Bytes.{same_bytes}
@@ -11,7 +11,7 @@ use Rattle.ghcn_files.specs.Elements.{same_element}
 use Rattle.ghcn_series.specs.DailyFaults.{FileLine, month_on, is_listed}
 use Rattle.ghcn_series.specs.LineKinds.{has_element}
 
--- the month is of a listed station and of this element
+-- the month belongs to a listed station and to this element
 abbrev pub is_listed_of : List Station → Element → Month → Bool
 is_listed_of stations e m = is_listed stations m.id && same_element m.element e
 

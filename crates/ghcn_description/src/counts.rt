@@ -16,11 +16,11 @@ pub struct Description {
     pub lines: u64,
     /// Of the five elements, in their order.
     pub elements: [ElementCounts; 5],
-    /// The least codes that are none of the five elements', by increasing bytes.
+    /// The smallest codes that are none of the five elements', by increasing bytes.
     pub others: Vec<CodeCount>,
     /// How many lines have a code after those.
     pub further: u64,
-    /// How many lines of the five elements are of stations that aren't listed.
+    /// How many lines of the five elements belong to stations that aren't listed.
     pub unlisted: u64,
     pub blank: u64,
     /// The foreign files, which the text doesn't name, and the odd lines, which it counts.

@@ -1,4 +1,4 @@
-//! Counts what stands on the lines of daily files.
+//! Counts what is on the lines of daily files.
 
 ghost use Rattle.std.specs.Prelude.{◌≡◌, ◌<◌, [], true, length, IfOk, OnOk};
 ghost use Rattle.ghcn_files.specs.declared.element.Keep.{Keep};
@@ -28,11 +28,11 @@ pub struct Describer {
     /// Of the five elements, in their order.
     elements: [ElementCounts; 5],
     others: Others,
-    /// How many lines of the five elements are of stations that aren't listed.
+    /// How many lines of the five elements belong to stations that aren't listed.
     unlisted: u64,
 }
 
-/// Reads lines as rows, and counts what stands on them.
+/// Reads lines as rows, and counts what is on them.
 #[derive(Drop)]
 pub struct RowDescriber {
     months: MonthReader,

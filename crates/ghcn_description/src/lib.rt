@@ -1,7 +1,7 @@
-//! What daily files hold: how many lines, series and usable days of each element, and what else
-//! stands in them.
+//! What daily files hold: how many lines, series and usable days of each element, and what else is
+//! in them.
 //!
-//! It stands on the lines that are cut of files, and on the reader that notes which months were seen.
+//! It uses the lines that are cut from files, and the reader that notes which months were seen.
 #![tactic(auto)]
 
 mod counts;

@@ -20,7 +20,7 @@ const MOST_CODES: usize = 200;
 /// The columns, from 0, of a line's code.
 const CODE: usize = 17;
 
-/// The least codes that were found, with their numbers of lines.
+/// The smallest codes that were found, with their numbers of lines.
 #[derive(Drop)]
 pub(crate) struct Others {
     /// By increasing bytes.

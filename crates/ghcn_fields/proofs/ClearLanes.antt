@@ -1,4 +1,4 @@
--- Two number fields of five columns each, tested by lanes that are 0 if a column may stand where it does.
+-- Two number fields of five columns each, tested by lanes that are 0 if a column may be where it is.
 use Rattle.std.proofs.Common.{◌≡◌, ℕ, ◌+◌, ◌-◌, ◌%◌, ◌^◌, ◌≤◌, zero, suc, Bool, true, false, cond, List, [], ◌∷◌}
 use Rattle.std.proofs.Common.{◌++◌, get_or}
 use Rattle.std.proofs.Common.{refl, sym, ap, ap₂, ◌∙◌, arith, ltb, eqb, w8, length, map}
@@ -41,7 +41,7 @@ past b =
     let digit : ℕ = less b 48 in
     less (cond (top 7 (mark (ltb digit 9))) 9 digit) 9
 
--- what a byte's lane says, by the next byte, and what else may stand before a digit
+-- what a byte's lane says, by the next byte, and what else may come before a digit
 abbrev lane : ℕ → ℕ → ℕ → ℕ
 lane b next minus = least (less b 32) (bit_or (least (less b minus) (past b)) (past next))
 
@@ -121,7 +121,7 @@ two_clear a b c d e f g h i j k l m n o p la lb lc ld le li lj lk ll lm =
 abbrev field : Bool → ℕ
 field behind = cond behind 0 255
 
--- a lane of no field is none, and any other as it was
+-- a lane of no field is 0, and any other as it was
 and-field : (behind : Bool) (n : ℕ) → n ≤ 255 → (bit_and n (field behind) == 0) ≡ (behind || (n == 0))
 and-field true n most = ap (λ (m : ℕ). m == 0) (and_zero_r n)
 and-field false n most = ap (λ (m : ℕ). m == 0) (and_mask n 8 ∙ mod-eq_of_lt (omega (arith, most)))

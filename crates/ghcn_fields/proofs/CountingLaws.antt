@@ -1,4 +1,4 @@
--- Laws of counting: what follows if numbers stand once in a list, and in two lists together.
+-- Laws of counting: what follows if numbers occur once in a list, and in two lists together.
 use Rattle.std.proofs.Common.{◌≡◌, ◌≢◌, ℕ, zero, suc, ◌+◌, ◌*◌, ◌<◌, ◌≤◌, ◌==◌, cond, List, [], ◌∷◌, ◌++◌, length, All}
 use Rattle.std.proofs.Common.{Contains, count_by, sum_by, refl, sym, ap, subst, ◌∙◌, inl, inr, arith, eq-eqb, ne_eqb}
 use Rattle.std.proofs.lemmas.List.Elements.{All-nil, All-cons, All-head, All-tail, Contains-append_right}
@@ -30,7 +30,7 @@ times_below-suc x n m e = grind arith
 pub below_if_one : (x n : ℕ) → 0 < times_below x n → x < n
 below_if_one x n one = grind arith
 
--- a number below n stands there once
+-- a number below n occurs there once
 pub times_below-yes : (x n : ℕ) → x < n → times_below x n ≡ 1
 times_below-yes x n below = grind arith
 
@@ -66,11 +66,11 @@ module _ {A : Type 0} (number : A → ℕ) where
 times-cons : (x y : ℕ) (ys : List ℕ) → times x (y ∷ ys) ≡ one_if_equal y x + times x ys
 times-cons x y ys = count-cons (λ z. z) x y ys
 
--- a number stands in two lists, one after the other, as often as in both
+-- a number occurs in two lists, one after the other, as often as in both
 pub times-append : (x : ℕ) (xs ys : List ℕ) → times x (xs ++ ys) ≡ times x xs + times x ys
 times-append x xs ys = sum_by-append (λ y. one_if_equal y x) xs ys
 
--- a number below n doesn't stand among numbers from n on
+-- a number below n doesn't occur among numbers from n on
 pub times-none_below : (n x : ℕ) (xs : List ℕ) → All (λ y. n ≤ y) xs → x < n → times x xs ≡ 0
 times-none_below n x [] all below = refl
 times-none_below n x (y ∷ ys) all below =
@@ -101,7 +101,7 @@ sum_below-same f g (suc n) each =
 once_of : (a m : ℕ) → a ≡ 1 → a * m ≡ m
 once_of a m e = grind arith
 
--- and no times a number is none
+-- and zero times a number is zero
 never_of : (a m : ℕ) → a ≡ 0 → a * m ≡ 0
 never_of a m e = ap (λ (x : ℕ). x * m) e ∙ omega arith
 
@@ -116,7 +116,7 @@ sum_below-one f y (suc n) below = elim (cases_eq y n) [
   | inr apart ↦ grind (arith, sum_below-one f y n, never_of, one_if_equal-apart)
 ]
 
--- a sum over a list of numbers below n, by how often each stands there
+-- a sum over a list of numbers below n, by how often each occurs there
 total-times : (f : ℕ → ℕ) (n : ℕ) (xs : List ℕ) → All (λ x. x < n) xs
     → sum_below (λ x. times x xs * f x) n ≡ sum_by f xs
 total-times f n [] all = sum_below-none (λ x. 0 * f x) n (λ x below. omega arith)

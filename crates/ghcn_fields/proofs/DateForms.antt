@@ -1,4 +1,4 @@
--- Which texts are no dates, by their form, and what the places of a date hold.
+-- Which texts aren't dates, by their form, and what the places of a date hold.
 use Rattle.std.proofs.Common.{◌≡◌, ℕ, ◌-◌, ◌<◌, List, length, take, drop, get_or, Some, None, sym, ap, ◌∙◌, arith}
 use Rattle.std.specs.Prelude.{◌≢◌, ◌^◌}
 use Rattle.std.proofs.lemmas.Grind.{common_steps}
@@ -9,7 +9,7 @@ use Rattle.ghcn_fields.specs.Dates.{read_date}
 use Rattle.ghcn_fields.proofs.DateDigits.{natural-lt, short_natural, four_are_some, two_are_some}
 use Rattle.ghcn_fields.proofs.DateTexts.{read_date-none}
 
--- a text of another length isn't a date, and one without its dashes and digits is none
+-- a text of another length isn't a date, and one without its dashes and digits isn't one either
 pub other_length : (bytes : List ℕ) → length bytes ≢ 10 → read_date bytes ≡ None
 other_length bytes other = read_date-none bytes (λ y m d e. absurd (other (ap length e)))
 

@@ -29,7 +29,7 @@ no_point (d ∷ ds) digits =
     let parts = and_parts (is_ascii_digit d) (list_all is_ascii_digit ds) digits in
     rw (no_point_digit d parts.0) (no_point ds parts.1)
 
--- the first point stands after the digits before it
+-- the first point comes after the digits before it
 point_at : (ds rest : List ℕ) → list_all is_ascii_digit ds ≡ true
     → position_or_len is_point (ds ++ 46 ∷ rest) ≡ length ds
 point_at [] rest digits = refl
@@ -73,7 +73,7 @@ part_text-some part some = grind arith
 map-some : (f : ℕ → ℕ) (o : Option ℕ) (n : ℕ) → option_map f o ≡ Some n → (m : ℕ) × (o ≡ Some m) × (n ≡ f m)
 map-some f o n e = grind arith
 
--- a point that is there stands before the end
+-- a point that is there comes before the end
 point_before_end : (text : List ℕ) → list_any is_point text ≡ true → position_or_len is_point text < length text
 point_before_end [] e = absurd cc
 point_before_end (b ∷ bytes) e = grind (arith, nat_tests, point_before_end bytes)
@@ -175,7 +175,7 @@ signed-from_spells places text v s = grind (arith, nat_tests, signed_parts)
 same_number : (o p : Option ℕ) → ((n : ℕ) → o ≡ Some n → p ≡ Some n) → ((n : ℕ) → p ≡ Some n → o ≡ Some n) → o ≡ p
 same_number o p to from = grind arith
 
--- without places no digits stand after a point
+-- without places no digits come after a point
 natural-from_writes : (text : List ℕ) (n : ℕ) (whole part : List ℕ) → text ≡ whole ++ part_text part
     → 1 ≤ length whole → list_all is_ascii_digit (whole ++ part) ≡ true → length part ≤ 0
     → n ≡ digits_value 10 whole * 10 ^ 0 + digits_value 10 part * 10 ^ (0 - length part) → natural text ≡ Some n

@@ -1,4 +1,4 @@
--- Decimal numbers: where the point stands, and what is too great.
+-- Decimal numbers: where the point is, and what is too great.
 use Rattle.std.proofs.Common.{◌≡◌, ℕ, ◌+◌, ◌*◌, ◌^◌, ◌≤◌, Bool, true, false, List, length}
 use Rattle.std.proofs.Common.{take, drop, get_or, Option, Some, None, arith}
 use Rattle.std.specs.Prelude.{◌≢◌, ◌==◌, if◌then◌else◌}
@@ -30,7 +30,7 @@ pub decimal_number-whole : (places : ℕ) (text : List ℕ) → IsFirstByte (is_
 decimal_number-whole places text nowhere = decimal_number-by places text (list_any_none is_point text
     (λ k d lt. grind (arith, nat_tests, get_or_default)))
 
--- the first point stands between the whole part and the part after it
+-- the first point is between the whole part and the part after it
 pub decimal_number-point : (places : ℕ) (text : List ℕ) (point : ℕ) → IsFirstByte (is_byte 46) text (Some point)
     → decimal_number places text ≡ joined places (natural (take point text)) (natural (drop (point + 1) text))
     (length (drop (point + 1) text))

@@ -109,7 +109,7 @@ four_places_text : four_places (neg_ℤ (pos 910000)) ≡ codes "-91.0000"
 unfolding digits
 four_places_text = refl
 
--- 1900 was no leap year
+-- 1900 wasn't a leap year
 no_leap_day : day_number 1900 2 29 ≡ None
 no_leap_day = refl
 
@@ -139,7 +139,7 @@ read : read_date (codes "2020-07-01") ≡ Some (pos 18444)
 unfolding days_from_civil day_count days_of_years days_of_months
 read = refl
 
--- texts that are no dates
+-- texts that aren't dates
 not_read : (read_date (codes "2019-02-29") ≡ None) × (read_date (codes "2020-7-1") ≡ None)
     × (read_date (codes "2020-07-01 ") ≡ None)
 not_read = (refl, refl, refl)

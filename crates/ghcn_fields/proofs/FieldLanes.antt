@@ -21,9 +21,9 @@ use Rattle.ghcn_fields.specs.FieldForms.{five_of_eight}
 use Rattle.ghcn_fields.proofs.FieldsByForm.{field_by_form, int_field-form}
 use Rattle.ghcn_fields.proofs.FieldsByKind.{digit-small}
 
--- ---- a field whose bytes may stand where they do
+-- ---- a field whose bytes may be where they are
 
--- each byte may stand before the next, and the last one at the end
+-- each byte may come before the next, and the last one at the end
 abbrev pub may_stand : List ℕ → Bool
 may_stand [] = true
 may_stand (b ∷ []) = (b == 32) || is_ascii_digit b
@@ -65,7 +65,7 @@ five-form other a b c d e =
     rw (int_field-form (a ∷ b ∷ c ∷ d ∷ e ∷ [])) (by-form _ _ _ (digits_behind 0 (a ∷ b ∷ c ∷ d ∷ e ∷ [])) other
     (omega (arith, digit-small)))
 
--- a field of five bytes is bad if one of them may not stand where it does
+-- a field of five bytes is bad if one of them may not be where it is
 pub bad_five : (a b c d e : ℕ) → is_bad (int_field (a ∷ b ∷ c ∷ d ∷ e ∷ [])) ≡ not (may_stand (a ∷ b ∷ c ∷ d ∷ e ∷ []))
 bad_five a b c d e = (five-form (pos 0) a b c d e).0 ∙ ap not (sym (stands a (b ∷ c ∷ d ∷ e ∷ [])))
 
@@ -85,7 +85,7 @@ nearest b =
     let least = cond (top 7 (mark (ltb b 48))) 48 b in
     cond (top 7 (mark (ltb least 57))) least 57
 
--- what a byte's lane says, by the next byte, and what else may stand before a digit
+-- what a byte's lane says, by the next byte, and what else may come before a digit
 abbrev lane : ℕ → ℕ → ℕ → ℕ
 lane b next minus =
     let digits = λ (x : ℕ). cond (top 7 (mark (eqb x (nearest x)))) 255 0 in

@@ -25,7 +25,7 @@ abbrev pub by_form : List ℕ → Field
 by_form bytes =
     field_by_form (is_number_form bytes) (list_any is_minus bytes) (digits_behind 0 bytes) (is_blank bytes)
 
--- after a digit, or a minus, stand digits alone
+-- after a digit, or a minus, come digits alone
 digits_from : (c : ℕ) (bytes : List ℕ) → (is_ascii_digit c ≡ true
     → is_number_form (c ∷ bytes) ≡ list_all is_ascii_digit (c ∷ bytes))
     → (is_ascii_digit c && is_number_form (c ∷ bytes)) ≡ list_all is_ascii_digit (c ∷ bytes)
@@ -37,7 +37,7 @@ digits_on : (b : ℕ) (bytes : List ℕ) → is_ascii_digit b ≡ true
 digits_on b [] d = rw d refl
 digits_on b (c ∷ bytes) d = let more = digits_on c bytes in grind (arith, nat_tests)
 
--- if digits stand alone they write their number, and there isn't a minus
+-- if digits are alone they write their number, and there isn't a minus
 digits_behind-digits : (n : ℕ) (bytes : List ℕ) → list_all is_ascii_digit bytes ≡ true
     → digits_behind n bytes ≡ digits_value_after 10 n bytes
 digits_behind-digits n [] all = refl
@@ -48,7 +48,7 @@ digits_no_minus : (bytes : List ℕ) → list_all is_ascii_digit bytes ≡ true 
 digits_no_minus [] all = refl
 digits_no_minus (b ∷ bytes) all = grind (arith, nat_tests, digits_no_minus bytes)
 
--- digits alone, or a text that is none
+-- digits alone, or a text that isn't a number
 by_digits : (negative : Bool) (digits : Bool) (n m : ℕ) → (digits ≡ true → n ≡ m)
     → field_of (option_map (with_sign negative) (if digits then Some n else None))
     ≡ field_by_form digits negative m false

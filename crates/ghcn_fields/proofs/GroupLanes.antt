@@ -33,7 +33,7 @@ low_bits b = and_mask b 4
 lane-small : (b : ℕ) → front_lane b ≤ 15
 lane-small b = let le = and_le_r b 15 in rw (taken (eqb b 45) 0 (bit_and b 15)) (grind (arith, nat_tests, le))
 
--- a byte may stand in a field: it is a blank, a digit or a minus
+-- a byte may be in a field: it is a blank, a digit or a minus
 abbrev may_be : ℕ → Bool
 may_be b = (b == 32) || (is_ascii_digit b || (b == 45))
 
@@ -127,7 +127,7 @@ minus-count p q r s = number_l 256 (lane_if p 1 ∷ lane_if q 1 ∷ lane_if r 1 
 none-are : (p q r s : Bool) → (minus-count p q r s == 0) ≡ not (p || (q || (r || (s || (false || false)))))
 none-are p q r s = grind (arith, nat_tests)
 
--- if each byte may stand, the last one says whether they are a number
+-- if each byte may be there, the last one says whether they are a number
 last_says : (p q r s last digit : Bool) → (p && (q && (r && (s && last)))) ≡ true
     → (p && (q && (r && (s && digit)))) ≡ digit
 last_says p q r s last digit e = grind arith
@@ -153,7 +153,7 @@ abbrev of_lanes : ℤ → ℕ → ℕ → ℕ → ℕ → ℕ → ℕ → ℕ �
 of_lanes other a b c d last few some = number_if some few (size (front_lane a) (front_lane b) (front_lane c)
     (front_lane d) last) other
 
--- the bytes of a field that isn't bad may all stand there
+-- the bytes of a field that isn't bad may all be there
 each-may : (a b c d e : ℕ) → may_stand (a ∷ b ∷ c ∷ d ∷ e ∷ []) ≡ true → (may_be a ≡ true) × (may_be b ≡ true)
     × (may_be c ≡ true) × (may_be d ≡ true) × (((e == 32) || is_ascii_digit e) ≡ true)
 each-may a b c d e all = grind (arith, nat_tests, and_parts)
@@ -162,7 +162,7 @@ each-may a b c d e all = grind (arith, nat_tests, and_parts)
 blank-or-digit : (e : ℕ) → ((e == 32) || is_ascii_digit e) ≡ true → not (e == 32) ≡ is_ascii_digit e
 blank-or-digit e is = grind (arith, nat_tests)
 
--- the lanes of five columns that may stand there have what these write
+-- the lanes of five columns that may be there have what these write
 size-written : (a b c d e : ℕ) → may_be a ≡ true → may_be b ≡ true → may_be c ≡ true → may_be d ≡ true
     → is_ascii_digit e ≡ true → size (front_lane a) (front_lane b) (front_lane c) (front_lane d) (e % 16)
     ≡ digits_behind 0 (a ∷ b ∷ c ∷ d ∷ e ∷ [])

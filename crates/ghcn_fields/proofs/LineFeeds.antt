@@ -17,7 +17,7 @@ use Rattle.ghcn_fields.proofs.FieldLanes.{sixteen_set, taken}
 abbrev pub lesser : List ℕ → List ℕ → List ℕ
 lesser xs ys = sel_l (map (top 7) (zip2 (λ a b. cond (ltb a b) 255 0) xs ys)) xs ys
 
--- there are as many
+-- there are as many lesser ones as each list has
 pub length-lesser : (xs ys : List ℕ) → length xs ≡ length ys → length (lesser xs ys) ≡ length xs
 length-lesser xs ys e = grind (arith, nat_tests, length-map, length-zip2, length-sel_l)
 

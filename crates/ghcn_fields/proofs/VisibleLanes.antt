@@ -25,7 +25,7 @@ lane b = cond (top 7 (mark (eqb b (nearest b)))) 255 0
 lane-is : (b : ℕ) → leb 255 (lane b) ≡ shows b
 lane-is b = simp taken (grind (arith, nat_tests))
 
--- five lanes of sixteen stand after eleven
+-- five lanes of sixteen come after eleven
 abbrev pub behind_eleven : List Bool
 behind_eleven =
     false ∷ false ∷ false ∷ false ∷ false ∷ false ∷ false ∷ false ∷ false ∷ false ∷ false ∷ true ∷ true ∷ true ∷ true

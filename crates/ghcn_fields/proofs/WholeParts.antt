@@ -40,7 +40,7 @@ no_point text i k digits le lt =
     ∙ digit_at (take i text) k digits (omega (arith, lt, length-take-le i text le)) in
     grind (arith, nat_tests)
 
--- the first point stands after the first digits
+-- the first point comes after the first digits
 digits_before : (text : List ℕ) (i : ℕ) → BeginsWithDigits text i → i ≤ length text
     → i ≤ position_or_len is_point text
 digits_before text i digits le = elim (cases_lt (position_or_len is_point text) i) [
@@ -51,7 +51,7 @@ digits_before text i digits le = elim (cases_lt (position_or_len is_point text) 
   | inr le ↦ le
 ]
 
--- digits up to a point, or to the end, are all that stand before it
+-- digits up to a point, or to the end, are all that come before it
 pub whole_digits : (text : List ℕ) (i : ℕ) → BeginsWithDigits text i → i ≤ length text
     → (i < length text → get_or text i 0 ≡ 46) → position_or_len is_point text ≡ i
 whole_digits text i digits le point =
@@ -119,7 +119,7 @@ no_first_digit (b ∷ bytes) other = elim (is_point b) as (λ p. is_point b ≡ 
       | false ↦ λ plain. no_whole (b ∷ bytes) 0 refl (omega arith) (sym (or-false (is_ascii_digit b)) ∙ other) plain
     ] refl
 
--- a point stands after a first digit
+-- a point comes after a first digit
 pub some_digits : (text : List ℕ) (i : ℕ) → is_ascii_digit (get_or text 0 0) ≡ true → get_or text i 0 ≡ 46 → 1 ≤ i
 some_digits text zero digit point = absurd (let bad = sym digit ∙ ap is_ascii_digit point in cc)
 some_digits text (suc i) digit point = omega arith
@@ -132,7 +132,7 @@ no_point_number : (places : ℕ) (text : List ℕ) → length text ≤ position_
 no_point_number places text nowhere = decimal_number-by places text (list_any_none is_point text
     (λ k d lt. fails_before_first is_point text k d (omega (arith, lt, nowhere))))
 
--- the first point stands between the whole part and the part after it
+-- the first point is between the whole part and the part after it
 point_number : (places : ℕ) (text : List ℕ) → position_or_len is_point text < length text
     → decimal_number places text ≡ joined places (natural (before_first is_point text))
     (natural (after_first is_point text)) (length (after_first is_point text))

@@ -1,4 +1,4 @@
--- A number field by its columns: which bytes may stand side by side, and what each adds to the number.
+-- A number field by its columns: which bytes may be side by side, and what each adds to the number.
 use Rattle.std.specs.Prelude.{◌≡◌, ℕ, ◌+◌, ◌*◌, ◌-◌, ◌/◌, ◌%◌, ◌<◌, Bool, true, false, ◌&&◌, ◌||◌, ◌==◌}
 use Rattle.std.specs.Prelude.{if◌then◌else◌, nat_le, List, [], ◌∷◌, ◌++◌, ℤ, pos, neg_ℤ}
 use Rattle.std.specs.Char.{is_ascii_digit}
@@ -11,11 +11,11 @@ use Rattle.ghcn_fields.specs.Bytes.{blank_byte, is_blank}
 abbrev pub digit_of : ℕ → ℕ
 digit_of b = if is_ascii_digit b then b - 48 else 0
 
--- a byte that may stand before another one in a number: a blank before any, a minus or a digit before a digit
+-- a byte that may come before another one in a number: a blank before any, a minus or a digit before a digit
 abbrev pub may_precede : ℕ → ℕ → Bool
 may_precede b next = (b == blank_byte) || ((is_ascii_digit b || (b == 45)) && is_ascii_digit next)
 
--- blanks, an optional minus, and digits to the end, by what stands side by side
+-- blanks, an optional minus, and digits to the end, by what is side by side
 abbrev pub is_number_form : List ℕ → Bool
 is_number_form [] = false
 is_number_form (b ∷ []) = is_ascii_digit b
@@ -41,7 +41,7 @@ form_of_field bytes =
 abbrev pub kind_of : ℕ → ℕ
 kind_of b = if is_ascii_digit b then 2 else (if b == blank_byte then 0 else (if b == 45 then 1 else 3))
 
--- a byte of a kind may stand before one of another kind
+-- a byte of a kind may come before one of another kind
 abbrev pub kind_may_precede : ℕ → ℕ → Bool
 kind_may_precede k next = (k == 0) || (((k == 2) || (k == 1)) && (next == 2))
 

@@ -1,4 +1,4 @@
--- Numbers as papers print them.
+-- Numbers as reports and certificates print them.
 use Rattle.std.specs.Prelude.{ℕ, zero, suc, ◌+◌, ◌/◌, ◌%◌, List, [], ◌∷◌, ◌++◌, ℤ, pos, negsuc}
 use Rattle.std.specs.Fmt.{decimal}
 

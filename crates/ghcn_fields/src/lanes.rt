@@ -1,7 +1,7 @@
 //! Number fields of five columns, tested sixteen columns at a time.
 //!
-//! A field is blank or a number if each of its bytes may stand where it does: a blank before
-//! any byte and at the end, a minus before a digit, a digit before a digit and at the end.
+//! A field is blank or a number if each of its bytes may be where it is: a blank before any byte
+//! and at the end, a minus before a digit, a digit before a digit and at the end.
 
 ghost use Rattle.std.specs.Prelude.{◌≡◌, ◌<◌, ◌||◌, not, length, take, drop};
 ghost use Rattle.ghcn_fields.specs.FieldForms as forms;
@@ -13,8 +13,8 @@ use std::simd::prelude::*;
 /// The place of each column's next one in its field. The last column, and one of no field, has itself.
 const NEXT: [usize; 16] = [1, 2, 3, 4, 4, 5, 6, 7, 9, 10, 11, 12, 12, 13, 14, 15];
 
-/// What may stand before a digit beside a digit: a minus. In a last column, whose next one is itself, it is a
-/// digit of no effect.
+/// What may come before a digit, besides a digit: a minus. In a last column, whose next one is itself, it is
+/// a digit of no effect.
 const MINUS: [u8; 16] = [45, 45, 45, 45, 48, 0, 0, 0, 45, 45, 45, 45, 48, 0, 0, 0];
 
 /// All bits where one of two fields has a column: where `BEHIND` has none.
@@ -33,8 +33,8 @@ pub fn has_bad_field(columns: &[u8; 16]) -> bool
     !are_set(good_columns(columns))
 }
 
-/// Tests the columns of two such fields: a lane of a field has all its bits if its column may stand where it
-/// does. Lanes of several columns are joined by `&`, and tested together by `are_set`.
+/// Tests the columns of two such fields: a lane of a field has all its bits if its column may be where it
+/// is. Lanes of several columns are joined by `&`, and tested together by `are_set`.
 #[inline(always)]
 pub fn good_columns(columns: &[u8; 16]) -> u8x16
     ensures many { length result ≡ 16 }
@@ -53,7 +53,7 @@ pub fn good_columns(columns: &[u8; 16]) -> u8x16
     blanks | (digits | minuses) & before_digits
 }
 
-/// The same test as `good_columns` in fewer steps: a lane of a field is 0 if its column may stand where it does.
+/// The same test as `good_columns` in fewer steps: a lane of a field is 0 if its column may be where it is.
 /// Lanes of several columns are joined by `|`, and tested together by `are_clear`.
 #[inline(always)]
 pub fn bad_columns(columns: &[u8; 16]) -> u8x16

@@ -2,7 +2,7 @@
 
 ghost use Rattle.ghcn_fields.specs.Laws as laws;
 
-/// Each day has one date and one text, and each date of the years 1 to 9999 is of one day.
+/// Each day has one date and one text, and each date of the years 1 to 9999 belongs to one day.
 pub fn days_have_dates()
     ensures dates { laws.DatesAreOfDays }
     ensures texts { laws.TextsAreOfDays }

@@ -1,6 +1,6 @@
 //! What the fixed-width files of GHCN-Daily are made of: lines, number fields and days.
 //!
-//! Every crate above uses it. It gives them the line, the field and the day.
+//! Every crate above uses it, for the line, the field and the day.
 #![tactic(auto)]
 
 mod date;

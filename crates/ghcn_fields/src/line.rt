@@ -87,7 +87,7 @@ pub fn without_return(line: &[u8]) -> &[u8]
     }
 }
 
-/// What stands before the first line feed of a text, and what follows it.
+/// What comes before the first line feed of a text, and what follows it.
 pub fn split_line(text: &[u8]) -> Option<(&[u8], &[u8])>
     ensures parts { IfSome result (λ parts. text.now ≡ parts.0.now ++ 10 ∷ parts.1.now) }
     ensures first { IfSome result (λ parts. HasNoLineFeed parts.0.now) }

@@ -1,8 +1,8 @@
 //! A number field of five columns, read by look-ups: no branch depends on a single byte.
 //!
 //! A byte adds its digit times its place's worth, and from bit 17 on its kind, two bits a column: 0
-//! a blank, 1 a minus, 2 a digit, 3 any other byte. Below bit 17 then stands the magnitude, since a
-//! byte that isn't a digit counts as 0, and above it stand the kinds, which say what the field is.
+//! a blank, 1 a minus, 2 a digit, 3 any other byte. Below bit 17 is then the magnitude, since a
+//! byte that isn't a digit counts as 0; the kinds above it say what the field is.
 
 ghost use Rattle.std.specs.Prelude.{◌≡◌, ◌+◌, ◌*◌, ◌<◌};
 ghost use Rattle.ghcn_fields.specs.Numbers as numbers;

@@ -44,19 +44,19 @@ length-stations_of : (ls : List Numbered) → length (stations_of ls) ≡ length
 length-stations_of [] = refl
 length-stations_of (l ∷ ls) = ap suc (length-stations_of ls)
 
--- ---- the fault of a line that is right by itself
+-- ---- the error of a line that is right by itself
 
 -- that its ID is repeated, or that there is no room
 abbrev pub fault_if : ℕ → Bool → Bool → Option StationsFault
 fault_if n repeated room = option_or (option_map (λ why. StationLine n why) (cond repeated (Some Duplicate) None))
     (cond room None (Some TooManyStations))
 
--- a fault by what was found out of the line
+-- an error by what was found out of the line
 abbrev fault_by : ℕ → Option StationWhy → Bool → Bool → Option StationsFault
 fault_by n o repeated room = option_or (option_map (λ why. StationLine n why)
     (option_or o (cond repeated (Some Duplicate) None))) (cond room None (Some TooManyStations))
 
--- the fault of a line that is right by itself, after lines that list the stations held
+-- the error of a line that is right by itself, after lines that list the stations held
 pub fault_of_right_line : (earlier : List Numbered) (n : ℕ) (line : List ℕ) (held : List Station) (id : StationId)
     (repeated room : Bool) → stations_of earlier ≡ held → line_why line ≡ None → id ≡ id_of line
     → list_any (is_station_of id) held ≡ repeated → nat_lt (length held) (2 ^ 20) ≡ room
@@ -72,9 +72,9 @@ fault_of_right_line earlier n line held id repeated room e right is rep ro =
     ∙ ap (λ (b : Bool). fault_by n None b (nat_lt (length earlier) (2 ^ 20))) again
     ∙ ap (λ (b : Bool). fault_by n None repeated b) fits
 
--- ---- the station of a line without a fault
+-- ---- the station of a line without an error
 
--- a line without a fault passed its tests
+-- a line without an error passed its tests
 passed_all : (long id north east bad : Bool) → why_by long id north east bad ≡ None
     → (id ≡ true) × (north ≡ true) × (east ≡ true)
 passed_all true true true true bad e = (refl, refl, refl)
@@ -156,7 +156,7 @@ right-push (x ∷ xs) s all e = both (is_station x) (list_all is_station xs) all
 ids-push : (ss : List Station) (s : Station) → map (λ t. t.id) (ss ++ s ∷ []) ≡ map (λ t. t.id) ss ++ s.id ∷ []
 ids-push ss s = map-append (λ t. t.id) ss (s ∷ [])
 
--- an ID is a station's where it is among the IDs
+-- an ID is a station's if it is among the IDs
 no_id : (ss : List Station) (id : StationId)
     → list_any (is_station_of id) ss ≡ list_any (same_id id) (map (λ t. t.id) ss)
 no_id [] id = refl
@@ -189,7 +189,7 @@ listed_more ss s h new room right =
       right = right-push ss s h.right right;
     }
 
--- and so does what is kept, where its place is kept beside the others
+-- and so does what is kept, if its place is kept beside the others
 pub kept_more : (ss : List Station) (places more : List ((ℕ × ℕ) × ℕ)) (s : Station) → AreKept ss places
     → place_of ss s.id ≡ None → length ss < 2 ^ 20 → is_station s ≡ true
     → ((id : StationId) → kept_place more id ≡ cond (is_eq (key_cmp (key_of s.id.0) (key_of id.0)))

@@ -29,7 +29,7 @@ pub found-at_place : (ss : List Station) (id : StationId) (k : ℕ) → place_of
     → slice_get ss k ≡ find (is_station_of id) ss
 found-at_place ss id k at = ap (slice_get ss) (sym (place_is ss id k at)) ∙ sym (find_at (is_station_of id) ss)
 
--- an ID without a place is no station's
+-- an ID without a place isn't any station's
 pub none-without_place : (ss : List Station) (id : StationId) → place_of ss id ≡ None
     → None ≡ find (is_station_of id) ss
 none-without_place ss id none = sym (find_at (is_station_of id) ss ∙ slice_get_past ss _ (no_place ss id none))
@@ -44,7 +44,7 @@ stepped n m = grind (arith, nat_tests)
 first : (m : ℕ) → nat_lt 0 (suc m) ≡ true
 first m = grind (arith, nat_tests)
 
--- an element is found before the end where the list has one
+-- an element is found before the end if the list has one
 at_or_past : (p : Station → Bool) (ss : List Station) → nat_lt (position_or_len p ss) (length ss) ≡ list_any p ss
 at_or_past p [] = refl
 at_or_past p (s ∷ ss) = by (p s) (at_or_past p ss)
@@ -54,12 +54,12 @@ at_or_past p (s ∷ ss) = by (p s) (at_or_past p ss)
     by true rest = first (length ss)
     by false rest = stepped (position_or_len p ss) (length ss) ∙ rest
 
--- a value under a test is there where the test holds
+-- a value under a test is there if the test holds
 some_if : (b : Bool) (n : ℕ) → is_some (cond b (Some n) None) ≡ b
 some_if true n = refl
 some_if false n = refl
 
--- an ID has a place where a station has it
+-- an ID has a place if a station has it
 pub has_place : (ss : List Station) (id : StationId) → is_some (place_of ss id) ≡ list_any (is_station_of id) ss
 has_place ss id = some_if _ _ ∙ at_or_past (is_station_of id) ss
 
@@ -101,7 +101,7 @@ first_bytes (suc n) [] fits i = omega arith
 first_bytes (suc n) (b ∷ bs) fits zero = fits 0
 first_bytes (suc n) (b ∷ bs) fits (suc i) = first_bytes n bs (λ j. fits (suc j)) i
 
--- and so are those behind them
+-- and so are those after them
 pub last_bytes : (n : ℕ) (bs : List ℕ) → ((i : ℕ) → get_or bs i 0 < 256) → (i : ℕ) → get_or (drop n bs) i 0 < 256
 last_bytes zero bs fits i = fits i
 last_bytes (suc n) [] fits i = omega arith
@@ -164,7 +164,7 @@ key_itself : (k : ℕ × ℕ) → is_eq (key_cmp k k) ≡ true
 key_itself k = ap (λ (o : Ordering). is_eq (ordering_then o (nat_cmp k.1 k.1))) (cmp_itself k.0)
     ∙ ap is_eq (cmp_itself k.1)
 
--- the keys of two IDs compare as equal where the IDs are the same
+-- the keys of two IDs compare as equal if the IDs are the same
 pub compares_equal : (a b : StationId) → AreEleven a.0 → AreEleven b.0
     → is_eq (key_cmp (key_of a.0) (key_of b.0)) ≡ same_id a b
 compares_equal a b p q = by (same_id a b) refl (is_eq (key_cmp (key_of a.0) (key_of b.0))) refl
@@ -177,7 +177,7 @@ compares_equal a b p q = by (same_id a b) refl (is_eq (key_cmp (key_of a.0) (key
         ∙ ap (same_id a) (same_key a b p q (is_eq-key_cmp (key_of a.0) (key_of b.0) et)) ∙ is))
     by false is false et = et
 
--- numbers are equal where they compare so
+-- numbers are equal if they compare so
 equal_cmp : (n m : ℕ) → (n == m) ≡ is_eq (nat_cmp n m)
 equal_cmp n m = by (nat_cmp n m) refl
   where
@@ -186,7 +186,7 @@ equal_cmp n m = by (nat_cmp n m) refl
     by Equal is = (let same : (n == m) ≡ true = grind (arith, nat_tests) in same) ∙ sym (ap is_eq is)
     by Greater is = (let none : (n == m) ≡ false = grind (arith, nat_tests) in none) ∙ sym (ap is_eq is)
 
--- two IDs are the same where both parts of their keys are
+-- two IDs are the same if both parts of their keys are
 pub equal_keys : (a b : StationId) (x y : ℕ × ℕ) → x ≡ key_of a.0 → y ≡ key_of b.0 → AreEleven a.0 → AreEleven b.0
     → (x.0 == y.0 && x.1 == y.1) ≡ same_id a b
 equal_keys a b x y is_a is_b p q =

@@ -22,7 +22,7 @@ first_blank : (n : ℕ) → 0 < n → take {A = ℕ} 1 (replicate n 32) ≡ 32 �
 first_blank zero h = absurd (omega arith)
 first_blank (suc n) h = refl
 
--- one column behind a line that blanks follow
+-- one column after a line that blanks follow
 one_of : (i k : ℕ) (line : List ℕ) → i < k → take 1 (drop i (line ++ replicate k 32)) ≡ get_or line i 32 ∷ []
 one_of i k [] h = ap (take 1) (drop-replicate i k 32) ∙ first_blank (k - i) (omega arith)
 one_of zero k (b ∷ bs) h = refl
@@ -42,7 +42,7 @@ drop_nothing : (n : ℕ) → drop {A = ℕ} n [] ≡ []
 drop_nothing zero = refl
 drop_nothing (suc n) = refl
 
--- what a place on a line has behind it, where blanks follow the line: the rest of the line, and enough blanks
+-- what a place on a line has after it, if blanks follow the line: the rest of the line, and enough blanks
 behind : (i n k start : ℕ) (line : List ℕ) → i + n ≤ k → start ≡ min i (length line)
     → (m : ℕ) × (n ≤ m) × (drop i (line ++ replicate k 32) ≡ drop start line ++ replicate m 32)
 behind i n k start [] le e = (

@@ -137,7 +137,7 @@ printed_bytes = (refl, refl, refl)
 abbrev whole_record : List ℕ
 whole_record = codes "ZZA00000001x 40.7789x -73.9692x  42.7xNYxABCDEFGHIJKLMNOPQRSTUVWXYZ0123XGSN HCN 72506"
 
--- each field from its first column to its last; what lies between them and behind the name isn't read
+-- each field from its first column to its last; what lies between them and after the name isn't read
 record_fields : (listed whole_record ≡ Ok (station_of whole_record ∷ []))
     × ((station_of whole_record).latitude ≡ pos 407_789)
     × ((station_of whole_record).longitude ≡ neg_ℤ (pos 739_692))
@@ -145,8 +145,8 @@ record_fields : (listed whole_record ≡ Ok (station_of whole_record ∷ []))
     × ((station_of whole_record).name ≡ codes "ABCDEFGHIJKLMNOPQRSTUVWXYZ0123")
 record_fields = (refl, refl, refl, refl, refl, refl)
 
--- of two faults of a line the one of the earlier test is told: length, ID, latitude, longitude, elevation, and last a
--- repeated ID
+-- of two errors of a line the one of the earlier test is reported: length, ID, latitude, longitude, elevation, and last
+-- a repeated ID
 earlier_test : (listed (codes "ZZA0000 001  10.0000   20.000") ≡ Err (StationLine 1 station.Short))
     × (listed (codes "ZZA0000 001  91.0000   20.0000") ≡ Err (StationLine 1 station.BadId))
     × (listed (codes "ZZA00000001  91.0000  181.0000") ≡ Err (StationLine 1 station.BadLatitude))
@@ -154,12 +154,12 @@ earlier_test : (listed (codes "ZZA0000 001  10.0000   20.000") ≡ Err (StationL
     × (listed (alpha ++ 10 ∷ take 33 alpha) ≡ Err (StationLine 2 station.BadElevation))
 earlier_test = (refl, refl, refl, refl, refl)
 
--- of two lines with a fault the first, and a line of blanks counts for the numbers of the lines behind it
+-- of two lines with an error the first, and a line of blanks counts for the numbers of the lines after it
 earlier_line : (listed (alpha ++ 10 ∷ take 29 bravo ++ 10 ∷ alpha) ≡ Err (StationLine 2 station.Short))
     × (listed (alpha ++ 10 ∷ 10 ∷ 32 ∷ 10 ∷ alpha) ≡ Err (StationLine 4 station.Duplicate))
 earlier_line = (refl, refl)
 
--- so many lines of one station
+-- n lines of one station
 abbrev so_many : ℕ → List Numbered
 so_many n = replicate n (1, alpha)
 
@@ -168,7 +168,7 @@ none_of_bravo : (n : ℕ) → is_repeated (so_many n) (id_of bravo) ≡ false
 none_of_bravo zero = refl
 none_of_bravo (suc n) = none_of_bravo n
 
--- behind so many stations a line without a fault is told as one too many, or not at all
+-- after that many stations a line without an error is refused as one too many, or not at all
 at_limit : (n : ℕ) → station_fault (so_many n) (7, bravo) ≡ (if nat_lt n (2 ^ 20) then None else Some TooManyStations)
 at_limit n =
     ap (λ (b : Bool). option_or (option_map (λ why. StationLine 7 why) (if b then Some station.Duplicate else None))
@@ -176,12 +176,12 @@ at_limit n =
     (none_of_bravo n)
     ∙ ap (λ (m : ℕ). if nat_lt m (2 ^ 20) then None else Some TooManyStations) (length-replicate n (1, alpha))
 
--- it is one too many behind 2^20 stations, and not behind one fewer
+-- it is one too many after 2^20 stations, and not after one fewer
 too_many : (station_fault (so_many (2 ^ 20)) (7, bravo) ≡ Some TooManyStations)
     × (station_fault (so_many (2 ^ 20 - 1)) (7, bravo) ≡ None)
 too_many = (at_limit (2 ^ 20), at_limit (2 ^ 20 - 1))
 
--- behind so many a repeated ID and a line that is too short are told as they are
+-- after that many, a repeated ID and a line that is too short are reported as what they are
 before_too_many : (station_fault (so_many (2 ^ 20)) (7, alpha) ≡ Some (StationLine 7 station.Duplicate))
     × (station_fault (so_many (2 ^ 20)) (7, take 29 bravo) ≡ Some (StationLine 7 station.Short))
 before_too_many = (refl, refl)
@@ -274,7 +274,7 @@ blanks_before : (read_month (empty_line (codes "ZZA000000012020 7TMAX"))
 unfolding days_of_group
 blanks_before = (refl, refl, refl)
 
--- a blank behind the digit, no month, no year, and a month below zero
+-- a blank after the digit, no month, no year, and a month below zero
 no_month : (read_month (empty_line (codes "ZZA0000000120207 TMAX")) ≡ Err why.BadMonth)
     × (read_month (empty_line (codes "ZZA000000012020  TMAX")) ≡ Err why.BadMonth)
     × (read_month (empty_line (codes "ZZA00000001    07TMAX")) ≡ Err why.BadYear)
@@ -297,7 +297,7 @@ unseen_id : read_month (codes "ZZA0000000" ++ 127 ∷ empty_line (codes "202007T
 unfolding days_of_group
 unseen_id = refl
 
--- of two faults of a line the one of the earlier test is told: length, what stands past its end, ID, year, month, the
+-- of two errors of a line the one of the earlier test is reported: length, what is past its end, ID, year, month, the
 -- first value
 earlier_told : (read_month (empty_line (codes "ZZA0000 001202007TMAX") ++ codes "x") ≡ Err why.TooLong)
     × (read_month (empty_line (codes "ZZA0000 001000007TMAX")) ≡ Err why.BadId)
@@ -315,7 +315,7 @@ other_element : (read_month (codes "ZZA0000 001000013TAVG" ++ repeat 31 (codes "
 unfolding days_of_group
 other_element = (refl, refl)
 
--- of the three flags only the second one counts, and each byte but a blank does: a nought, a small letter, a tab
+-- of the three flags only the second one counts, and each byte but a blank does: a zero, a small letter, a tab
 flags : (reading (codes "ZZA00000001201912PRCP  400 0 ") 1 ≡ record { value = Some (pos 400); flagged = true })
     × (reading (codes "ZZA00000001201912PRCP  400M 7") 1 ≡ record { value = Some (pos 400); flagged = false })
     × (reading (codes "ZZA00000001201912PRCP  400 i ") 1 ≡ record { value = Some (pos 400); flagged = true })

@@ -1,16 +1,16 @@
--- The first fault as a relation, and as it is found.
+-- The first error as a relation, and as it is found.
 use Rattle.std.proofs.Common.{◌≡◌, List, [], ◌∷◌, ◌++◌, Option, Some, None, refl, sym, ap, ◌∙◌, append_assoc}
 use Rattle.std.specs.Option.{option_or, option_map}
 use Rattle.std.proofs.lemmas.List.{append-nil}
 use Rattle.ghcn_fields.specs.Faults.{first_fault, first_fault_after, HaveNoFault, IsFirstFault}
 
 module _ {L W : Type 0} (fault : List L → L → Option W) where
-  -- none of these lines has a fault, one after the other
+  -- none of these lines has an error, one after the other
   abbrev NoneAfter : List L → List L → Type 0
   NoneAfter earlier [] = Unit {0}
   NoneAfter earlier (l ∷ ls) = (fault earlier l ≡ None) × NoneAfter (earlier ++ l ∷ []) ls
 
-  -- lines that have no fault one after the other have none at any split
+  -- lines that have no error one after the other have none at any split
   at_split : (earlier ls before : List L) (l : L) (behind : List L) → NoneAfter earlier ls → ls ≡ before ++ l ∷ behind
       → fault (earlier ++ before) l ≡ None
   at_split earlier [] [] l behind none e = absurd cc
@@ -38,7 +38,7 @@ module _ {L W : Type 0} (fault : List L → L → Option W) where
         ∙ none (x ∷ before) l behind (ap (λ (ys : List L). x ∷ ys) e)),
   )
 
-  -- lines without a fault, one after the other
+  -- lines without an error, one after the other
   in_turn : (ls : List L) → HaveNoFault fault ls → NoneAfter [] ls
   in_turn ls none = one_by_one [] ls none.none
 
@@ -46,11 +46,11 @@ module _ {L W : Type 0} (fault : List L → L → Option W) where
   at_all_splits : (ls : List L) → NoneAfter [] ls → HaveNoFault fault ls
   at_all_splits ls none = record { none = λ before l behind. at_split [] ls before l behind none }
 
-  -- no lines have no fault
+  -- no lines have no error
   pub no_fault-nil : HaveNoFault fault []
   no_fault-nil = at_all_splits [] tt
 
-  -- one more without a fault, after some without
+  -- one more without an error, after some without
   one_more : (earlier before : List L) (l : L) → NoneAfter earlier before → fault (earlier ++ before) l ≡ None
       → NoneAfter earlier (before ++ l ∷ [])
   one_more earlier [] l all none = (ap (λ (ls : List L). fault ls l) (sym (append-nil earlier)) ∙ none, tt)
@@ -60,12 +60,12 @@ module _ {L W : Type 0} (fault : List L → L → Option W) where
         (ap (λ (ls : List L). fault ls l) (append_assoc earlier (x ∷ []) xs) ∙ none),
   )
 
-  -- lines without a fault, and one more
+  -- lines without an error, and one more
   pub no_fault-more : (before : List L) (l : L) → HaveNoFault fault before → fault before l ≡ None
       → HaveNoFault fault (before ++ l ∷ [])
   no_fault-more before l all none = at_all_splits (before ++ l ∷ []) (one_more [] before l (in_turn before all) none)
 
-  -- nothing is found among lines without a fault, whatever is before them
+  -- nothing is found among lines without an error, whatever is before them
   nothing_found : (earlier ls : List L) → NoneAfter earlier ls → first_fault_after fault earlier ls ≡ None
   nothing_found earlier [] none = refl
   nothing_found earlier (x ∷ xs) none =
@@ -73,16 +73,16 @@ module _ {L W : Type 0} (fault : List L → L → Option W) where
       none.0
       ∙ nothing_found (earlier ++ x ∷ []) xs none.1
 
-  -- among lines without a fault none is found
+  -- among lines without an error none is found
   pub first_fault-none : (ls : List L) → HaveNoFault fault ls → first_fault fault ls ≡ None
   first_fault-none ls none = nothing_found [] ls (in_turn ls none)
 
-  -- the line with this fault stands among these, and none before it has one
+  -- the line with this error is among these, and none before it has one
   abbrev Found : List L → List L → L → W → Type 0
   Found earlier ls l w = (before : List L) × (behind : List L) × (ls ≡ before ++ l ∷ behind)
       × (fault (earlier ++ before) l ≡ Some w) × NoneAfter earlier before
 
-  -- a fault that is found is the first
+  -- an error that is found is the first
   found_is : (earlier ls : List L) (l : L) (w : W) → first_fault_after fault earlier ls ≡ Some (l, w)
       → Found earlier ls l w
   found_is earlier [] l w e = absurd cc
@@ -110,7 +110,7 @@ module _ {L W : Type 0} (fault : List L → L → Option W) where
             )
       ] refl e
 
-  -- the line that is found is the first with a fault
+  -- the line that is found is the first with an error
   pub first_fault-is : (ls : List L) (l : L) (w : W) → first_fault fault ls ≡ Some (l, w) → IsFirstFault fault ls l w
   first_fault-is ls l w e =
       let found = found_is [] ls l w e in record {
@@ -121,7 +121,7 @@ module _ {L W : Type 0} (fault : List L → L → Option W) where
         none_before = at_all_splits found.0 found.4;
       }
 
-  -- lines without a fault are passed over
+  -- lines without an error are skipped
   passed : (earlier before ls : List L) → NoneAfter earlier before
       → first_fault_after fault earlier (before ++ ls) ≡ first_fault_after fault (earlier ++ before) ls
   passed earlier [] ls none = ap (λ (ys : List L). first_fault_after fault ys ls) (sym (append-nil earlier))
@@ -131,7 +131,7 @@ module _ {L W : Type 0} (fault : List L → L → Option W) where
       ∙ passed (earlier ++ x ∷ []) xs ls none.1
       ∙ ap (λ (ys : List L). first_fault_after fault ys ls) (append_assoc earlier (x ∷ []) xs)
 
-  -- and the first fault is found
+  -- and the first error is found
   pub first_fault-from : (ls : List L) (l : L) (w : W) → IsFirstFault fault ls l w
       → first_fault fault ls ≡ Some (l, w)
   first_fault-from ls l w is =

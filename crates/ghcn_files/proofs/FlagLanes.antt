@@ -33,7 +33,7 @@ pub record AreGroups (line group : List ℕ) (day : ℕ) : Type 0 where
   pub within : day < 28
   pub same : group ≡ take 32 (drop (21 + 8 * day) line)
 
--- where four numbers have no bit, each has none
+-- if four numbers have no bit, each has none
 none_of : (a b c d : ℕ) → not (eqb (bit_or (bit_or (bit_or a b) c) d) 0) ≡ false
     → (a ≡ 0) × (b ≡ 0) × (c ≡ 0) × (d ≡ 0)
 none_of a b c d none =
@@ -82,7 +82,7 @@ columns-here : (line group : List ℕ) (day : ℕ) → AreGroups line group day
     → take 32 group ≡ take 32 (drop (21 + 8 * day) line)
 columns-here line group day of = ap (take 32) of.same ∙ take-take 32 32 (drop (21 + 8 * day) line) (omega arith)
 
--- are so many
+-- there are 32 of them
 columns-long : (line group : List ℕ) (day : ℕ) → AreGroups line group day → length (take 32 group) ≡ 32
 columns-long line group day of =
     ap (λ (xs : List ℕ). length xs) (columns-here line group day of)

@@ -18,12 +18,12 @@ use Rattle.ghcn_files.specs.Months.{reading, days_of_group, month_of, month_if, 
 use Rattle.ghcn_files.specs.Flags.{is_flagged_value, HasNoFlag}
 use Rattle.ghcn_files.proofs.WholeLines.{SaysSame, same-reading}
 
--- how many of the first n days of a line, in a month with so many, have a flagged value
+-- how many of the first n days of a line, in a month with that many days, have a flagged value
 abbrev pub flagged_within : ℕ → List ℕ → ℕ → ℕ
 flagged_within days line n =
     count_by (is_flagged_value days) (enumerate_from 1 (map (reading line) (range_with_len 1 n)))
 
--- one day more counts where its value is flagged
+-- one day more counts if its value is flagged
 pub flagged_within-more : (days : ℕ) (line : List ℕ) (n : ℕ) → flagged_within days line (n + 1)
     ≡ flagged_within days line n + cond (is_flagged_value days (n + 1, reading line (n + 1))) 1 0
 flagged_within-more days line n =
@@ -60,7 +60,7 @@ unflagged : (within flagged there : Bool) → flagged ≡ false
 unflagged true flagged there none = rw none refl
 unflagged false flagged there none = refl
 
--- nor do the first days where none has a flag
+-- nor do the first days if none has a flag
 pub flagged_within-none : (days : ℕ) (line : List ℕ) (n : ℕ) → HasNoFlag line n → flagged_within days line n ≡ 0
 flagged_within-none days line zero none = refl
 flagged_within-none days line (suc n) none =
@@ -72,7 +72,7 @@ flagged_within-none days line (suc n) none =
     (unflagged (nat_le (n + 1) days) (reading line (n + 1)).flagged (is_some (reading line (n + 1)).value)
     (none n (omega arith)))
 
--- a line that says of each day what another one says has as many
+-- a line that says of each day what another one says has as many flagged values as that one
 pub flagged_within-same : (days : ℕ) (whole line : List ℕ) → SaysSame whole line → (n : ℕ) → n ≤ 31
     → flagged_within days whole n ≡ flagged_within days line n
 flagged_within-same days whole line same zero le = refl

@@ -18,13 +18,13 @@ use Rattle.ghcn_files.specs.Rows.{value_or_missing}
 use Rattle.ghcn_files.proofs.ColumnSlices.{columns-slice, one_column}
 use Rattle.ghcn_files.proofs.Readings.{tests_from, all_tests}
 
--- a test that is passed, and those behind it
+-- a test that is passed, and those after it
 passed : (bad : Bool) (more : Option LineWhy) (why : LineWhy) → cond (not bad) more (Some why) ≡ None
     → (bad ≡ false) × (more ≡ None)
 passed true more why e = absurd cc
 passed false more why e = (refl, e)
 
--- where all tests are passed, each value is a number or blank
+-- if all tests are passed, each value is a number or blank
 all-fine : (line : List ℕ) (a n : ℕ) → tests_from line a n ≡ None → (j : ℕ) → a ≤ j → j < a + n
     → is_bad (value_field line j) ≡ false
 unfolding tests_from
@@ -120,7 +120,7 @@ abbrev pub with_four : List ℤ → ℕ → (ℕ → ℤ) → List ℤ
 with_four vs day number =
     set (set (set (set vs day (number 0)) (day + 1) (number 1)) (day + 2) (number 2)) (day + 3) (number 3)
 
--- those of four days stand at their places
+-- those of four days are at their places
 pub four-stand : (line : List ℕ) (vs : List ℤ) (day : ℕ) (number : ℕ → ℤ) → length vs ≡ 32 → day < 28
     → ((k : ℕ) → k < 4 → number k ≡ value_or_missing line (day + k))
     → (j : ℕ) → day ≤ j → j < day + 4 → get_or (with_four vs day number) j (pos 0) ≡ value_or_missing line j
@@ -138,7 +138,7 @@ four-stand line vs day number many lt is =
     none))) in
     all.so_far
 
--- what stands elsewhere stays
+-- what is elsewhere stays
 pub others-stay : (vs : List ℤ) (day : ℕ) (number : ℕ → ℤ) (j : ℕ) → (j < day) ⊎ (day + 4 ≤ j)
     → get_or (with_four vs day number) j (pos 0) ≡ get_or vs j (pos 0)
 others-stay vs day number j (inl before) =

@@ -29,7 +29,7 @@ same_id-is a b e =
     let make : List ℕ → StationId = λ bytes. record { 0 = bytes } in
     ap make ((slice_eq-Decides Decides-eqb a.0 b.0 (same_id a b) refl).0 e)
 
--- the place of an ID, where it has one
+-- the place of an ID, if it has one
 pub place_is : (ss : List Station) (id : StationId) (k : ℕ) → place_of ss id ≡ Some k
     → position_or_len (is_station_of id) ss ≡ k
 place_is ss id k at = by (nat_lt _ _) at

@@ -26,11 +26,11 @@ module _ {X : Type 0} (id_of : X → StationId) where
   pub id_total : IsTotalOrder id_cmp
   id_total = on_total (λ x. (id_of x).0) nat_list_cmp_total
 
-  -- one whose ID stands before another's, or is the same
+  -- one whose ID comes before another's, or is the same
   abbrev pub comes_first : X → X → Bool
   comes_first a b = is_le (id_cmp a b)
 
-  -- two are of one station
+  -- two belong to one station
   abbrev pub same_station : X → X → Bool
   same_station a b = same_id (id_of a) (id_of b)
 
@@ -42,7 +42,7 @@ module _ {X : Type 0} (id_of : X → StationId) where
   pub same_by : (a b : X) (o : Ordering) → id_cmp a b ≡ o → same_station a b ≡ is_eq o
   same_by a b o e = sym (is_eq-slice_cmp (id_of a).0 (id_of b).0) ∙ ap is_eq e
 
-  -- those that tie are of one station
+  -- those that tie belong to one station
   pub tied_same : (a b : X) → id_cmp a b ≡ Equal → same_station a b ≡ true
   tied_same a b = same_by a b Equal
 
@@ -59,7 +59,7 @@ module _ {X : Type 0} (id_of : X → StationId) where
       → ordered.InTurn id_cmp id_total comes_first (λ a b. refl) ys → ys ≡ sorted_by comes_first xs
   one_by_id = ordered.one_order id_cmp id_total comes_first (λ a b. refl) same_station same_station-turned tied_same
 
-  -- a sort by ID gives that list
+  -- a sort by ID returns that list
   pub one_sort : (xs ys : List X) → IsDistinct same_station xs → IsPermutation xs ys → IsSortedBy strictly ys
       → ys ≡ sorted_by comes_first xs
   one_sort xs ys d p up = one_by_id xs ys d p
@@ -73,7 +73,7 @@ module _ {X : Type 0} (id_of : X → StationId) where
       (IsPermutation-trans xs ys (sorted_by comes_first ys) p (ordered.sorted-permutation comes_first ys))
       (ordered.sorted-in_turn id_cmp id_total comes_first (λ a b. refl) ys)
 
-  -- in it each has an ID before those of all behind it
+  -- in it each has an ID before those of all after it
   pub sorted-rise : (xs : List X) → IsDistinct same_station xs
       → ordered.Descend (λ a b. strictly a b ≡ true) (sorted_by comes_first xs)
   sorted-rise = ordered.sorted-rise id_cmp id_total comes_first (λ a b. refl) same_station same_station-turned tied_same

@@ -14,12 +14,12 @@ use Rattle.ghcn_files.proofs.ById.{back_length, cmp_itself, first_bytes, front_l
 
 -- ---- the order of numbers of bytes
 
--- the number of some bytes behind another number, the most significant byte first
+-- the number of some bytes after another number, the most significant byte first
 abbrev number : ℕ → List ℕ → ℕ
 number n [] = n
 number n (b ∷ bs) = number (n * 256 + b) bs
 
--- a lesser number stays so with as many bytes behind each
+-- a lesser number stays so with the same number of bytes after each
 lesser : (n m : ℕ) (bs cs : List ℕ) → length bs ≡ length cs → ((i : ℕ) → get_or bs i 0 < 256) → n < m
     → number n bs < number m cs
 lesser n m [] [] same fits lt = lt
@@ -29,7 +29,7 @@ lesser n m (b ∷ bs) (c ∷ cs) same fits lt =
     let small : b < 256 = fits 0 in
     lesser (n * 256 + b) (m * 256 + c) bs cs (omega arith) (λ i. fits (suc i)) (omega arith)
 
--- numbers of as many bytes are in the order of these
+-- numbers of the same number of bytes are in the order of these
 number_cmp : (n : ℕ) (bs cs : List ℕ) → length bs ≡ length cs → ((i : ℕ) → get_or bs i 0 < 256)
     → ((i : ℕ) → get_or cs i 0 < 256) → nat_cmp (number n bs) (number n cs) ≡ slice_cmp nat_cmp bs cs
 number_cmp n [] [] same p q = cmp_itself n

@@ -89,7 +89,7 @@ head_ends line none = passed (nat_le 266 (length line)) (is_blank (drop 269 line
     passed true false rest e = absurd cc
     passed false ends rest e = absurd cc
 
--- a head that stands is the line's, and no test failed
+-- a head that is found is the line's, and no test failed
 pub head_stands : (line : List ℕ) (head : Head) → unless (head_why line) (head_of line) ≡ Ok head
     → (head_why line ≡ None) × (head ≡ head_of line)
 head_stands line head is = unless_ok (head_why line) (head_of line) head refl is

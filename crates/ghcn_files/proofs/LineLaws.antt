@@ -1,4 +1,4 @@
--- The lines of a text that is cut behind a line feed.
+-- The lines of a text that is cut after a line feed.
 use Rattle.std.proofs.Common.{◌≡◌, ℕ, ◌+◌, ◌<◌, Bool, true, false, List, [], ◌∷◌, ◌++◌, length, refl, sym, ap, ◌∙◌}
 use Rattle.std.proofs.Common.{append_assoc, inl, inr, arith}
 use Rattle.std.specs.Prelude.{map, ◌==◌}
@@ -13,7 +13,7 @@ use Rattle.ghcn_fields.proofs.FirstLine.{last_stays}
 abbrev is_line_feed : ℕ → Bool
 is_line_feed b = b == 10
 
--- what the line feeds of a text stand between
+-- what is between the line feeds of a text
 abbrev parts : List ℕ → List (List ℕ)
 parts text = slice_split is_line_feed text
 
@@ -52,7 +52,7 @@ without_empty_last-append (p ∷ []) (q ∷ qs) h = refl
 without_empty_last-append (p ∷ r ∷ ps) qs h =
     ap (λ (xs : List (List ℕ)). p ∷ xs) (without_empty_last-append (r ∷ ps) qs h)
 
--- the lines of a text before a line feed and behind it
+-- the lines of a text before a line feed and after it
 lines-split : (front rest : List ℕ)
     → lines (front ++ 10 ∷ rest) ≡ map strip_carriage_return (parts front) ++ lines rest
 lines-split front rest =

@@ -28,14 +28,14 @@ why_by long ends id year month days =
     cond long (cond ends (cond id (cond year (cond month days (Some BadMonth)) (Some BadYear)) (Some BadId))
     (Some TooLong)) (Some Short)
 
--- the year of a line that is long enough, read behind a blank
+-- the year of a line that is long enough, read after a blank
 pub year_columns : (line : List ℕ) → 266 ≤ length line
     → int_field (32 ∷ pick_l 0 line (range_with_len 11 4)) ≡ year_field line
 year_columns line long =
     ap int_field (pick_l-range_with_len 0 line 11 4 (omega arith)
     ∙ sym (columns-slice 12 15 11 15 line (omega arith) (omega arith) (omega arith) (omega arith)))
 
--- its month, read behind three blanks
+-- its month, read after three blanks
 pub month_columns : (line : List ℕ) → 266 ≤ length line
     → int_field (32 ∷ 32 ∷ 32 ∷ pick_l 0 line (range_with_len 15 2)) ≡ month_field line
 month_columns line long =
@@ -64,7 +64,7 @@ head_why-tested {line} {ends} {id} {year} {month} t =
     ∙ ap (λ (b : Bool). why_by true ends id b in_month tests) t.year_is
     ∙ ap (λ (b : Bool). why_by true ends id year b tests) t.month_is
 
--- tests behind others count where none of those fails
+-- tests after others count if none of those fails
 why_parts : (long ends id year month : Bool) (days : Option LineWhy)
     → why_by long ends id year month days ≡ option_or (why_by long ends id year month None) days
 why_parts false ends id year month days = refl
@@ -74,7 +74,7 @@ why_parts true true true false month days = refl
 why_parts true true true true false days = refl
 why_parts true true true true true days = refl
 
--- the tests of a line's days count where none before them fails
+-- the tests of a line's days count if none before them fails
 pub month_why-parts : (line : List ℕ) {why : Option LineWhy} → head_why line ≡ why
     → month_why line ≡ option_or why (days_why line)
 month_why-parts line is = why_parts (nat_le 266 (length line)) (is_blank (drop 269 line)) (is_id (columns 1 11 line))
@@ -88,7 +88,7 @@ pub head_of-parts : (line : List ℕ) (id : StationId) (year month : ℕ) → id
     → record { id = id; year = year; month = month } ≡ head_of line
 head_of-parts line id year month i y m = cc
 
--- a value that a test let through, where it was found
+-- a value that a test let through, if it was found
 pub test_held : {T : Type 0} (b : Bool) (x y : T) {found : Option T} → found ≡ cond b (Some x) None → found ≡ Some y
     → (b ≡ true) × (y ≡ x)
 test_held true x y is some = (refl, cc)
@@ -100,7 +100,7 @@ pub test_failed : {T : Type 0} (b : Bool) (x : T) {found : Option T} → found �
 test_failed true x is none = absurd cc
 test_failed false x is none = refl
 
--- a value that stands, since nothing failed
+-- a value that is returned, since nothing failed
 pub unless_ok : {T : Type 0} (w : Option LineWhy) (x y : T) {found : Result T LineWhy} → found ≡ unless w x
     → found ≡ Ok y → (w ≡ None) × (y ≡ x)
 unless_ok None x y is ok = (refl, cc)
@@ -112,7 +112,7 @@ pub unless_err : {T : Type 0} (w : Option LineWhy) (x : T) (why : LineWhy) {foun
 unless_err None x why is err = absurd cc
 unless_err (Some v) x why is err = cc
 
--- what stands unless a line of an element fails a test, by the first that it fails
+-- what is returned unless a line of an element fails a test, by the first that it fails
 pub unless_by : {T : Type 0} (line : List ℕ) (x : T) {why : Option LineWhy} → month_why line ≡ why
     → unless why x ≡ unless (month_why line) x
 unless_by line x is = sym (ap (λ (o : Option LineWhy). unless o x) is)

@@ -68,7 +68,7 @@ module _ {X Y : Type 0} (f : X → Y) where
   each-mapped P [] h = tt
   each-mapped P (x ∷ xs) h = (h.0, each-mapped P xs h.1)
 
-  -- where no two give what is alike, no two of what is given are alike
+  -- if no two give what is alike, no two of what is given are alike
   pub distinct-map : (alike : Y → Y → Bool) (xs : List X) → IsDistinct (λ a b. alike (f a) (f b)) xs
       → IsDistinct alike (map f xs)
   unfolding IsDistinct
@@ -123,10 +123,10 @@ module _ {X : Type 0} (comes_first : X → X → Bool) where
       IsPermutation-trans (x ∷ xs) (x ∷ rest) (placed comes_first x rest)
       (IsPermutation-cons x xs rest (sorted-permutation xs)) (placed-permutation x rest)
 
--- ---- there is one list of given elements in which each stands before all behind it
+-- ---- there is one list of given elements in which each comes before all after it
 
 module _ {X : Type 0} (Before : X → X → Type 0) where
-  -- each stands before all behind it
+  -- each comes before all after it
   abbrev pub Descend : List X → Type 0
   Descend [] = Unit {0}
   Descend (x ∷ xs) = AllByRecursion (Before x) xs × Descend xs
@@ -149,7 +149,7 @@ module _ {X : Type 0} (Before : X → X → Type 0) where
         other (inl e) = absurd (let own : Before w w = subst (λ v. Before v w) e a.0 in asym w w own own)
         other (inr k) = k
 
-    -- two lists of the same elements, in each of which each stands before all behind it, are equal
+    -- two lists of the same elements, in each of which each comes before all after it, are equal
     pub one_list : (ys zs : List X) → Descend ys → Descend zs → AllByRecursion (In zs) ys → AllByRecursion (In ys) zs
         → ys ≡ zs
     one_list [] [] d e h k = refl
@@ -177,27 +177,27 @@ module _ {X : Type 0} (lt : X → X → Bool) (ranks : IsStrictWeakOrder lt) whe
     | false ↦ λ k. absurd (let no : lt b c ≡ false = ranks.chain b a c (ranks.one_way a b e) k in cc)
   ] refl
 
-  -- two lists of the same elements, in each of which each is before all behind it, are equal
+  -- two lists of the same elements, in each of which each is before all after it, are equal
   pub one_rising : (xs ys : List X) → Descend (λ a b. lt a b ≡ true) xs → Descend (λ a b. lt a b ≡ true) ys
       → ((x : X) → In xs x → In ys x) → ((x : X) → In ys x → In xs x) → xs ≡ ys
   one_rising xs ys d e f g =
       one_list (λ a b. lt a b ≡ true) one_way xs ys d e (for_each (In ys) xs f) (for_each (In xs) ys g)
 
--- what follows for two elements follows for each and all behind it
+-- what follows for two elements follows for each and all after it
 pub descend-weaker : {X : Type 0} (P Q : X → X → Type 0) (xs : List X) → ((x y : X) → P x y → Q x y) → Descend P xs
     → Descend Q xs
 descend-weaker P Q [] f h = tt
 descend-weaker P Q (x ∷ xs) f h = (each-weaker (P x) (Q x) xs (f x) h.0, descend-weaker P Q xs f h.1)
 
--- and what is made of them stands as they do
+-- and what is made of them is in the same order
 pub descend-map : {X Y : Type 0} (f : X → Y) (P : Y → Y → Type 0) (xs : List X) → Descend (λ a b. P (f a) (f b)) xs
     → Descend P (map f xs)
 descend-map f P [] h = tt
 descend-map f P (x ∷ xs) h = (each-map f (P (f x)) xs h.0, descend-map f P xs h.1)
 
--- ---- answers of a comparison
+-- ---- results of a comparison
 
--- an answer that says before is Less
+-- a result that says before is Less
 pub less : (o : Ordering) → is_lt o ≡ true → o ≡ Less
 less Less e = refl
 less Equal e = absurd cc
@@ -219,7 +219,7 @@ not_behind o Greater e h = absurd (let yes : is_lt o ≡ true = ap is_lt e in cc
 
 module _ {X : Type 0} (cmp : X → X → Ordering) (total : IsTotalOrder cmp) (first : X → X → Bool)
     (first-is : (a b : X) → first a b ≡ is_le (cmp a b)) where
-  -- each comes before all behind it, or ties with it
+  -- each comes before all after it, or ties with it
   abbrev pub InTurn : List X → Type 0
   InTurn xs = Descend (λ a b. first a b ≡ true) xs
 
@@ -227,7 +227,7 @@ module _ {X : Type 0} (cmp : X → X → Ordering) (total : IsTotalOrder cmp) (f
   pub first_either : (a b : X) → first a b ≡ false → first b a ≡ true
   first_either a b e = first-is b a ∙ turned (cmp b a) (cmp a b) (total.antisymm b a) (sym (first-is a b) ∙ e)
 
-  -- what isn't strictly behind comes first
+  -- what isn't strictly after comes first
   first_unless : (a b : X) → is_lt (cmp b a) ≡ false → first a b ≡ true
   first_unless a b e = first-is a b ∙ not_behind (cmp b a) (cmp a b) (total.antisymm b a) e
 
@@ -278,7 +278,7 @@ module _ {X : Type 0} (cmp : X → X → Ordering) (total : IsTotalOrder cmp) (f
   sorted-in_turn [] = tt
   sorted-in_turn (x ∷ xs) = placed-in_turn x (sorted_by first xs) (sorted-in_turn xs)
 
-  -- ---- what a sort by the comparison gives is in turn
+  -- ---- what a sort by the comparison returns is in turn
 
   module _ {Y : Type 0} (seen : Y → X) where
     -- one is strictly before another
@@ -289,20 +289,20 @@ module _ {X : Type 0} (cmp : X → X → Ordering) (total : IsTotalOrder cmp) (f
     pub strictly_ranks : IsStrictWeakOrder strictly
     strictly_ranks = ranks_by total seen
 
-    -- no element behind the first of a sorted list is strictly before it
+    -- no element after the first of a sorted list is strictly before it
     none_before : (y : Y) (ys : List Y) → IsSortedBy strictly (y ∷ ys) → AllByRecursion (λ z. strictly z y ≡ false) ys
     none_before y ys up =
         recursion_from_All (λ z. strictly z y ≡ false) ys
         (λ k d lt. sorted_far strictly strictly_ranks (y ∷ ys) up 0 (suc k) d (omega arith) (omega arith))
 
-    -- behind its first element a sorted list is sorted
+    -- after its first element a sorted list is sorted
     sorted-tail : (y : Y) (ys : List Y) → IsSortedBy strictly (y ∷ ys) → IsSortedBy strictly ys
     sorted-tail y ys up = λ k d low lt.
         let next : suc (k + 1) ≡ suc k + 1 = omega arith in
         ap (λ (n : ℕ). strictly (slice_index_or (y ∷ ys) n d) (slice_index_or ys k d)) next
         ∙ up (suc k) d (omega arith) (omega arith)
 
-    -- then the first comes before all behind it
+    -- then the first comes before all after it
     first_all : (y : Y) (ys : List Y) → AllByRecursion (λ z. strictly z y ≡ false) ys
         → AllByRecursion (λ n. first (seen y) n ≡ true) (map seen ys)
     first_all y [] h = tt
@@ -313,7 +313,7 @@ module _ {X : Type 0} (cmp : X → X → Ordering) (total : IsTotalOrder cmp) (f
     sort-in_turn [] up = tt
     sort-in_turn (y ∷ ys) up = (first_all y ys (none_before y ys up), sort-in_turn ys (sorted-tail y ys up))
 
-  -- ---- where no two elements tie
+  -- ---- if no two elements tie
 
   module _ (alike : X → X → Bool) (alike-symm : (a b : X) → alike a b ≡ alike b a)
       (alike-tied : (a b : X) → cmp a b ≡ Equal → alike a b ≡ true) where
@@ -332,7 +332,7 @@ module _ {X : Type 0} (cmp : X → X → Ordering) (total : IsTotalOrder cmp) (f
     less_than_all x [] a b = tt
     less_than_all x (y ∷ ys) a b = (is_less x y a.0 b.0, less_than_all x ys a.1 b.1)
 
-    -- in a list in turn of which no two are alike each is less than all behind it
+    -- in a list in turn of which no two are alike each is less than all after it
     rises : (xs : List X) → InTurn xs → IsDistinct alike xs → Descend (λ a b. is_lt (cmp a b) ≡ true) xs
     rises [] h d = tt
     rises (x ∷ xs) h d = (

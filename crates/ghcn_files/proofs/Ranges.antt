@@ -29,7 +29,7 @@ use Rattle.ghcn_files.proofs.Months.{why_by}
 by_value : IsNumeralModel (λ ds. list_all is_ascii_digit ds ≡ true) (digits_value 10)
 by_value = numerals_by_value _ (search rules)
 
--- so many digits write less than a power of ten
+-- n digits write less than the n-th power of ten
 small_if : (b : Bool) (ds : List ℕ) (k n : ℕ) → list_all is_ascii_digit ds ≡ b → length ds ≤ k
     → cond b (Some (digits_value 10 ds)) None ≡ Some n → n < 10 ^ k
 small_if true ds k n all short e =

@@ -20,7 +20,7 @@ use Rattle.ghcn_files.specs.KeptStations.{Adds, IsFaultAfter, IsRefusedFor}
 abbrev pub not_blank : List Numbered → List Numbered
 not_blank ls = filter (λ l. not (is_blank l.1)) ls
 
--- lines that aren't blank of two lists, one behind the other
+-- lines that aren't blank of two lists, one after the other
 filter-append : (xs ys : List Numbered) → not_blank (xs ++ ys) ≡ not_blank xs ++ not_blank ys
 filter-append [] ys = refl
 filter-append (x ∷ xs) ys = by_blank (not (is_blank x.1)) (filter-append xs ys)
@@ -39,7 +39,7 @@ not_blank-blank l e = ap (λ (b : Bool). cond (not b) (l ∷ []) []) e
 not_blank-line : (l : Numbered) (ls : List Numbered) → is_blank l.1 ≡ false → not_blank (l ∷ ls) ≡ l ∷ not_blank ls
 not_blank-line l ls e = ap (λ (b : Bool). cond (not b) (l ∷ not_blank ls) (not_blank ls)) e
 
--- how far a loop has come: the first k lines have no fault, and their stations are held
+-- how far a loop has come: the first k lines have no error, and their stations are held
 pub record HasRead (all : List Numbered) (k : ℕ) (held : List Station) : Type 0 where
   pub held_is : held ≡ stations_of (not_blank (take k all))
   pub right : HaveNoFault station_fault (not_blank (take k all))
@@ -99,7 +99,7 @@ at_end text k held e h =
     ∙ ap (λ (ls : List Numbered). Ok (stations_of (not_blank ls))) (sym all)
     ∙ ap (λ (ss : List Station). Ok ss) (sym h.held_is)
 
--- the next line is the first with a fault
+-- the next line is the first with an error
 fault_here : (text : List ℕ) (k : ℕ) (held : List Station) (l : Numbered) (f : StationsFault)
     → k < length (numbered_lines text) → l ≡ get_or (numbered_lines text) k l → is_blank l.1 ≡ false
     → IsFaultAfter f held l → HasRead (numbered_lines text) k held
@@ -118,7 +118,7 @@ fault_here text k held l f lt is shown bad h =
       none_before = h.right;
     }
 
--- a text whose first fault is f is refused for it
+-- a text whose first error is f is refused for it
 refused : (text : List ℕ) (l : Numbered) (f : StationsFault) → IsFirstFault station_fault (station_lines text) l f
     → listed text ≡ Err f
 refused text l f first = ap (λ (o : Option (Numbered × StationsFault)). listed_unless o (station_lines text))

@@ -18,7 +18,7 @@ use Rattle.ghcn_files.specs.declared.fault.LineWhy.TheVariants.{BadValue}
 use Rattle.ghcn_files.specs.StationLines.{is_bad, unless_missing}
 use Rattle.ghcn_files.specs.Months.{value_field, value_test, is_flagged, reading, days_of_group}
 
--- what a line says of a day, unless its value is no number
+-- what a line says of a day, unless its value isn't a number
 abbrev pub readable : List ℕ → ℕ → Option Reading
 readable line j = if is_bad (value_field line j) then None else Some (reading line j)
 
@@ -102,12 +102,12 @@ unfolding tests_from
 passes-fine line a m n e fine =
     ap (tests_from line a) e ∙ ap (λ (b : Bool). cond (not b) (tests_from line (a + 1) n) (Some (BadValue a))) fine
 
--- where neither is true, both are false
+-- if neither is true, both are false
 pub neither : (x y : Bool) → (x || y) ≡ false → (x ≡ false) × (y ≡ false)
 neither false y e = (refl, e)
 neither true y e = absurd cc
 
--- the tests of two days are passed where neither's value is bad
+-- the tests of two days are passed if neither's value is bad
 pub two-fine : (line : List ℕ) (a m n : ℕ) (first second : List ℕ) → m ≡ suc (suc n)
     → first ≡ columns (14 + 8 * a) (18 + 8 * a) line → second ≡ columns (14 + 8 * (a + 1)) (18 + 8 * (a + 1)) line
     → (is_bad (int_field first) || is_bad (int_field second)) ≡ false → tests_from line a m ≡ tests_from line (a + 2) n
@@ -117,7 +117,7 @@ two-fine line a m n first second e one two fine =
     ∙ passes-fine line (a + 1) (suc n) n refl (ap (λ (bytes : List ℕ). is_bad (int_field bytes)) (sym two) ∙ parts.1)
     ∙ ap (λ (k : ℕ). tests_from line k n) (omega arith)
 
--- a joined lane is 0 where both are
+-- a joined lane is 0 if both are
 both_none : (behind : Bool) (x y : ℕ) → (behind || (bit_or x y == 0)) ≡ true
     → ((behind || (x == 0)) ≡ true) × ((behind || (y == 0)) ≡ true)
 both_none true x y none = (refl, refl)
@@ -137,7 +137,7 @@ both_clear_but (b ∷ bs) (x ∷ xs) (y ∷ ys) e clear =
     let more = both_clear_but bs xs ys (omega arith) parts.1 in
     (rw (here.0, more.0) refl, rw (here.1, more.1) refl)
 
--- lanes that were joined are 0 where those of both are
+-- lanes that were joined are 0 if those of both are
 pub both_clear : (xs ys : List ℕ) → length xs ≡ length ys → are_clear (zip2 bit_or xs ys) ≡ true
     → (are_clear xs ≡ true) × (are_clear ys ≡ true)
 both_clear = both_clear_but (five_of_eight ++ five_of_eight)

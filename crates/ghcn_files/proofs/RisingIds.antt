@@ -93,13 +93,13 @@ right_at ss k d listed lt = elim (is_station (get_or ss k d)) as (λ b. is_stati
 ] refl
 
 module _ (ss : List Station) (id : StationId) (listed : AreListed ss) (rise : Rise ss) (bytes : AreEleven id.0) where
-  -- a station has the ID where the keys compare as equal
+  -- a station has the ID if the keys compare as equal
   same_by_key : (k : ℕ) (d : Station) → k < length ss
       → is_eq (key_cmp (key_at (get_or ss k d)) (key_of id.0)) ≡ same_id (get_or ss k d).id id
   same_by_key k d lt =
       compares_equal (get_or ss k d).id id (own_bytes (get_or ss k d) (right_at ss k d listed lt)) bytes
 
-  -- a search by the key of an ID answers the ID's place
+  -- a search by the key of an ID returns the ID's place
   pub searched : (r : Result ℕ ℕ) → IsSearchInRange r (length ss)
       → IsBinarySearchResult (λ s. key_cmp (key_of s.id.0) (key_of id.0)) ss r → result_ok r ≡ place_of ss id
   searched (Ok at) range equal = found ss refl
@@ -115,7 +115,7 @@ module _ (ss : List Station) (id : StationId) (listed : AreListed ss) (rise : Ri
         | inr behind ↦ ap is_eq (parts.1 k d behind lt)
       ]))
 
-  -- what a search among the keys answers is what one among the stations would
+  -- a search among the keys returns what one among the stations would
   through : (r : Result ℕ ℕ) → IsSearchInRange r (length ss)
       → IsBinarySearchResult (λ k. key_cmp k (key_of id.0)) (map key_at ss) r
       → IsBinarySearchResult (λ s. key_cmp (key_at s) (key_of id.0)) ss r
@@ -143,13 +143,13 @@ module _ (ss : List Station) (id : StationId) (listed : AreListed ss) (rise : Ri
           let order = searchable_from_sorted keys_total key_at ss (key_of id.0) rise i j d le lt in
           omega (arith, first, second, order)
 
-  -- a search among the keys answers the ID's place
+  -- a search among the keys returns the ID's place
   pub searched-keys : (r : Result ℕ ℕ) → IsSearchInRange r (length (map key_at ss))
       → IsBinarySearchResult (λ k. key_cmp k (key_of id.0)) (map key_at ss) r → result_ok r ≡ place_of ss id
   searched-keys r range found =
       let within = subst (IsSearchInRange r) (length-map ss key_at) range in searched r within (through r within found)
 
--- ---- a station behind the others
+-- ---- a station after the others
 
 -- no stations are listed, and rise
 pub nothing_listed : (ss : List Station) (keys : List (ℕ × ℕ)) → ss ≡ [] → keys ≡ [] → AreRising ss keys
@@ -160,13 +160,13 @@ nothing_listed ss keys none empty =
       own = empty;
     })
 
--- the key of the last station is less than that of an ID behind it
+-- the key of the last station is less than that of an ID after it
 last_below : (ss : List Station) (id : StationId) (d : Station) → 0 < length ss → is_behind ss id ≡ true
     → is_lt (key_cmp (key_at (get_or ss (length ss - 1) d)) (key_of id.0)) ≡ true
 last_below ss id d some behind =
     ap (λ (o : Option Station). is_past o id) (sym (slice_get-get_or ss (length ss - 1) d (omega arith))) ∙ behind
 
--- an ID behind all that rise is none of theirs
+-- an ID after all that rise is none of theirs
 pub place-behind : (ss : List Station) (id : StationId) → Rise ss → is_behind ss id ≡ true → place_of ss id ≡ None
 place-behind ss id rise behind = no_place_by ss id (λ k d lt.
     let last : Station = get_or ss (length ss - 1) d in
@@ -179,7 +179,7 @@ place-behind ss id rise behind = no_place_by ss id (λ k d lt.
       | false ↦ λ e. refl
     ] refl)
 
--- stations rise with one more behind them
+-- stations rise with one more after them
 rise-push : (ss : List Station) (s : Station) → Rise ss → is_behind ss s.id ≡ true → Rise (ss ++ s ∷ [])
 rise-push ss s rise behind k d low lt =
     let at = λ (i : ℕ). get_or (ss ++ s ∷ []) i d in
@@ -195,7 +195,7 @@ rise-push ss s rise behind k d low lt =
           (ap (λ (i : ℕ). below (get_or ss i d) s) (sym last) ∙ last_below ss s.id d (omega arith) behind)
     ]
 
--- and are kept so, with its key behind theirs
+-- and are kept so, with its key after theirs
 pub kept-behind : (ss more : List Station) (s : Station) (keys longer : List (ℕ × ℕ)) (key : ℕ × ℕ)
     → AreRising ss keys → place_of ss s.id ≡ None → length ss < 2 ^ 20 → is_station s ≡ true
     → is_behind ss s.id ≡ true → more ≡ ss ++ s ∷ [] → longer ≡ keys ++ key ∷ [] → key ≡ key_of s.id.0

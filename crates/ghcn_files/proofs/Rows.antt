@@ -27,7 +27,7 @@ use Rattle.ghcn_files.specs.Rows.{if_so, if_possible, value_at, no_reading, valu
 use Rattle.ghcn_files.specs.Rows.{AreValues, value_from, if_kept}
 use Rattle.ghcn_files.proofs.Ranges.{reading-right}
 
--- a word and values have what the first so many of some days have
+-- a word and values have what the first i of some days have
 pub record HasFirst (day : ℕ → Option ℤ) (i w : ℕ) (vs : List ℤ) : Type 0 where
   pub fits : w < 2 ^ i
   pub long : length vs ≡ 32
@@ -40,11 +40,11 @@ absent_value : (w : ℕ) (vs : List ℤ) (j : ℕ) → bit_at w j ≡ 0 → valu
 absent_value w vs j e = ap (λ (b : ℕ). if_so (b == 1) (get_or vs j (pos 0))) e
 
 module _ (day : ℕ → Option ℤ) (i w : ℕ) (vs : List ℤ) (is : HasFirst day i w vs) (lt : i < 32) where
-  -- what stands at an earlier place stays
+  -- what is at an earlier place stays
   before-stays : (v : ℤ) (j : ℕ) → j < i → get_or (set vs i v) j (pos 0) ≡ get_or vs j (pos 0)
   before-stays v j before = get_or-set_other vs i j v (pos 0) (omega (arith, before))
 
-  -- and the new value stands at its own
+  -- and the new value is at its own
   stands-here : (v : ℤ) → get_or (set vs i v) i (pos 0) ≡ v
   stands-here v = get_or-set_same vs i v (pos 0) (omega (arith, lt, is.long))
 
@@ -107,7 +107,7 @@ module _ (day : ℕ → Option ℤ) (i w : ℕ) (vs : List ℤ) (is : HasFirst d
     ];
   }
 
--- a day is set where it counts, and else cleared
+-- a day is set if it counts, and otherwise cleared
 pub first-step : (day : ℕ → Option ℤ) (i k w : ℕ) (vs : List ℤ) (t : Bool) (v : ℤ) → HasFirst day i w vs
     → day i ≡ if_so t v → i < 32 → i ≡ k
     → HasFirst day (i + 1) (bit_or w (if t then 2 ^ i else 0)) (set vs k (if t then v else pos 0))
@@ -118,7 +118,7 @@ first-step day i k w vs false v is none lt same =
     (subst (λ (u : ℕ). HasFirst day (i + 1) u (set vs i (pos 0))) (sym (or_zero_r w))
     (first-passed day i w vs is lt none))
 
--- at a place of zeros stands 0
+-- a place of zeros has 0
 zero_at : (n j : ℕ) → get_or (replicate n (pos 0)) j (pos 0) ≡ pos 0
 zero_at zero j = refl
 zero_at (suc n) zero = refl
@@ -147,7 +147,7 @@ set_bit : (t : Bool) (v : ℤ) → if_so t v ≡ None → t ≡ false
 set_bit true v e = absurd cc
 set_bit false v e = refl
 
--- all days are those of a row, where the place behind them has none
+-- all days are those of a row, if the place after them has none
 pub all-are : (day some : ℕ → Option ℤ) (i w : ℕ) (vs : List ℤ) → i ≡ 32 → some 31 ≡ None
     → ((j : ℕ) → j < 31 → some j ≡ day j) → HasFirst some i w vs → AreDays day w vs
 all-are day some i w vs e none same is =

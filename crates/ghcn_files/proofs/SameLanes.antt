@@ -46,7 +46,7 @@ from_full_mask xs ys many long is =
 apart : (xs : List ℕ) → length xs ≡ 17 → xs ≡ take 16 xs ++ get_or xs 16 0 ∷ []
 apart xs many = sym (take_all 17 xs (omega (arith, many))) ∙ take-suc xs 16 0 (omega (arith, many))
 
--- they are the same where both are
+-- they are the same if both are
 pub same_seventeen : (xs ys : List ℕ) → length xs ≡ 17 → length ys ≡ 17 → take 16 xs ≡ take 16 ys
     → get_or xs 16 0 ≡ get_or ys 16 0 → xs ≡ ys
 same_seventeen xs ys many long most last =

@@ -37,7 +37,7 @@ first-say whole line long is =
     subst (λ (l : List ℕ). SaysSame whole l) (ap (λ (l : List ℕ). l ++ drop 269 line) is ∙ take-append-drop 269 line)
     (front-says whole (drop 269 line) (ap (λ (l : List ℕ). length l) is ∙ length-take-le 269 line long))
 
--- a byte of a line, or a blank behind it, is there too where blanks are added
+-- a byte of a line, or a blank after it, is there too if blanks are added
 filled-byte : (line : List ℕ) (n i : ℕ) → get_or (line ++ replicate n 32) i 32 ≡ get_or line i 32
 filled-byte [] zero i = refl
 filled-byte [] (suc n) zero = refl

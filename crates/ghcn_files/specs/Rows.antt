@@ -48,7 +48,7 @@ pub record AreDays (day : ℕ → Option ℤ) (word : ℕ) (values : List ℤ) :
   pub holds : (j : ℕ) → j < 31 → value_at word values j ≡ day j
   pub zeros : (j : ℕ) → bit_at word j ≡ 0 → get_or values j (pos 0) ≡ pos 0
 
--- what stands at a place, if it is kept
+-- what is at a place, if it is kept
 abbrev pub if_kept : {A : Type 0} → Bool → Option A → Option A
 if_kept kept o = if kept then o else None
 
@@ -60,7 +60,7 @@ pub record IsRowOf (kept : Bool) (m : Month) (row : MonthRow) : Type 0 where
   pub month : row.month ≡ m.month
   pub days : AreDays (λ j. if_kept kept (day_value m j)) row.word row.values
 
--- a row is of the month that a line says, with its days if those of its element are kept
+-- a row is that of the month that a line says, with its days if those of its element are kept
 pub record IsOfLine (asked : Keep) (line : List ℕ) (found : MonthRow) : Type 0 where
   pub month : Month
   pub read : read_month line ≡ Ok (Some month)

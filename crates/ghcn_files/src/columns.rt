@@ -3,7 +3,7 @@
 ghost use Rattle.std.specs.Prelude.{◌≡◌, ◌≤◌, ◌+◌, ◌-◌, IfSome};
 ghost use Rattle.ghcn_fields.specs.Lines as lines;
 
-/// That many columns of a line from one on; blanks stand for those that a short line lacks.
+/// That many columns of a line from one on; a column that a short line lacks is a blank.
 pub(crate) fn columns<const N: usize>(line: &[u8], from: usize) -> [u8; N]
     requires { 1 ≤ from }
     ensures { result ≡ lines.columns from (from + N - 1) line.now }
@@ -15,7 +15,7 @@ pub(crate) fn columns<const N: usize>(line: &[u8], from: usize) -> [u8; N]
     }
 }
 
-/// The same where they stand in the line, if it has all of them.
+/// The same columns, lent from the line, if it has all of them.
 pub(crate) fn columns_in<const N: usize>(line: &[u8], from: usize) -> Option<&[u8; N]>
     requires { 1 ≤ from }
     ensures { IfSome result (λ found. found.now ≡ lines.columns from (from + N - 1) line.now) }

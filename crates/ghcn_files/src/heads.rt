@@ -47,11 +47,11 @@ impl MonthReader {
         }
     }
 
-    /// The row of the line that was read last, if that line is of one of the elements and has no error. Otherwise no
-    /// clause says what it is. As the code is, it is this:
+    /// The row of the line that was read last, if that line belongs to one of the elements and has no error.
+    /// Otherwise no clause says what it is. As the code is, it is this:
     ///
-    /// - Before the first line it is of no line. Its ID is blanks, its month is January of the year 1, and it has no
-    ///   days.
+    /// - Before the first line it belongs to no line. Its ID is blanks, its month is January of the year 1, and it
+    ///   has no days.
     /// - After a line of another element it is the row from before that line.
     /// - After an error it is the row from before that line. If the error is a bad value, it has the line's ID,
     ///   element, year and month already, beside the days from before.
@@ -61,8 +61,8 @@ impl MonthReader {
         &self.row
     }
 
-    /// Reads a line as `read_days` does, into the reader's row. Answers whether the line is of one of the elements;
-    /// if it isn't, and if it is refused, nothing is known of the row.
+    /// Reads a line as `read_days` does, into the reader's row. Returns whether the line belongs to one of the
+    /// elements; if it doesn't, and if it is refused, nothing is known of the row.
     #[inline(always)]
     pub fn read(&mut self, line: &[u8], asked: Keep) -> Result<bool, LineWhy>
         ensures { rows.IsReadInto asked line.now self.new.row result }

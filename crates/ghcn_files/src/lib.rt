@@ -1,7 +1,6 @@
 //! The lines of GHCN-Daily's two files: listed stations, and months of daily values.
 //!
-//! The crate of series uses it, and so does the query language. It gives them the
-//! station and the month.
+//! The crate of series and the query language use it, for the station and the month.
 #![tactic(auto)]
 
 mod columns;

@@ -69,7 +69,7 @@ pub(crate) struct Head {
     pub(crate) month: u8,
 }
 
-/// Reads a line of a daily file that isn't blank: nothing if it is of none of the five elements.
+/// Reads a line of a daily file that isn't blank: nothing if it belongs to none of the five elements.
 ///
 /// The readme's line has 269 columns; that the last three, blanks of a day's flags, may be left out
 /// and that a value may be blank is this project's own leniency.

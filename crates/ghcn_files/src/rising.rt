@@ -31,7 +31,7 @@ pub(crate) fn place_among(_list: &[Station], keys: &[(u64, u32)], id: &StationId
     keys.binary_search(&key(&id.0)).ok()
 }
 
-/// The places of listed stations by the keys of their IDs. It isn't built into its caller, where
+/// The places of listed stations by the keys of their IDs. It isn't built into its caller, since
 /// few lists need it.
 #[inline(never)]
 pub(crate) fn places_of(

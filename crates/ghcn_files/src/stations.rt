@@ -24,7 +24,7 @@ use std::marker::Model;
 #[derive(Drop)]
 pub struct Stations {
     list: Vec<Station>,
-    /// The keys of all IDs as long as they rise, where an ID is searched then.
+    /// The keys of all IDs as long as they rise; an ID is searched among them then.
     keys: Vec<(u64, u32)>,
     /// The place of each ID in the list, by the ID's key, from the first ID on that doesn't rise. An
     /// ordered map has no IDs that make its look-ups slow.
@@ -159,7 +159,7 @@ impl Stations {
 }
 
 /// Puts the station of a line after the others, whose IDs all come before its own, and its key after theirs. It is
-/// made once there is room for it, and so where it is kept.
+/// made once there is room for it, and so in the place in which it is kept.
 fn push_with_key(
     stations: &mut Vec<Station>,
     keys: &mut Vec<(u64, u32)>,

@@ -104,7 +104,7 @@ from_gatherings id (g ∷ gs) ready =
       | false ↦ λ is. (is_series id g _ ready.0 is refl, from_gatherings id gs ready.1)
     ] refl
 
--- ---- no two series are of one station and element
+-- ---- no two series belong to one station and element
 
 -- the series of one element is none of those of the others
 others_apart : (facts : List Fact) (s : Station) (e : Element) (es : List Element)
@@ -134,7 +134,7 @@ ids_apart facts u (s ∷ ss) other =
     each-append (λ v. same_series u v ≡ false) (map (usable_of facts s) elements) (all_said facts ss)
     (each Prcp, (each Snow, (each Snwd, (each Tmax, (each Tmin, tt))))) (ids_apart facts u ss other.1)
 
--- where no ID stands twice, no two of all series are of one station and element
+-- if no ID is listed twice, no two of all series belong to one station and element
 pub stations_apart : (facts : List Fact) (ss : List Station) → IsDistinct same_id (ids ss)
     → IsDistinct same_series (all_said facts ss)
 unfolding IsDistinct
@@ -178,7 +178,7 @@ has_days s = not (length s.days == 0)
 pub is_kept_series : Keep → Usable → Bool
 is_kept_series asked u = is_kept asked u.element
 
--- of an element that is kept a series stands where it has a day
+-- a series of an element that is kept is there if it has a day
 one_kept : (asked : Keep) (b c : Bool) (x u : Usable) (xs us : List Usable) → b ≡ c → x ≡ u
     → is_kept_series asked u ≡ true → xs ≡ filter (is_kept_series asked) us
     → cons_option (cond b None (Some x)) xs ≡ filter (is_kept_series asked) (cond (not c) (u ∷ us) us)
@@ -188,7 +188,7 @@ one_kept asked false true x u xs us same this kept rest = absurd cc
 one_kept asked false false x u xs us same this kept rest =
     rw (this, rest, kept)
 
--- of any other none stands
+-- a series of any other element isn't there
 none_kept : (asked : Keep) (b c : Bool) (x u : Usable) (xs us : List Usable) → b ≡ true
     → is_kept_series asked u ≡ false → xs ≡ filter (is_kept_series asked) us
     → cons_option (cond b None (Some x)) xs ≡ filter (is_kept_series asked) (cond (not c) (u ∷ us) us)
@@ -303,7 +303,7 @@ all_right (g ∷ gs) ready =
     each-append IsSeries (station_series g) (all_gathered gs) (from_gatherings g.id g.by_element.items ready.0)
     (all_right gs ready.1)
 
--- the series of listed stations are of listed ones
+-- the series of listed stations belong to listed ones
 own_listed : (stations ss : List Station) (lists : List (List Usable))
     → AllByRecursion (λ s. is_listed stations s.id ≡ true) ss → AreOwn ss lists
     → AllByRecursion (λ u. is_listed stations u.id ≡ true) (all_of lists)
@@ -371,7 +371,7 @@ pub kept-is : (asked : Keep) (held : Contents) → kept asked held ≡ record {
 unfolding is_kept_series
 kept-is asked held = refl
 
--- where all elements are kept, data stay as they are
+-- if all elements are kept, data stay as they are
 pub kept-everything : (held : Contents) → kept everything held ≡ held
 kept-everything held =
     let of : List Usable → Contents = λ us.

@@ -1,4 +1,4 @@
--- Parts without a common day: a part more, and no day of theirs stands twice.
+-- Parts without a common day: a part more, and no day of theirs occurs twice.
 use Rattle.std.proofs.Common.{◌≡◌, ℕ, zero, suc, ◌+◌, false, List, [], ◌∷◌, ◌++◌, length, get_or, set}
 use Rattle.std.proofs.Common.{Option, Some, None, IsSome}
 use Rattle.std.proofs.Common.{inl, inr, refl, sym, ap, subst, ◌∙◌, arith, ℤ, pos, ◌<ℤ◌}
@@ -49,7 +49,7 @@ push-apart (x ∷ xs) b apart fresh =
       push-apart xs b apart.1 each.1,
     )
 
--- and so are the others where its days are joined to the last of them
+-- and so are the others if its days are joined to the last of them
 pub last-apart : (ns : List ℤ) (ws : List ℕ) (vs : List (List ℤ)) (i : ℕ) (p : ℕ) (r : List ℤ) (more : List DayValue)
     → length ws ≡ length ns → length vs ≡ length ns → i + 1 ≡ length ns
     → AreJoined (block_days (get_or ns i (pos 0), (get_or ws i 0, get_or vs i []))) more
@@ -86,7 +86,7 @@ join-apart ns ws vs i p u r is apart =
     last-apart ns ws vs i (bit_or (get_or ws i 0) p) r (block_days (get_or ns i (pos 0), (p, u)))
     is.blocks.enough_words is.blocks.enough_values is.last (join-last ns ws vs i p u r is) apart is.fresh
 
--- ---- no day stands twice
+-- ---- no day occurs twice
 
 -- two numbers differ in both directions
 other-turned : (a b : ℤ) → int_eq a b ≡ false → int_eq b a ≡ false

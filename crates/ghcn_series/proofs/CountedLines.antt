@@ -27,13 +27,13 @@ use Rattle.ghcn_series.proofs.FedLines.{daily_lines-one}
 
 -- ---- odd lines
 
--- the place of the first of two lines, where the first may be absent
+-- the place of the first of two lines, if the first may be absent
 first_place : (first : Option FileLine) (l : FileLine)
     → option_map place_of (option_or first (Some l)) ≡ option_or (option_map place_of first) (Some (place_of l))
 first_place None l = refl
 first_place (Some x) l = refl
 
--- nothing comes behind it
+-- nothing comes after it
 first_alone : (first : Option FileLine) → option_or first None ≡ first
 first_alone None = refl
 first_alone (Some x) = refl
@@ -104,7 +104,7 @@ counted-line old new ended whole more line place all behind adds is = record {
   has_element = adds.has_element ∙ any-more has_element (lines whole) more line all is.has_element;
 }
 
--- ---- what stands on a line
+-- ---- what is on a line
 
 -- two tests that hold
 pub both_of : (a b : Bool) → (a && b) ≡ true → (a ≡ true) × (b ≡ true)
@@ -151,7 +151,7 @@ element_alone false true f is = (refl, (refl, refl))
 element_alone false false true is = absurd cc
 element_alone false false false is = absurd cc
 
--- what is of another code is none of these
+-- what has another code is none of these
 other_alone : (b e f : Bool) → Other ≡ (if b then Blank else if e then OfElement else if f then Other else Odd)
     → (b ≡ false) × ((e ≡ false) × ((not b && not e && not f) ≡ false))
 other_alone true e f is = absurd cc
@@ -167,7 +167,7 @@ odd_alone false true f is = absurd cc
 odd_alone false false true is = absurd cc
 odd_alone false false false is = (refl, (refl, refl))
 
--- so it is of a line of this kind
+-- so it belongs to a line of this kind
 pub blank_kind : (line : List ℕ) → Blank ≡ line_kind line
     → (is_blank line ≡ true) × ((has_element line ≡ false) × (is_odd line ≡ false))
 blank_kind line is = blank_alone (is_blank line) (has_element line) (has_form line) is (blank_line line)
@@ -227,7 +227,7 @@ foreign-same ended whole none =
     sum_by-append (λ f. cond (is_foreign f) 1 0) ended (whole ∷ []) ∙ rw none (omega arith) in
     rw (count, places-more ended whole, none, append-nil (foreign_places ended)) refl
 
--- what was noted of a file tells whether it is foreign
+-- what was noted of a file says whether it is foreign
 pub same_test : (c : LineCounts) (ended : List (List ℕ)) (whole : List ℕ) → HaveCounted c ended whole
     → is_foreign whole ≡ (c.has_line && not c.has_element)
 same_test c ended whole is = rw (is.has_line, is.has_element) refl

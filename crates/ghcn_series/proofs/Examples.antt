@@ -78,7 +78,7 @@ held all = record { stations = both; series = all; unlisted = 0 }
 abbrev seen : FileLine → ℕ × ℕ × List ℕ
 seen l = (l.file, l.line, l.bytes)
 
--- blank lines and files without a line count, but are no lines to read; a return before a line feed is taken off
+-- blank lines and files without a line count, but aren't lines to read; a return before a line feed is taken off
 places : map seen (daily_lines ((10 ∷ codes "a" ++ 13 ∷ 10 ∷ 32 ∷ 13 ∷ 10 ∷ codes "b") ∷ [] ∷ codes "c" ∷ []))
     ≡ (1, 2, codes "a") ∷ (1, 4, codes "b") ∷ (3, 1, codes "c") ∷ []
 places = refl
@@ -147,7 +147,7 @@ abbrev rainy : List (List ℕ)
 rainy = text (line (codes "ZZA00000001202007PRCP") (codes "   -5   " ++ codes "    5   ")
     ∷ warm (codes "ZZA00000009202007TMAX") ∷ []) ∷ []
 
--- the facts that count of what they say, and how many lines are of a station that isn't listed
+-- the facts that count of what they say, and how many lines belong to a station that isn't listed
 facts_that_count : (facts_said both rainy
     ≡ record { id = alpha.id; element = Prcp; day = pos 18445; value = pos 5 } ∷ []) × (unlisted_said both rainy ≡ 1)
 unfolding days_of_group days_from_civil day_count days_of_years days_of_months
@@ -188,7 +188,8 @@ not_twice : data_of both (text (line (codes "ZZA00000001202007TMAX") gap ∷ lin
 unfolding days_of_group
 not_twice = refl
 
--- of two errors of a line its own is told, and of two lines the first; a line of an unlisted station has to be right
+-- of two errors of a line its own is reported, and of two lines the first; a line of an unlisted station has to be
+-- right
 first_told : (data_of both (text (warm (codes "ZZA00000001202007TMAX")
     ∷ line (codes "ZZA00000001202007TMAX") (codes "    x   ") ∷ []) ∷ []) ≡ Err (DailyLine 1 2 (Line (why.BadValue 1))))
     × (data_of both (text (warm (codes "ZZA00000001202007TMAX") ∷ warm (codes "ZZA00000001202007TMAX")
@@ -216,7 +217,7 @@ no_lines (suc n) from = no_lines n (from + 1)
 abbrev read_lines : List FileLine → Result Contents DataFault
 read_lines ls = contents_unless (first_fault (daily_fault both) ls) (contents both ls)
 
--- files are read where they are few enough
+-- files are read if they are few enough
 by_number : (n : ℕ) (file : List ℕ) → data_of both (replicate n file)
     ≡ (if nat_le n (2 ^ 20) then read_lines (daily_lines (replicate n file)) else Err TooManyFiles)
 by_number n file =
@@ -275,7 +276,7 @@ pieces : (files_of begun ≡ []) × (files_of (more begun []) ≡ [])
     × (files_of (more (more begun (codes "ab")) (codes "c")) ≡ codes "abc" ∷ [])
 pieces = (refl, refl, refl)
 
--- a file that was ended counts where it is empty too, and what comes then is of the next one
+-- a file that was ended counts if it is empty too, and what comes then belongs to the next one
 ended : (files_of (with_end begun) ≡ [] ∷ [])
     × (files_of (more (with_end (more begun (codes "ab"))) (codes "c")) ≡ codes "ab" ∷ codes "c" ∷ [])
     × (files_of (with_end (more (with_end (more begun (codes "ab"))) (codes "c"))) ≡ codes "ab" ∷ codes "c" ∷ [])
@@ -289,7 +290,7 @@ abbrev list : List ℕ
 list = text (codes "ZZA00000002  11.0000   21.0000  100.0    BRAVO" ∷ codes "   "
     ∷ codes "ZZA00000001  10.0000   20.0000  100.0    ALPHA" ∷ [])
 
--- so it is with what files hold that have no fault
+-- so it is with what files hold that have no error
 right_data : (listed list ≡ Ok both) × IsContents (held (series bravo Tmax ((pos 18444, pos 311) ∷ [])
     ∷ series alpha Tmax ((pos 18445, pos 305) ∷ [])
     ∷ series alpha Tmin ((pos 18444, neg_ℤ (pos 5)) ∷ (pos 18475, pos 3) ∷ []) ∷ []))
@@ -336,12 +337,12 @@ unlisted_in_parts = (refl, refl)
 abbrev two_days : List DayValue
 two_days = (pos 18444, pos 311) ∷ (pos 18511, pos 300) ∷ []
 
--- from each of these blocks on, and behind the last
+-- from each of these blocks on, and after the last
 next_blocks : map (next_block two_days) (pos 0 ∷ pos 576 ∷ pos 577 ∷ pos 578 ∷ pos 579 ∷ [])
     ≡ Some (pos 576) ∷ Some (pos 576) ∷ Some (pos 578) ∷ Some (pos 578) ∷ None ∷ []
 next_blocks = refl
 
--- a later block isn't the next one, nor one without a day, and there is one where a day follows
+-- a later block isn't the next one, nor one without a day, and there is one if a day follows
 not_next : (IsNextBlock two_days (pos 576) (Some (pos 578)) → ⊥) × (IsNextBlock two_days (pos 577) (Some (pos 577)) → ⊥)
     × (IsNextBlock two_days (pos 578) None → ⊥)
 not_next = (
@@ -365,7 +366,7 @@ joined_line_is_odd = refl
 blanks_after_are_not_odd : is_odd (line (codes "ZZA00000001202007WT01") [] ++ codes "  ") ≡ false
 blanks_after_are_not_odd = refl
 
--- a byte-order mark moves a line, and no code stands at its place then
+-- a byte-order mark moves a line, and no code is at its place then
 marked_line_is_odd : is_odd (239 ∷ 187 ∷ 191 ∷ warm (codes "ZZA00000001202007TMAX")) ≡ true
 marked_line_is_odd = refl
 

@@ -293,7 +293,7 @@ module _ {L : Type 0} {has_read : Reading L} where
 
   -- ---- errors that are kept
 
-  -- what was read is told by the lines alone
+  -- what was read depends on the lines alone
   pub same_read : (old new : Cutter L) (fed : Fed) → new.reader ≡ old.reader → new.counts ≡ old.counts
       → new.line ≡ old.line → new.rest ≡ old.rest → HasReadFed has_read old fed → HasReadFed has_read new fed
   same_read old new fed reader counts line rest is = record {

@@ -140,7 +140,7 @@ module _ (n : ℤ) (w : ℕ) (are : AreCalendarDays n w) (some : 0 < w) (fits : 
   pub lowest-day : is_day (block_start n +ℤ pos lowest) ≡ true
   lowest-day = let at = bit_at-trailing_zeros w32 w some fits in are.days lowest at.0 at.1
 
-  -- the bits that stay are of days too
+  -- the bits that stay belong to days too
   pub days-left : AreCalendarDays n (without_lowest w)
   days-left = record {
     days = λ j lt set.

@@ -9,7 +9,7 @@ use Rattle.std.proofs.lemmas.List.Folds.{list_all_at}
 use Rattle.ghcn_fields.specs.Lines.{columns}
 use Rattle.ghcn_series.specs.LineKinds.{may_follow, is_code, has_code}
 
--- bytes with a blank behind the first are no code
+-- bytes with a blank after the first aren't a code
 blank_behind : (bytes : List ℕ) (i : ℕ) → i + 1 < length bytes → get_or bytes (i + 1) 0 ≡ 32 → is_code bytes ≡ false
 blank_behind [] i within is = refl
 blank_behind (b ∷ bytes) i within is =

@@ -49,7 +49,7 @@ module _ {X : Type 0} (test kept : X → Bool) (u : X) where
             ]
       ] refl
 
-  -- and where it isn't kept, nothing is found
+  -- and if it isn't kept, nothing is found
   find-dropped : kept u ≡ false → (xs : List X) → AllByRecursion (λ x. test x ≡ true → x ≡ u) xs
       → find test (filter kept xs) ≡ None
   find-dropped dropped_is [] alike = refl
@@ -75,7 +75,7 @@ module _ (facts : List Fact) where
     abbrev pub series_made : Usable
     series_made = record { id = id; element = e; days = days_of facts id e }
 
-    -- whatever is of the station and element is its series
+    -- whatever belongs to the station and element is its series
     abbrev IsTheOne : Usable → Type 0
     IsTheOne u = is_series_of id e u ≡ true → u ≡ series_made
 
@@ -108,7 +108,7 @@ module _ (facts : List Fact) where
     among_five true Tmin = refl
     among_five false f = refl
 
-    -- a station's series is said where the station is listed
+    -- a station's series is said if the station is listed
     listed_said : (ss : List Station) → list_any (is_series_of id e) (flat_map station_said ss) ≡ is_listed ss id
     listed_said [] = refl
     listed_said (s ∷ ss) =

@@ -128,12 +128,12 @@ pub none_in : {X : Type 0} (xs : List X) → (length xs == 0) ≡ true → xs �
 none_in [] e = refl
 none_in (x ∷ xs) e = absurd (omega (arith, eqb-true (length (x ∷ xs)) 0 e))
 
--- days without one in their order are none
+-- days of which none is in their order are no days
 none_sorted : (xs : List DayValue) → not (length (sorted_by by_day xs) == 0) ≡ false → xs ≡ []
 none_sorted xs e =
     none_in xs (ap (λ (n : ℕ). n == 0) (sym (length-sorted xs)) ∙ not-false (length (sorted_by by_day xs) == 0) e)
 
--- days of which the first ones are none
+-- days before which there are none
 pub joined-left : (xs ys : List DayValue) → not (length (sorted_by by_day xs) == 0) ≡ false
     → sorted_by by_day (xs ++ ys) ≡ sorted_by by_day ys
 joined-left xs ys none = ap (λ (l : List DayValue). sorted_by by_day (l ++ ys)) (none_sorted xs none)

@@ -114,7 +114,7 @@ module _ {V : Type 0} (alike : V → V → Bool) where
   each_left P [] ys h = tt
   each_left P (x ∷ xs) ys h = (h.0, each_left P xs ys h.1)
 
-  -- the first of two lists has distinct elements where both together have
+  -- the first of two lists has distinct elements if both together have
   distinct_left : (xs ys : List V) → IsDistinct alike (xs ++ ys) → IsDistinct alike xs
   unfolding IsDistinct
   distinct_left [] ys d = tt
@@ -136,8 +136,8 @@ module _ {V : Type 0} (alike : V → V → Bool) where
 
 -- ---- one thing
 
--- what lists give of things joins where the lists do: no list gives none, two lists give what the one does where the
--- other gives none, and whatever is given of one thing is alike
+-- what lists give of things joins if the lists do: no list gives none, two lists give what the one does if the other
+-- gives none, and whatever is given of one thing is alike
 pub record Joins {T X V : Type 0} (u : List T → X → V) (has : V → Bool) (alike : V → V → Bool) : Type 0 where
   pub turned : (a b : V) → alike a b ≡ alike b a
   pub none : (x : X) → has (u [] x) ≡ false

@@ -24,7 +24,7 @@ use Rattle.ghcn_series.proofs.JoinedLists.{Joins, held_whole}
 
 -- ---- the series of two lists of facts
 
--- a series has the days of later facts alone where the first ones give it none
+-- a series has the days of later facts alone if the first ones give it none
 pub usable_of-left : (s : Station) (e : Element) (f g : List Fact) → has_days (usable_of f s e) ≡ false
     → usable_of (f ++ g) s e ≡ usable_of g s e
 usable_of-left s e f g none =
@@ -32,7 +32,7 @@ usable_of-left s e f g none =
     (ap (sorted_by by_day) (days_said-append f g s.id e)
     ∙ joined-left (days_said f s.id e) (days_said g s.id e) none)
 
--- and those of the first ones where later ones give it none
+-- and those of the first ones if later ones give it none
 pub usable_of-right : (s : Station) (e : Element) (f g : List Fact) → has_days (usable_of g s e) ≡ false
     → usable_of (f ++ g) s e ≡ usable_of f s e
 usable_of-right s e f g none =
@@ -71,13 +71,13 @@ same_series-turned a b =
     elements_turned : (e f : Element) → same_element e f ≡ same_element f e
     elements_turned e f = nat_eq_equiv.symm (element_index e) (element_index f)
 
--- whatever the facts, the series is of the same station and element
+-- whatever the facts, the series belongs to the same station and element
 said_alike : (x : Place) (f g : List Fact) → same_series (said_at f x) (said_at g x) ≡ true
 said_alike x f g =
     and_from (same_id x.0.id x.0.id) (same_element x.1 x.1) (same_id-refl x.0.id)
     (eq-eqb (element_index x.1) (element_index x.1) refl)
 
--- so series join where facts do
+-- so series join if facts do
 series_join : Joins said_at has_days same_series
 series_join = record {
   turned = same_series-turned;
@@ -104,7 +104,7 @@ module _ (stations : List Station) where
       ap (λ (l : List Usable). l ++ all_their_series (map (contents_in stations) parts)) (series_held p)
       ∙ ap (λ (l : List Usable). series_said (facts_in stations p) ++ l) (all_series_held parts)
 
-  -- if no two series of all parts are of one station and element, those of all files are these
+  -- if no two series of all parts belong to one station and element, those of all files are these
   series_together : (parts : List (List (List ℕ)))
       → IsDistinct same_series (all_their_series (map (contents_in stations) parts))
       → IsPermutation (all_their_series (map (contents_in stations) parts))

@@ -1,4 +1,4 @@
--- What a cutter knows that has taken a piece or a file's end, and what it tells when all files are ended.
+-- What a cutter knows that has taken a piece or a file's end, and what it returns when all files are ended.
 use Rattle.std.proofs.Common.{◌≡◌, ℕ, true, false, Bool, ◌+◌, ◌<◌, ◌≤◌, ◌^◌, List, [], ◌∷◌, length}
 use Rattle.std.proofs.Common.{Option, None, Some, refl, sym, ap, ◌∙◌, subst, length-append, arith}
 use Rattle.std.specs.Prelude.{◌&&◌, nat_lt, nat_le, is_none, Result, OnOk, IfErr}
@@ -130,7 +130,7 @@ module _ {L : Type 0} {has_read : Reading L} where
       → HasCounted (with_byte c) (more fed.files bytes)
   byte_counted c fed bytes some is = counted-more c (with_byte c) fed.files bytes some refl refl is.counted
 
-  -- a piece that is looked at is of a file with a number
+  -- a piece that is looked at belongs to a file with a number
   pub piece-few : (c : Cutter L) (bytes : List ℕ) → 0 < length bytes → LooksAtLines (with_byte c) true
       → HasFedSome has_read c → c.ended < 2 ^ 20
   piece-few c bytes some looks fed =
@@ -198,7 +198,7 @@ module _ {L : Type 0} {has_read : Reading L} where
 
   -- ---- the end of a file
 
-  -- a last line without its feed is of a file with a number
+  -- a last line without its feed belongs to a file with a number
   pub end-few : (c : Cutter L) → LooksAtLines c true → HasFedSome has_read c → 0 < length c.rest.items
       → c.ended < 2 ^ 20
   end-few c looks fed some =

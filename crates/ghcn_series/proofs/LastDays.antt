@@ -21,7 +21,7 @@ last_of [] = None
 last_of (x ∷ []) = Some x.0
 last_of (x ∷ y ∷ ys) = last_of (y ∷ ys)
 
--- it stands at the last place
+-- it is at the last place
 pub last_of-at : (days : List DayValue) → last_of days ≡ option_map (λ x. x.0) (slice_get days (length days - 1))
 last_of-at [] = refl
 last_of-at (x ∷ []) = refl

@@ -103,7 +103,7 @@ pub block-other : (b : Block) (day : ℤ) → (b.0 ≡ block_of day → ⊥) →
 block-other b day h =
     from-other (block_start b.0) b.1.0 b.1.1 day (λ j lt e. h (sym (block-of_place b.0 j lt) ∙ ap block_of e))
 
--- a day is looked up among some days, and else among those after them
+-- a day is looked up among some days, and otherwise among those after them
 pub value_on-append : (xs ys : List DayValue) (day : ℤ) → value_on (xs ++ ys) day ≡ option_or (value_on xs day)
     (value_on ys day)
 value_on-append [] ys day = refl

@@ -16,17 +16,17 @@ in-contains [] x h = absurd h
 in-contains (y ∷ ys) x (inl at) = (0, omega arith, at)
 in-contains (y ∷ ys) x (inr h) = let there = in-contains ys x h in (suc there.0, omega (arith, there.1), there.2)
 
--- what is true of each is true of one that stands there
+-- what is true of each is true of one that is there
 pub of_each : {X : Type 0} (P : X → Type 0) (xs : List X) → AllByRecursion P xs → (x : X) → Contains xs x → P x
 of_each P xs all x has = of_one P xs x all (contains-in xs x has)
 
--- each stands there
+-- each is there
 pub itself : {X : Type 0} (xs : List X) → AllByRecursion (Contains xs) xs
 itself xs = for_each (Contains xs) xs (in-contains xs)
 
 -- ---- what is found
 
--- one that passes is there where a test of any passes
+-- one that passes is there if a test of any passes
 pub any_in : {X : Type 0} (test : X → Bool) (xs : List X) → list_any test xs ≡ true
     → (x : X) × In xs x × (test x ≡ true)
 any_in test [] e = absurd cc

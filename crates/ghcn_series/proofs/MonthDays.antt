@@ -30,7 +30,7 @@ pub record IsOfCalendar (y m d : ℕ) : Type 0 where
 pub civil_of : (y m d : ℕ) → IsOfCalendar y m d → IsCivilDate (pos y) m d
 civil_of y m d is = ((omega (arith, ints, is.year), omega (arith, ints, is.year)), is.month, is.day)
 
--- the parts of a date are of the calendar
+-- the parts of a date are in the calendar
 pub from_date : (y m d : ℕ) → is_date y m d ≡ true → IsOfCalendar y m d
 from_date y m d e = record {
   year = (grind (arith, nat_tests), grind (arith, nat_tests));
@@ -42,7 +42,7 @@ from_date y m d e = record {
 pub to_date : (y m d : ℕ) → IsOfCalendar y m d → is_date y m d ≡ true
 to_date y m d is = grind (arith, nat_tests, is.year, is.month, is.day)
 
--- a day that has a number is of the calendar, and its number is that of its date
+-- a day that has a number is in the calendar, and its number is that of its date
 pub has_number : (y m d : ℕ) (n : ℤ) → day_number y m d ≡ Some n
     → IsOfCalendar y m d × (n ≡ days_from_civil (pos y) m d)
 has_number y m d n e =

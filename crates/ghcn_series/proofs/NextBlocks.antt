@@ -42,7 +42,7 @@ module _ (b : ℤ) where
     );
   }
 
-  -- it is that of days behind one in a block before
+  -- it is that of days after one in a block before
   behind : (x : DayValue) (xs : List DayValue) (o : Option ℤ) → int_le b (block_of x.0) ≡ false → IsNextBlock xs b o
       → IsNextBlock (x ∷ xs) b o
   behind x xs None gt next = (grind (arith, ints), next)
@@ -55,7 +55,7 @@ module _ (b : ℤ) where
     );
   }
 
-  -- the next block is the least, and there is none where all days are in blocks before
+  -- the next block is the least, and there is none if all days are in blocks before
   next-least : (days : List DayValue) (o : Option ℤ) → AreRising days → next_block days b ≡ o → IsNextBlock days b o
   next-least [] None rise is = tt
   next-least [] (Some k) rise is = absurd cc

@@ -28,7 +28,7 @@ places-cut s (suc k) m =
     ap (range_with_len s) more
     ∙ ap (λ ps. s ∷ ps) (places-cut (s + 1) k m ∙ ap (λ t. range_with_len (s + 1) k ++ range_with_len t m) same)
 
--- the lesser of two bits is one of them where the other is 1, and 0 where the other is 0
+-- the lesser of two bits is one of them if the other is 1, and 0 if the other is 0
 least-one : (a b : ℕ) → a < 2 → b ≡ 1 → min a b ≡ a
 least-one a b less e = omega (arith, e)
 
@@ -40,7 +40,7 @@ least-none a b e = omega (arith, e)
 pub first-set : (a b : ℕ) → a < 2 → min a b ≡ 1 → a ≡ 1
 first-set a b less e = omega (arith, e)
 
--- the days that some of a word's bits leave are of the calendar
+-- the days that some of a word's bits leave are in the calendar
 pub some-bits : (n : ℤ) (w mask : ℕ) → AreCalendarDays n w → AreCalendarDays n (bit_and w mask)
 some-bits n w mask are = record {
   days = λ j lt set.

@@ -36,9 +36,9 @@ pub ordered-rise : (p : Parts) → AreOrdered p → AreRising (days_held p)
 ordered-rise p is = columns-rise p.numbers.items p.words.items p.values.items
     (record { blocks = is.parts.blocks; rise = is.parts.rise is.in_order })
 
--- ---- values are told by what they weigh
+-- ---- what values weigh determines them
 
--- what a value weighs, and 0 where there is none
+-- what a value weighs, and 0 if there is none
 abbrev pub weight : (ℤ → ℕ) → Option ℤ → ℕ
 weight g None = 0
 weight g (Some v) = g v
@@ -79,7 +79,7 @@ weight-le : (a : Option ℤ) → weight each_one a < 2
 weight-le None = omega arith
 weight-le (Some v) = omega arith
 
--- and 1 where there is one
+-- and 1 if there is one
 weight-some : (a : Option ℤ) → IsSome a → weight each_one a ≡ 1
 weight-some None some = absurd cc
 weight-some (Some v) some = refl
@@ -112,7 +112,7 @@ parts_in p order = map (part_at p.words.items p.values.items) order
 abbrev pub part_in : Parts → List (ℤ × ℕ) → ℕ → Block
 part_in p order k = part_at p.words.items p.values.items (get_or order k (pos 0, 0))
 
--- a number stands at its place
+-- a number is at its place
 pub record StandsAt (numbers : List ℤ) (at : ℤ × ℕ) : Type 0 where
   pub in_range : at.1 < length numbers
   pub is : at.0 ≡ get_or numbers at.1 (pos 0)
@@ -135,7 +135,7 @@ sorted-by_number ns items order is all sorted = record {
 }
 
 module _ (ns : List ℤ) (order : List (ℤ × ℕ)) (is : AreByNumber ns order) where
-  -- each number of the order stands at its place
+  -- each number of the order is at its place
   pub stands : (k : ℕ) → k < length order → StandsAt ns (get_or order k (pos 0, 0))
   stands k lt =
       All-permutation (StandsAt ns) (with_places ns) order is.all (λ i at in_range.
@@ -174,7 +174,7 @@ some-day b some fits =
     ∙ ap (λ (k : ℕ). if_so (k == 1) v) lowest.1 in
     (block_start b.0 +ℤ pos j, block-of_place b.0 j lowest.0, subst IsSome (sym has) refl)
 
--- if no day is of a later block, the last number is no greater
+-- if no day belongs to a later block, the last number is no greater
 last-le : (p : Parts) (n : ℤ) → AreParts p → ((d : ℤ) → IsSome (value_on (days_held p) d) → block_of d ≤ℤ n)
     → 0 < length p.numbers.items → last_number p ≤ℤ n
 last-le p n is below some =

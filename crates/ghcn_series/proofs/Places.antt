@@ -30,7 +30,7 @@ pub from_ids : (P : StationId → Type 0) (ss : List Station) (k : ℕ) (s : Sta
 from_ids P ss k s all at =
     from_all P (ids ss) k s.id all (slice_get-map (λ s. s.id) ss k ∙ ap (option_map (λ (s : Station). s.id)) at)
 
--- if no ID stands twice, a station is the first of its ID
+-- if no ID is listed twice, a station is the first of its ID
 pub first_place : (ss : List Station) (k : ℕ) (s : Station) → IsDistinct same_id (ids ss) → slice_get ss k ≡ Some s
     → (position_or_len (is_station_of s.id) ss ≡ k) × (k < length ss)
 unfolding IsDistinct
@@ -61,7 +61,7 @@ place_of-at ss k s id apart at of =
 lt_next : (n m : ℕ) → nat_lt (1 + n) (suc m) ≡ nat_lt n m
 lt_next n m = grind (arith, nat_tests)
 
--- an ID has a place where it is listed
+-- an ID has a place if it is listed
 has_place : (ss : List Station) (id : StationId) → nat_lt (position_or_len (is_station_of id) ss) (length ss)
     ≡ is_listed ss id
 has_place [] id = refl
@@ -81,7 +81,7 @@ unlisted-is ss id none = sym (has_place ss id) ∙ le-ltb (position_or_len (is_s
 abbrev pub IsAt : List Station → ℕ → StationId → Type 0
 IsAt ss k id = (s : Station) × (slice_get ss k ≡ Some s) × (s.id ≡ id)
 
--- at the place that is found stands the station
+-- the station is at the place that is found
 station_at : (ss : List Station) (id : StationId) (k : ℕ) → position_or_len (is_station_of id) ss ≡ k → k < length ss
     → IsAt ss k id
 station_at [] id k e lt = absurd (omega arith)

@@ -98,7 +98,7 @@ refused-month old new l m is adds stations keep before for =
       },
     )
 
--- ---- what stands on a line
+-- ---- what is on a line
 
 -- a line that is skipped has none of the elements
 none_read : (short : Bool) (e : Option Element) (line : List ℕ) → cond short (Err Short) (month_if e line) ≡ Ok None
@@ -118,7 +118,7 @@ some_read true e line m is = absurd cc
 some_read false None line m is = absurd cc
 some_read false (Some x) line m is = refl
 
--- so it is of a line
+-- so it belongs to a line
 pub other_code : (line : List ℕ) → read_month line ≡ Ok None → false ≡ has_element line
 other_code line is = sym (none_read (nat_lt (length line) 21) (element_of (columns 18 21 line)) line is)
 

@@ -95,7 +95,7 @@ put_station asked before m (x ∷ xs) (y ∷ ys) (suc k) s g new apart at of is 
 abbrev pub unlisted_months : List Station → List Month → ℕ
 unlisted_months stations months = count_by (λ m. not (is_listed stations m.id)) months
 
--- one month more is counted where its station isn't listed
+-- one month more is counted if its station isn't listed
 count_more : (stations : List Station) (before : List Month) (m : Month) (b : Bool) → is_listed stations m.id ≡ b
     → unlisted_months stations (before ++ m ∷ []) ≡ unlisted_months stations before + cond (not b) 1 0
 count_more stations before m b is =
@@ -107,7 +107,7 @@ count_more stations before m b is =
 pub capped : (n : ℕ) → in_64_bits (in_64_bits n + 1) ≡ in_64_bits (n + 1)
 capped n = omega arith
 
--- the gathering at a place is of the station there
+-- the gathering at a place belongs to the station there
 station_at : (asked : Keep) (before : List Month) (ss : List Station) (gs : List StationGathering) (k : ℕ)
     (s : Station) (g : StationGathering) → AllZip (IsStationOf asked before) ss gs → slice_get ss k ≡ Some s
     → g ≡ get_or gs k g
@@ -216,7 +216,7 @@ within_gathered months r id k is place = omega (
   AllZip-long _ r.stations r.gathered.items is.gathered,
 )
 
--- the days of one station stand in memory of their own, if that was given
+-- the days of one station are in memory of their own, if that was given
 pub read-settled : (old new : Reader) (k : ℕ) (g now : StationGathering) (result : Result (Unit {0}) Memory)
     → g ≡ get_or old.gathered.items k g → now.id ≡ g.id → OnOk result (StationKeepsMonths g now)
     → new.keep ≡ old.keep → new.stations ≡ old.stations → new.unlisted ≡ old.unlisted

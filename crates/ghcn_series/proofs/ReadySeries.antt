@@ -85,7 +85,7 @@ sorted_right P xs all =
     list_all-from_AllPass P (sorted_by by_day xs) (All-permutation (λ x. P x ≡ true) xs (sorted_by by_day xs)
     (sorted-permutation by_day xs) (AllPass-from_list_all P xs all))
 
--- days in their order are as many
+-- there are as many days in their order as before
 pub length-sorted : (xs : List DayValue) → length (sorted_by by_day xs) ≡ length xs
 length-sorted xs = length_permutation xs (sorted_by by_day xs) (sorted-permutation by_day xs)
 
@@ -97,7 +97,7 @@ rises (x ∷ []) sorted = refl
 rises (x ∷ y ∷ ys) sorted =
     let less : int_cmp x.0 y.0 ≡ Less = sorted.0.0 in and_from _ _ (grind (arith, ints)) (rises (y ∷ ys) sorted.1)
 
--- no day that is kept stands twice
+-- no day that is kept occurs twice
 distinct_kept : (kept : Bool) (months : List Month) → IsDistinct same_time months
     → IsDistinct int_eq (keys_of (kept_days kept months))
 unfolding IsDistinct

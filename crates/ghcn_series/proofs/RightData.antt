@@ -1,4 +1,4 @@
--- What is listed without a fault is right, and so is what daily files without a fault hold.
+-- What is listed without an error is right, and so is what daily files without an error hold.
 use Rattle.std.proofs.Common.{◌≡◌, ℕ, ◌<◌, Bool, true, false, cond, not, List, [], ◌∷◌, ◌++◌, length, map}
 use Rattle.std.proofs.Common.{Option, None, Some, Result, Ok, Err, refl, sym, ap, ◌∙◌, subst, append_assoc, arith}
 use Rattle.std.specs.Prelude.{nat_lt, ◌^◌, ◌==◌, ◌||◌}
@@ -50,7 +50,7 @@ use Rattle.ghcn_series.proofs.SortedDays.{sorted_by-rises}
 
 -- ---- what is listed
 
--- the stations of some lines have an ID where one of the lines has it
+-- the stations of some lines have an ID if one of the lines has it
 of_lines : (ls : List Numbered) (id : StationId) → list_any (is_station_of id) (stations_of ls) ≡ is_repeated ls id
 of_lines [] id = refl
 of_lines (l ∷ ls) id = ap (λ (b : Bool). same_id (id_of l.1) id || b) (of_lines ls id)
@@ -65,7 +65,7 @@ is_true : {A : Type 0} (b : Bool) (a : A) → cond b None (Some a) ≡ None → 
 is_true true a e = refl
 is_true false a e = absurd cc
 
--- a line without a fault adds its station to those that are listed
+-- a line without an error adds its station to those that are listed
 one_more : (earlier : List Numbered) (l : Numbered) → station_fault earlier l ≡ None → AreListed (stations_of earlier)
     → AreListed (stations_of (earlier ++ l ∷ []))
 one_more earlier l none listed =
@@ -99,13 +99,13 @@ none_listed : AreListed []
 unfolding IsDistinct
 none_listed = record { distinct = tt; few = omega arith; right = refl }
 
--- where lines are listed, they have no fault and are those
+-- if lines are listed, they have no error and are those
 are_listed : (o : Option (Numbered × StationsFault)) (ls : List Numbered) (stations : List Station)
     → listed_unless o ls ≡ Ok stations → (o ≡ None) × (stations_of ls ≡ stations)
 are_listed None ls stations e = (refl, cc)
 are_listed (Some f) ls stations e = absurd cc
 
--- a list without a fault is right
+-- a list without an error is right
 pub lists-are-right : ListsAreRight
 lists-are-right text stations is =
     let ls = station_lines text in
@@ -127,7 +127,7 @@ month_read false (Some x) line m is =
       | Some why ↦ λ none is. absurd cc
     ] refl is
 
--- so is the month that stands on a line
+-- so is the month that is on a line
 month_there : (l : FileLine) (m : Month) → month_on l ≡ Some m → IsMonth m
 month_there l m is = by (read_month l.bytes) refl is
   where
@@ -179,7 +179,7 @@ module _ (stations : List Station) (files : List (List ℕ)) (held : Contents)
         values = sorted_right (IsDayOf e) xs all;
       }
 
-  -- each series is of a listed station, and right
+  -- each series belongs to a listed station, and is right
   each_right : (u : Usable) → In said u → (is_listed stations u.id ≡ true) × IsSeries u
   each_right u has =
       let made = usable_of (facts_said stations files) in
@@ -208,7 +208,7 @@ module _ (stations : List Station) (files : List (List ℕ)) (held : Contents)
         };
       })
 
--- of a list and files without a fault all data are right
+-- of a list and files without an error all data are right
 pub data-are-right : DataAreRight
 data-are-right text stations files held lists is =
     held-right stations files held is (lists-are-right text stations lists)

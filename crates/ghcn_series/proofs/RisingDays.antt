@@ -1,4 +1,4 @@
--- Days of blocks in order rise, and rising days are told by their values alone.
+-- Days of blocks in order rise, and rising days are determined by their values alone.
 use Rattle.std.proofs.Common.{◌≡◌, ℕ, zero, suc, ◌+◌, ◌<◌, Bool, true, false, List, [], ◌∷◌, ◌++◌, length, get_or}
 use Rattle.std.proofs.Common.{Some, None, refl, sym, ap, subst, ◌∙◌, arith, ℤ, pos, ◌+ℤ◌, ◌<ℤ◌, ◌≤ℤ◌}
 use Rattle.std.specs.Prelude.{◌==◌}
@@ -120,7 +120,7 @@ unfolding IsStrictlySortedBy
 keys-rise [] sorted = tt
 keys-rise (x ∷ xs) sorted = (keys-later x.0 xs sorted.0, keys-rise xs sorted.1)
 
--- ---- rising days are told by their values
+-- ---- rising days are determined by their values
 
 -- the first of other days is skipped
 pub behind : (x : DayValue) (xs : List DayValue) (d : ℤ) → (x.0 ≡ d → ⊥) → value_on (x ∷ xs) d ≡ value_on xs d

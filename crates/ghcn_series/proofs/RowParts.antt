@@ -26,11 +26,11 @@ some_either : (a b : Option ℤ) → IsSome a → IsSome (option_or a b)
 some_either None b some = absurd cc
 some_either (Some x) b some = some
 
--- the values that a row has in the block that many places after the one where it begins
+-- the values that a row has in the block that many places after the one in which it begins
 abbrev pub IsPartOf : List ℤ → ℕ → ℕ → List ℤ → Type 0
 IsPartOf values place offset part = (j : ℕ) → j < 32 → IsValueFrom values place (j + offset) (get_or part j (pos 0))
 
--- a block has what a row has that many places after the begin of the block where the row begins
+-- a block has what a row has that many places after the beginning of the block in which the row begins
 pub record IsPart (first : ℤ) (place w : ℕ) (vs : List ℤ) (offset : ℕ) (b : Block) : Type 0 where
   pub row : IsRow first w vs
   pub below : place < 32
@@ -87,7 +87,7 @@ module _ (first : ℤ) (place w : ℕ) (vs : List ℤ) (offset : ℕ) (b : Block
       at_day Same d (subst (λ (n : ℤ). (j : ℕ) → j < 32 → Same (block_start n +ℤ pos j)) is
       (λ j lt. part-value j lt ∙ sym (block-value b j lt)))
 
--- a row in the block where it begins, and in the next one
+-- a row in the block in which it begins, and in the next one
 pub record IsSplit (n : ℤ) (place w : ℕ) (vs : List ℤ) (one two : Block) : Type 0 where
   pub row : IsRow (day_of n place) w vs
   pub below : place < 32
@@ -239,7 +239,7 @@ zero_at (z ∷ zs) all zero = sym ((Decides-int_eq (pos 0) z).0
     (and_parts (int_eq (pos 0) z) (list_all (int_eq (pos 0)) zs) all).0)
 zero_at (z ∷ zs) all (suc j) = zero_at zs (and_parts (int_eq (pos 0) z) (list_all (int_eq (pos 0)) zs) all).1 j
 
--- a row between zeros stands at its place
+-- a row between zeros is at its place
 pub placed-row : (vs zs ys rest : List ℤ) (place : ℕ) → place < 32 → length vs ≡ 32 → length zs ≡ 64 → ys ≡ vs
     → ((j : ℕ) → get_or zs j (pos 0) ≡ pos 0) → ((j : ℕ) → get_or rest j (pos 0) ≡ pos 0) → (at : ℕ)
     → IsValueFrom vs place at (get_or (take place zs ++ (ys ++ rest)) at (pos 0))

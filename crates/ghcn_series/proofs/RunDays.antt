@@ -25,7 +25,7 @@ use Rattle.ghcn_series.proofs.PartDays.{both-parts, each-day, first-in, first-ou
 
 -- ---- places of values that pass a test
 
--- a bit is added where a word has none yet
+-- a bit is added if a word has none yet
 added-bit : (word p : ℕ) (b : Bool) → p < 32 → bit_at word p ≡ 0 → bit_at (bit_or word (from_bool b * 2 ^ p % 2 ^ 32)) p
     ≡ from_bool b
 added-bit word p true lt unset = bit_at_set_same w32 word p lt
@@ -60,11 +60,11 @@ places-below least values word fits are j lt =
     let less = bit_at-lt word j in
     grind (arith, ints, nat_tests)
 
--- both of two bits are set where the lesser is
+-- both of two bits are set if the lesser is
 both-set : (a b : ℕ) → a < 2 → b < 2 → (min a b == 1) ≡ ((a == 1) && (b == 1))
 both-set a b less_a less_b = grind (arith, nat_tests)
 
--- a day is kept where it is there and its value passes
+-- a day is kept if it is there and its value passes
 kept-one : (test : ℤ → Bool) (there kept : Bool) (x : DayValue) (xs ys : List DayValue) → kept ≡ (there && test x.1)
     → ys ≡ filter (λ y. test y.1) xs
     → cons_option (if_so kept x) ys ≡ filter (λ y. test y.1) (cons_option (if_so there x) xs)
@@ -98,7 +98,7 @@ kept-days test n vs w v are = kept-from test n vs w v 0 32 (λ j more lt. are j 
 
 -- ---- how many days there are
 
--- a day is one more where its bit is set
+-- a day is one more if its bit is set
 cons-long : (bit : ℕ) (x : DayValue) (xs : List DayValue) → bit < 2
     → length (cons_option (if_so (bit == 1) x) xs) ≡ bit + length xs
 cons-long zero x xs less = sym (zero-add (length xs))
@@ -156,7 +156,7 @@ row-from n vs w k s (suc m) some le more set unset =
           rw none (omega (arith, ints, same, some))
     ]
 
--- so they are where no bit is set before
+-- so they are if no bit is set before
 row-behind : (n : ℤ) (vs : List ℤ) (w t k s m : ℕ) → s ≤ t → t < k → k ≤ s + m
     → ((j : ℕ) → j < t → bit_at w j ≡ 0) → ((j : ℕ) → t ≤ j → j < k → bit_at w j ≡ 1)
     → ((j : ℕ) → k ≤ j → bit_at w j ≡ 0)
@@ -209,7 +209,7 @@ lowest-ones v fits =
           )
     ]
 
--- the lowest bits of a word end where the shifted word's ones do
+-- the lowest bits of a word end at the place at which the shifted word's ones end
 pub run-ends : (w : ℕ) → 0 < w → w < 2 ^ 32
     → EndsRun w (trailing_zeros w32 w + trailing_ones w32 (w / 2 ^ trailing_zeros w32 w))
 run-ends w some fits =

@@ -115,12 +115,12 @@ of_months stations months = record {
   unlisted = in_64_bits (count_by (λ m. not (is_listed stations m.id)) months);
 }
 
--- no error is found where there is something
+-- no error is found if there is something
 no_fault_found : (o : Option (FileLine × DataFault)) (c d : Contents) → contents_unless o c ≡ Ok d → o ≡ None
 no_fault_found None c d e = refl
 no_fault_found (Some f) c d e = absurd cc
 
--- nor where the files are few
+-- nor if the files are few
 none_of_few : (b : Bool) (o : Option (FileLine × DataFault)) (c d : Contents)
     → cond b (contents_unless o c) (Err TooManyFiles) ≡ Ok d → o ≡ None
 none_of_few true o c d e = no_fault_found o c d e

@@ -36,7 +36,7 @@ use Rattle.ghcn_series.proofs.SeenMonths.{distinct-more}
 use Rattle.ghcn_series.proofs.StationMonths.{months_of-other, months_of-this, repeats-is}
 
 module _ (stations : List Station) where
-  -- if a month of a listed station is no duplicate, it repeats none
+  -- if a month of a listed station isn't a duplicate, it repeats none
   not_repeated : (listed repeated : Bool) → cond (listed && repeated) (Some DuplicateMonth) None ≡ None
       → listed ≡ true → repeated ≡ false
   not_repeated true true none is = absurd cc
@@ -66,7 +66,7 @@ module _ (stations : List Station) where
     abbrev AreApart : List FileLine → Type 0
     AreApart ls = IsDistinct same_time (months_of (filter_map month_on ls) id e)
 
-    -- months of different times and one more that repeats none, if it is of a listed station
+    -- months of different times and one more that repeats none, if it belongs to a listed station
     apart_with : (before : List Month) (m : Month) → IsDistinct same_time (months_of before id e)
         → (is_listed stations m.id ≡ true → list_any (same_month m) before ≡ false)
         → IsDistinct same_time (months_of (before ++ m ∷ []) id e)
@@ -110,7 +110,7 @@ module _ (stations : List Station) where
         subst AreApart (append_assoc earlier (l ∷ []) ls)
         (apart_after (earlier ++ l ∷ []) ls both.1 (apart_more earlier l here apart))
 
-    -- no day that is said of a listed station and an element stands twice
+    -- no day that is said of a listed station and an element occurs twice
     pub said-distinct : (files : List (List ℕ)) (held : Contents) → HaveData stations files held
         → IsDistinct int_eq (keys_of (days_said (facts_said stations files) id e))
     unfolding IsDistinct

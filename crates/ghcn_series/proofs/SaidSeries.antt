@@ -42,7 +42,7 @@ module _ (id : StationId) (e : Element) where
   abbrev fact_on : ℤ → ℤ → Fact
   fact_on day value = record { id = id; element = e; day = day; value = value }
 
-  -- a fact is of the station and element
+  -- a fact belongs to the station and element
   abbrev is_theirs : Fact → Bool
   is_theirs f = same_id f.id id && same_element f.element e
 
@@ -84,7 +84,7 @@ module _ (id : StationId) (e : Element) where
 exact : (x y : ℤ) → int_eq x y ≡ true → x ≡ y
 exact x y = (Decides-int_eq x y).0
 
--- in two lists of the same days and values, in which no day stands twice, the same is looked up
+-- in two lists of the same days and values, in which no day occurs twice, the same is looked up
 same-lookup : (xs ys : List DayValue) → IsDistinct int_eq (keys_of xs) → IsDistinct int_eq (keys_of ys)
     → ((day value : ℤ) → Contains xs (day, value) ↔ Contains ys (day, value)) → (d : ℤ)
     → lookup (int_eq d) xs ≡ lookup (int_eq d) ys

@@ -69,7 +69,7 @@ parted-by_rise ns rise b i j d le lt below = elim (cases_lt i j) [
       subst (λ (k : ℕ). int_lt (get_or ns k d) b ≡ true) is below
 ]
 
--- a number stands at one place among rising ones
+-- a number is at one place among rising ones
 same_place : (ns : List ℤ) → Rise ns → (i k : ℕ) (n : ℤ) → IsAt ns n i → IsAt ns n k → k ≡ i
 same_place ns rise i k n here there = elim (cases_lt i k) [
   | inl before ↦ let lt = rise.less i k before there.in_range in absurd (omega (arith, ints, here.is, there.is))
@@ -86,7 +86,7 @@ module _ (ns : List ℤ) (ws : List ℕ) (vs : List (List ℤ)) (cols : AreColum
   here k lt = blocks-at ns ws vs k cols.blocks.enough_words cols.blocks.enough_values
       (omega (arith, blocks-length ns ws vs cols.blocks.enough_words cols.blocks.enough_values))
 
-  -- a block's number stands at its place
+  -- a block's number is at its place
   at-number : (k : ℕ) (n : ℤ) → k < length (blocks_of ns ws vs) → (get_or (blocks_of ns ws vs) k no_block).0 ≡ n
       → IsAt ns n k
   at-number k n lt e = record {
@@ -131,7 +131,7 @@ next-of_columns ns ws vs cols b =
     ∙ ap (find (int_le b)) (firsts-zip ns (zip ws vs)
     (omega (arith, length-zip ws vs, cols.blocks.enough_words, cols.blocks.enough_values)))
 
--- what `get` gives is the element at that place
+-- what `get` returns is the element at that place
 pub got-is : (xs : List ℤ) (i : ℕ) (o : Option (Bor ℤ))
     → MatchOption o (length xs ≤ i) (λ x. (i < length xs) × HoldsAt (λ y. x.now ≡ y) xs i)
     → option_copied o ≡ slice_get xs i

@@ -40,11 +40,11 @@ pub distinct-more : (m : Month) (before : List Month) → IsDistinct same_time b
     ≡ false → IsDistinct same_time (before ++ m ∷ [])
 distinct-more m before = IsDistinct-push time_laws before m
 
--- months have the same number where year and month are the same
+-- months have the same number if year and month are the same
 same_number : (a b c d : ℕ) → 1 ≤ b → b ≤ 12 → 1 ≤ d → d ≤ 12 → (12 * a + b == 12 * c + d) ≡ ((a == c) && (b == d))
 same_number a b c d low high low_d high_d = grind (arith, nat_tests)
 
--- months have one number where they are of one time
+-- months have one number if they are of one time
 numbers-are : (m : Month) (ms : List Month) → IsMonth m → AllByRecursion IsMonth ms
     → list_any (has_number (month_count m)) ms ≡ list_any (same_time m) ms
 numbers-are m [] right all = refl
@@ -84,7 +84,7 @@ seen-more : (kept : Bool) (old new : Gathering) (m : Month) (before : List Month
 seen-more kept old new m before is adds t =
     adds t ∙ rw (is.seen t, list_any-append, or-false, nat_eq_equiv.symm (month_count m) t) refl
 
--- one month more is gathered, with its days where they are kept
+-- one month more is gathered, with its days if they are kept
 gathered_with : (kept : Bool) (old new : Gathering) (m : Month) (before : List Month) → IsMonth m
     → IsGathering kept old before → has_month old.seen (month_count m) ≡ false → Adds old.seen new.seen (month_count m)
     → AreParts new.parts

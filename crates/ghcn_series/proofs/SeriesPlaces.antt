@@ -37,7 +37,7 @@ find_none id e (u ∷ us) other = rw other.0 (find_none id e us other.1)
 abbrev pub AreOwn : List Station → List (List Usable) → Type 0
 AreOwn stations lists = AllZip (λ s series. AllByRecursion (λ u. u.id ≡ s.id) series) stations lists
 
--- the series of a station have an ID where it has it
+-- the series of a station have an ID if it has it
 with_id : (id : StationId) (b : Bool) (s : Station) (us : List Usable) → same_id s.id id ≡ b
     → AllByRecursion (λ u. u.id ≡ s.id) us → AllByRecursion (λ u. same_id u.id id ≡ b) us
 with_id id b s [] is own = tt
@@ -98,7 +98,7 @@ none-unlisted id e ss lists apart own none =
     sym (ap (option_and_then (find (is_of_element e))) (slice_get_past lists at beyond))
     ∙ found_by_place id e ss lists apart own
 
--- a list ends before a place where it has nothing
+-- a list ends before a place at which it has nothing
 none_past : {A : Type 0} (xs : List A) (k : ℕ) → slice_get xs k ≡ None → length xs ≤ k
 none_past [] k none = omega arith
 none_past (x ∷ xs) zero none = absurd cc
@@ -141,7 +141,7 @@ list-there items vs k v lt is =
     ∙ sym (ap (option_map items) (slice_get-get_or vs k v (grind (arith, nat_tests))))
     ∙ sym (slice_get-map items vs k)
 
--- no list stands past the last
+-- no list is past the last
 pub list-missing : {V : Type 0} (items : V → List Usable) (vs : List V) (k : ℕ) → nat_lt k (length vs) ≡ false
     → None ≡ slice_get (map items vs) k
 list-missing items vs k lt = sym (slice_get_past (map items vs) k (grind (arith, nat_tests, length-map vs items)))

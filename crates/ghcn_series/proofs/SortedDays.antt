@@ -85,7 +85,7 @@ either_first true false u v w both = refl
 either_first false true u v w both = refl
 either_first false false u v w both = refl
 
--- a day is found wherever it stands
+-- a day is found wherever it is
 lookup-placed : (q : ℤ) (x : DayValue) (ys : List DayValue) → AllByRecursion (λ k. int_eq x.0 k ≡ false) (keys_of ys)
     → lookup (int_eq q) (placed by_day x ys) ≡ lookup (int_eq q) (x ∷ ys)
 lookup-placed q x [] apart = refl

@@ -139,7 +139,7 @@ elements_differ = (
   ((refl, (refl, (refl, tt))), ((refl, (refl, tt)), ((refl, tt), (tt, tt)))),
 )
 
--- each element stands at its place
+-- each element is at its place
 pub element_at : (e : Element) → slice_get elements (element_index e) ≡ Some e
 element_at Prcp = refl
 element_at Snow = refl
@@ -173,7 +173,7 @@ any_if p true true x xs = refl
 any_if p true false x xs = refl
 any_if p false e x xs = refl
 
--- a month was read before where one of its time, station and element was
+-- a month was read before if one of its time, station and element was
 pub repeats-is : (before : List Month) (m : Month) → list_any (same_month m) before
     ≡ list_any (same_time m) (months_of before m.id m.element)
 repeats-is [] m = refl

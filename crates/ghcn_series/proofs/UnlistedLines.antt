@@ -14,18 +14,18 @@ use Rattle.ghcn_series.specs.Laws.{UnlistedAddUp}
 use Rattle.ghcn_series.specs.Said.{month_said, months_said, unlisted_said}
 use Rattle.ghcn_series.specs.Says.{in_64_bits}
 
--- the months of files, and of others behind them
+-- the months of files, and of others after them
 months-append : (files others : List (List ℕ)) → months_said (files ++ others) ≡ months_said files ++ months_said others
 months-append files others =
     ap (filter_map month_said) (flat_map-append lines files others)
     ∙ filter_map-append month_said (flat_map lines files) (flat_map lines others)
 
 module _ (stations : List Station) where
-  -- how many lines of files are of stations that aren't listed
+  -- how many lines of files belong to stations that aren't listed
   abbrev unlisted_in : List (List ℕ) → ℕ
   unlisted_in files = count_by (λ m. not (is_listed stations m.id)) (months_said files)
 
-  -- those of files, and of others behind them
+  -- those of files, and of others after them
   unlisted-append : (files others : List (List ℕ))
       → unlisted_in (files ++ others) ≡ unlisted_in files + unlisted_in others
   unlisted-append files others =

@@ -35,11 +35,11 @@ pub record HasCounted {L : Type 0} (c : Cutter L) (files : Files) : Type 0 where
   pub ended : c.ended ≡ in_64_bits (length files.ended)
   pub begun : c.begun ≡ nat_lt 0 (length files.current)
 
--- the files that a cutter has counted are so few that they can be read, or they aren't
+-- the files that a cutter has counted are few enough to be read, or they aren't
 pub record CountsFew {L : Type 0} (c : Cutter L) (few : Bool) : Type 0 where
   pub is : (files : Files) → HasCounted c files → few ≡ nat_le (length (files_of files)) (2 ^ 20)
 
--- a cutter looks at lines: it has no error, and has counted so few files
+-- a cutter looks at lines: it has no error, and has counted few enough files
 pub record LooksAtLines {L : Type 0} (c : Cutter L) (looks : Bool) : Type 0 where
   pub is : (files : Files) → HasCounted c files
       → looks ≡ (is_none c.fault && nat_le (length (files_of files)) (2 ^ 20))

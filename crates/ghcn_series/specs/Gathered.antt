@@ -95,7 +95,7 @@ pub record IsStationOf (asked : Keep) (months : List Month) (s : Station) (g : S
     pub id : g.id ≡ s.id
     pub holds : AreByElement asked months g.id g.by_element.items
 
--- a gathering can become a series: its months are of its element and right by themselves
+-- a gathering can become a series: its months belong to its element and are right by themselves
 pub record IsReady (g : Gathering) : Type 0 where
   pub kept : Bool
   pub months : List Month

@@ -1,4 +1,4 @@
--- What is true of all that files without a fault hold, as statements for the contracts of public functions.
+-- What is true of all that files without an error hold, as statements for the contracts of public functions.
 use Rattle.std.specs.Prelude.{◌≡◌, ℕ, List, Ok, map}
 use Rattle.std.specs.List.{sum}
 use Rattle.ghcn_files.specs.declared.station.Station.{Station}
@@ -9,11 +9,11 @@ use Rattle.ghcn_series.specs.JoinedFiles.{files_together}
 use Rattle.ghcn_series.specs.Said.{unlisted_said}
 use Rattle.ghcn_series.specs.Says.{data_of, in_64_bits}
 
--- of a station list without a fault that is true which is true of every list of stations
+-- what is true of every list of stations is true of a station list without an error
 abbrev pub ListsAreRight : Type 0
 ListsAreRight = (text : List ℕ) (stations : List Station) → listed text ≡ Ok stations → AreListed stations
 
--- of what daily files without a fault hold of its stations that is true which is true of all data
+-- what is true of all data is true of what daily files without an error hold of its stations
 abbrev pub DataAreRight : Type 0
 DataAreRight = (text : List ℕ) (stations : List Station) (files : List (List ℕ)) (held : Contents)
     → listed text ≡ Ok stations → data_of stations files ≡ Ok held → IsContents held

@@ -1,4 +1,4 @@
--- What stands on the lines of daily files, the files that have none of the five elements, and the odd lines.
+-- What is on the lines of daily files, the files that have none of the five elements, and the odd lines.
 use Rattle.std.specs.Prelude.{ℕ, ◌-◌, Bool, false, ◌&&◌, ◌||◌, not, if◌then◌else◌, List, [], ◌∷◌, map, filter, drop}
 use Rattle.std.specs.List.{flat_map, list_any, list_all, count_by, enumerate_from, slice_get, find}
 use Rattle.std.specs.Option.{is_some, option_map}
@@ -35,7 +35,7 @@ abbrev pub is_code : List ℕ → Bool
 is_code [] = false
 is_code (b ∷ bytes) = is_ascii_uppercase b && list_all may_follow bytes
 
--- the line has a code where that of an element stands
+-- the line has a code in the columns of an element's code
 abbrev pub has_code : List ℕ → Bool
 has_code line = is_code (columns 18 21 line)
 
@@ -43,7 +43,7 @@ has_code line = is_code (columns 18 21 line)
 abbrev pub has_form : List ℕ → Bool
 has_form line = has_code line && is_blank (drop 269 line)
 
--- what stands on a line
+-- what is on a line
 abbrev pub line_kind : List ℕ → LineKind
 line_kind line =
     if is_blank line then Blank else if has_element line then OfElement else if has_form line then Other else Odd
@@ -64,11 +64,11 @@ foreign_places files = map (λ f. f.0) (filter (λ f. is_foreign f.1) (enumerate
 abbrev pub foreign_of : List (List ℕ) → Foreign
 foreign_of files = record { count = count_by is_foreign files; first = slice_get (foreign_places files) 0 }
 
--- where a line of the files stands, by the place of its file among all files, from 0
+-- the place of a line of the files, by the place of its file among all files, from 0
 abbrev pub place_of : FileLine → LinePlace
 place_of l = record { file = l.file - 1; line = l.line }
 
--- the odd ones among lines of files, by their number and where the first of them stands
+-- the odd ones among lines of files, by their number and the place of the first of them
 abbrev pub odd_among : List FileLine → OddLines
 odd_among ls = record {
   count = count_by (λ l. is_odd l.bytes) ls;

@@ -1,4 +1,4 @@
--- Parts of blocks as they were added: a block may stand in several parts, and the numbers needn't rise.
+-- Parts of blocks as they were added: a block may be in several parts, and the numbers needn't rise.
 use Rattle.std.specs.Prelude.{◌≡◌, ℕ, ◌<◌, ◌≤◌, ◌+◌, ◌-◌, ◌^◌, ◌+ℤ◌, ◌≤ℤ◌, length, true, ⊤}
 use Rattle.std.specs.Prelude.{List, [], ◌∷◌, get_or, map, IsSome, None, ℤ, pos}
 use Rattle.std.specs.Int.{bit_at}
@@ -37,7 +37,7 @@ pub record AreParts (p : Parts) : Type 0 where
 abbrev pub AreJoined : List DayValue → List DayValue → List DayValue → Type 0
 AreJoined old more new = (d : ℤ) → value_on new d ≡ option_or (value_on old d) (value_on more d)
 
--- at a place where one of two rows is 0 the third has the other's value
+-- at a place at which one of two rows is 0 the third has the other's value
 pub record JoinsAt (a b new : List ℤ) (j : ℕ) : Type 0 where
   pub second : get_or a j (pos 0) ≡ pos 0 → get_or new j (pos 0) ≡ get_or b j (pos 0)
   pub first : get_or b j (pos 0) ≡ pos 0 → get_or new j (pos 0) ≡ get_or a j (pos 0)
@@ -54,7 +54,7 @@ HaveNone p days = AreNew (days_held p) days
 abbrev pub JoinDays : Parts → List DayValue → Parts → Type 0
 JoinDays old days new = AreJoined (days_held old) days (days_held new)
 
--- a part is of days that the parts don't have
+-- a part has only days that the parts don't have
 abbrev pub IsNewPart : Parts → Block → Type 0
 IsNewPart p b = AreNew (days_held p) (block_days b)
 
@@ -104,13 +104,13 @@ day_of number place = block_start number +ℤ pos place
 abbrev pub row_days : ℤ → ℕ → ℕ → List ℤ → List DayValue
 row_days number place word values = days_from (day_of number place) word values
 
--- a row of 32 days from a first one on: those that are present are of the calendar, and the values of all others are 0
+-- a row of 32 days from a first one on: those that are present are in the calendar, and the values of all others are 0
 pub record IsRow (first : ℤ) (word : ℕ) (values : List ℤ) : Type 0 where
   pub fits : word < 2 ^ 32
   pub zeros : (j : ℕ) → j < 32 → bit_at word j ≡ 0 → get_or values j (pos 0) ≡ pos 0
   pub days : (j : ℕ) → j < 32 → bit_at word j ≡ 1 → is_day (first +ℤ pos j) ≡ true
 
--- the value so many places after the beginning of the block where a row begins: 0 before the row and after it
+-- the value that many places after the beginning of the block in which a row begins: 0 before the row and after it
 pub record IsValueFrom (values : List ℤ) (place at : ℕ) (v : ℤ) : Type 0 where
   pub before : at < place → v ≡ pos 0
   pub behind : place + 32 ≤ at → v ≡ pos 0

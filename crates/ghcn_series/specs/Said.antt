@@ -1,5 +1,5 @@
 -- What a station list and daily files say, defined for any lines. What they say of a line with an error, if a bad
--- number counts as 0 or as missing, matters to nobody: that no line has one is promised apart.
+-- number counts as 0 or as missing, doesn't matter here: that no line has one is a separate promise.
 use Rattle.std.specs.Prelude.{◌↔◌, ◌<◌, ℕ, not, List, length, map, filter, Option, ℤ}
 use Rattle.std.specs.List.{Contains, filter_map, flat_map, count_by}
 use Rattle.std.specs.List.Sorted.{IsStrictlySortedBy}
@@ -32,7 +32,7 @@ months_said files = filter_map month_said (flat_map lines files)
 abbrev pub facts_said : List Station → List (List ℕ) → List Fact
 facts_said stations files = filter (is_usable stations) (flat_map facts_of (months_said files))
 
--- how many lines of the five elements are of stations that aren't listed, up to 2^64 - 1
+-- how many lines of the five elements belong to stations that aren't listed, up to 2^64 - 1
 abbrev pub unlisted_said : List Station → List (List ℕ) → ℕ
 unlisted_said stations files = in_64_bits (count_by (λ m. not (is_listed stations m.id)) (months_said files))
 

@@ -61,7 +61,7 @@ impl Columns {
         Some((self.words[at], &self.values[at]))
     }
 
-    /// The least block from a number on that has a day.
+    /// The first block from a number on that has a day.
     pub(crate) fn next_block(&self, number: i32) -> Option<i32>
         ensures { result ≡ packed.next_block self.now number }
     {
@@ -123,7 +123,7 @@ fn last_day(number: i32, word: u32) -> Option<Day>
     Some(day_at(number, word.ilog2()))
 }
 
-/// Where a number stands among numbers that rise, looked for at one place first.
+/// The place of a number among numbers that rise, looked for at one place first.
 fn place_near(numbers: &[i32], place: usize, number: i32) -> Option<usize>
     requires { packed.Rise numbers.now }
     ensures some { IfSome result (packed.IsAt numbers.now number) }
@@ -135,7 +135,7 @@ fn place_near(numbers: &[i32], place: usize, number: i32) -> Option<usize>
     }
 }
 
-/// Where a number stands among numbers that rise.
+/// The place of a number among numbers that rise.
 fn place_of(numbers: &[i32], number: i32) -> Option<usize>
     requires { packed.Rise numbers.now }
     ensures some { IfSome result (packed.IsAt numbers.now number) }

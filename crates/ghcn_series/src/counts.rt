@@ -46,7 +46,7 @@ impl Foreign {
     }
 }
 
-/// Where a line of daily files stands.
+/// The place of a line of daily files.
 #[derive(Clone, Copy, Debug, PartialEq, Eq)]
 pub struct LinePlace {
     /// The place of its file among all files, from 0.
@@ -60,7 +60,7 @@ pub struct LinePlace {
 #[derive(Clone, Copy, Debug, PartialEq, Eq)]
 pub struct OddLines {
     pub count: u64,
-    /// Where the first of them stands.
+    /// The place of the first of them.
     pub first: Option<LinePlace>,
 }
 
@@ -135,7 +135,8 @@ impl LineCounts {
     }
 
     /// Counts a line of the current file by its kind, unless a number gets too great. The file has a place among all
-    /// files, and the line a number in it. It is built into the loop over lines, where each kind is known already.
+    /// files, and the line a number in it. It is built into the loop over lines, in which each kind is known
+    /// already.
     #[inline(always)]
     pub(crate) fn add(&mut self, kind: LineKind, file: u64, line: u64) -> Option<()>
         ensures { IfSome result (λ _. (bytes : List ℕ) → kind ≡ line_kind bytes

@@ -31,7 +31,8 @@ pub trait LineReader {
     /// an error.
     ghost has_read: { Self → List Station → Keep → List FileLine → Type 0 };
 
-    /// Adds a line that isn't blank, without its line end, and answers whether it is of one of the five elements.
+    /// Adds a line that isn't blank, without its line end, and returns whether it belongs to one of the five
+    /// elements.
     fn add(&mut self, alloc: Global, file: u64, line: u64, bytes: &[u8]) -> Result<bool, DataFault>
         requires some { is_blank bytes.now ≡ false }
         requires read { HasReadSome has_read self.old }
@@ -237,7 +238,7 @@ impl<L: LineReader + Drop> Cutter<L> {
     }
 }
 
-/// Reads a line as it stands before its line feed, and returns what is on it. A blank line adds nothing.
+/// Reads a line as it is before its line feed, and returns what is on it. A blank line adds nothing.
 ///
 /// What a line takes whose days aren't kept is built into the loop over lines, down to the test of its values: a call
 /// would clear room for its result and save registers. Days that are kept, a new head and a line in pieces are calls.

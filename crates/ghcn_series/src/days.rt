@@ -160,7 +160,7 @@ impl<'a> Iterator for BlockDays<'a> {
     }
 }
 
-/// How many places of a block are of days up to a last one by its number.
+/// How many places of a block belong to days up to a last one by its number.
 fn places_to(number: i32, last: i32) -> u32
     ensures few { result ≤ 32 }
     ensures up_to { (j : ℕ) → j < result → (packed.block_start number +ℤ pos j) ≤ℤ last }

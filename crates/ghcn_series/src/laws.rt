@@ -4,15 +4,16 @@ ghost use Rattle.ghcn_series.specs.Laws as laws;
 
 /// If a station list has no error, its stations are right: no ID is listed twice, there are at most
 /// 2^20, and each has its fields in their ranges. If the daily files have no error either, what they
-/// hold of these stations is right: no two series are of one station and element, and each series is of
-/// a listed station and has a day; its days rise, and its values are in the range of its element.
+/// hold of these stations is right: no two series belong to one station and element, and each series
+/// belongs to a listed station and has a day; its days rise, and its values are in the range of its
+/// element.
 pub fn data_are_right()
     ensures listed { laws.ListsAreRight }
     ensures held { laws.DataAreRight }
 {}
 
-/// How many lines of files are of unlisted stations is the sum over the parts that the files are cut
-/// into.
+/// The number of lines of unlisted stations in files is the sum over the parts that the files are
+/// cut into.
 pub fn unlisted_add_up()
     ensures { laws.UnlistedAddUp }
 {}

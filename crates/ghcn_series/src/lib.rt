@@ -1,6 +1,6 @@
 //! Series of usable values, by station and element.
 //!
-//! The crate of scores uses it. It gives it the series: the map from the usable days
+//! The crate of scores uses it, for the series: the map from the usable days
 //! of one station and element to their values.
 #![tactic(auto)]
 

@@ -52,7 +52,7 @@ impl Months {
         }
     }
 
-    /// Adds a month to the set of all, which is made if there is none yet. It isn't built into its caller, where few
+    /// Adds a month to the set of all, which is made if there is none yet. It isn't built into its caller, since few
     /// months come out of order.
     #[inline(never)]
     fn add_to_all(&mut self, alloc: Global, month: u32) -> Result<bool, Memory>

@@ -99,7 +99,7 @@ impl Parts {
         self.numbers.is_empty()
     }
 
-    /// Moves the days to memory of exactly their size, and hands back the memory where they grew.
+    /// Moves the days to memory of exactly their size, and hands back the memory in which they grew.
     pub(crate) fn shrink_to_fit(&mut self, alloc: Global) -> Result<Self, Memory>
         ensures same { OnOk result (parts.AreSame self.old self.new) }
         ensures empty { IfOk result parts.AreEmpty }
@@ -267,7 +267,7 @@ fn second_of(both: &[i32; 64]) -> &[i32; 32]
     both.last_chunk().unwrap()
 }
 
-/// The bits of a row in the block where it begins.
+/// The bits of a row in the block in which it begins.
 fn low_bits(word: u32, place: u32) -> u32
     requires { place < 32 }
     ensures { parts.HasBitsOf word place 0 result }

@@ -25,7 +25,7 @@ pub struct Reader {
     gathered: Vec<StationGathering>,
     /// The place of the station of the line before, since the lines of a station mostly come together.
     last: usize,
-    /// Memory without days, where the days of the next station grow.
+    /// Memory without days, in which the days of the next station grow.
     spare: Vec<Parts>,
     /// How many months of stations that aren't listed were skipped.
     unlisted: u64,
@@ -118,7 +118,7 @@ impl Reader {
         }
     }
 
-    /// Notes whose lines come now. The days of the station before stay behind in memory of exactly
+    /// Notes whose lines come now. The days of the station before are left in memory of exactly
     /// their size.
     fn turn_to(&mut self, alloc: Global, place: usize) -> Result<(), Memory>
         requires { HasSomeLines self.old }

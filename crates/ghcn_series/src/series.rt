@@ -76,8 +76,8 @@ impl Series {
         self.columns.block(number)
     }
 
-    /// The same. The block is looked for first after that many others, where it is found at once if
-    /// these are the blocks before it.
+    /// The same. The block is looked for first after that many others, and is found there at once
+    /// if these are the blocks before it.
     pub fn block_near(&self, before: usize, number: i32) -> Option<(u32, &[i32; 32])>
         ensures some { IfSome result (λ x. IsBlockOf self.now.days number x.0 x.1.now) }
         ensures none { IfNone result (HasNone self.now.days number) }
@@ -85,7 +85,7 @@ impl Series {
         self.columns.block_near(before, number)
     }
 
-    /// The least block from a number on that holds a usable day.
+    /// The first block from a number on that holds a usable day.
     pub fn next_block(&self, number: i32) -> Option<i32>
         ensures first { result ≡ next_block self.now.days number }
         ensures least { IsNextBlock self.now.days number result }

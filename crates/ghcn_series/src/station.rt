@@ -31,7 +31,7 @@ const ELEMENTS: [Element; 5] = [
 pub(crate) struct StationGathering {
     id: StationId,
     by_element: Vec<Gathering>,
-    /// Whether its days stand in memory of their own, since lines of another station came after.
+    /// Whether its days are in memory of their own, since lines of another station came after.
     is_fitted: bool,
 }
 
@@ -75,9 +75,9 @@ impl StationGathering {
         }
     }
 
-    /// Moves what was read to memory of exactly its size, the first time that it is called: the memory
-    /// where it grew is spare for another station. Few lines are of another station than the line before, so it isn't
-    /// built into its caller.
+    /// Moves what was read to memory of exactly its size, the first time that it is called: the memory in which it
+    /// grew is spare for another station. Few lines belong to a station other than that of the line before, so it
+    /// isn't built into its caller.
     #[inline(never)]
     pub(crate) fn shrink_to_fit(
         &mut self,

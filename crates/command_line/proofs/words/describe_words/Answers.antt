@@ -6,7 +6,7 @@ use Rattle.clap.specs.declared.builder.Command.TheViews.{out-Command as fields_o
 use Rattle.command_line.proofs.CommandLines.{either}
 use Rattle.command_line.proofs.words.describe_words.Goals as goal
 
--- the words as they are made are those of the definition
+-- the subcommand as it is made is that of the definition
 pub returns : goal.returns
 returns c =
     let made : app_of c.after_help.result ≡ new_app (codes "describe")

@@ -5,7 +5,7 @@ use Rattle.command_line.specs.CommandLine.{papers_to_merge}
 use Rattle.command_line.proofs.CommandLines.{read_or, lent-pairs}
 use Rattle.command_line.proofs.words.merge_of.Goals as goal
 
--- papers that stand in pairs aren't odd in number
+-- reports and certificates that come in pairs aren't odd in number
 pub returns-then-papers-ne0-clause-paired : goal.returns-then-papers-ne0-clause-paired
 returns-then-papers-ne0-clause-paired c = let f = found_of c.args.matches.now in
     let same : map (λ s. s.now) c.unwrap_or-papers.result.now ≡ papers_to_merge (rows_of f)

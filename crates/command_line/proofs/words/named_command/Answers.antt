@@ -21,7 +21,7 @@ is_free_app : is_simple_and_free extremes_app ≡ true
 unfolding clap_on_literals
 is_free_app = refl
 
--- right words are refused for memory alone
+-- valid arguments are refused only if memory runs out
 pub returns-in-Err-clause-right : goal.returns-in-Err-clause-right
 returns-in-Err-clause-right c =
     let words_are : map (λ s. s.now) c.as_slice.result.now ≡ all_words c.args.words.now
@@ -30,7 +30,7 @@ returns-in-Err-clause-right c =
     λ right. c.fault_of.ensures.memory (only_memory _ _ (ap₂ fault_of app_is words_are ∙ right.read)
     (c.in-Err.ensures.kinds (ap is_simple_and_free app_is ∙ is_free_app)))
 
--- words that ask for the version are told it
+-- for arguments that ask for the version it is reported
 pub returns-in-Err-clause-version : goal.returns-in-Err-clause-version
 returns-in-Err-clause-version c =
     let words_are : map (λ s. s.now) c.as_slice.result.now ≡ all_words c.args.words.now
@@ -40,7 +40,7 @@ returns-in-Err-clause-version c =
     (c.in-Err.ensures.kinds (ap is_simple_and_free app_is ∙ is_free_app)) c.fault_of.ensures.memory
     c.fault_of.ensures.version
 
--- and no others are
+-- and for no others
 pub returns-in-Err-clause-asked : goal.returns-in-Err-clause-asked
 returns-in-Err-clause-asked c =
     let words_are : map (λ s. s.now) c.as_slice.result.now ≡ all_words c.args.words.now
@@ -107,7 +107,7 @@ returns-in-Some-subcommand_matches-clause-ok c =
     (c.subcommand_matches-2.ensures.found.0 (subst (λ o. IsSome o) (sym c.in-Some-subcommand_matches.is) refl))
     c.in-Some-subcommand_matches.ensures.rows (inr (inl (refl, is)))) c.merge_of.ensures.ok
 
--- right words have papers that stand in pairs
+-- valid arguments have reports and certificates that come in pairs
 pub returns-in-Some-subcommand_matches-clause-right : goal.returns-in-Some-subcommand_matches-clause-right
 returns-in-Some-subcommand_matches-clause-right c =
     let words_are : map (λ s. s.now) c.as_slice.result.now ≡ all_words c.args.words.now
@@ -120,7 +120,7 @@ returns-in-Some-subcommand_matches-clause-right c =
     (c.subcommand_matches-2.ensures.found.0 (subst (λ o. IsSome o) (sym c.in-Some-subcommand_matches.is) refl))
     c.in-Some-subcommand_matches.ensures.rows))
 
--- words that are read don't ask for the version
+-- arguments that are read don't ask for the version
 pub returns-in-Some-subcommand_matches-clause-version : goal.returns-in-Some-subcommand_matches-clause-version
 returns-in-Some-subcommand_matches-clause-version c =
     let words_are : map (λ s. s.now) c.as_slice.result.now ≡ all_words c.args.words.now
@@ -129,7 +129,7 @@ returns-in-Some-subcommand_matches-clause-version c =
     λ asks. absurd (not_asked _ (ap₂ fault_of (sym app_is) (sym words_are)
     ∙ c.in-Ok.ensures.kinds (ap is_simple_and_free app_is ∙ is_free_app)) asks)
 
--- and aren't told it
+-- and it isn't reported for them
 pub returns-in-Some-subcommand_matches-clause-asked : goal.returns-in-Some-subcommand_matches-clause-asked
 returns-in-Some-subcommand_matches-clause-asked c =
     IfErr-weaker c.merge_of.result _ _ (never_told (MayAskVersion (all_words c.args.words.now)))

@@ -22,7 +22,7 @@ returns-clause-rule c = ap rule_of c.action.ensures
     ∙ ap set_once (ap rule_of c.help.ensures ∙ ap rule_of c.value_name.ensures
     ∙ ap named (ap rule_of c.long.ensures ∙ ap (long_by _) c.new.ensures.rule))
 
--- and it is no option of subcommands
+-- and it isn't an option of subcommands
 pub returns-clause-local : goal.returns-clause-local
 returns-clause-local c = ap is_global c.action.ensures ∙ ap is_global c.help.ensures
     ∙ ap is_global c.value_name.ensures ∙ ap is_global c.long.ensures ∙ c.new.ensures.optional.1

@@ -8,7 +8,7 @@ use Rattle.command_line.specs.CommandLine.{option_of, parsed, is_global, whole_n
 use Rattle.command_line.proofs.CommandLines.{parsed_by, either}
 use Rattle.command_line.proofs.words.rank_words.Goals as goal
 
--- the words as they are made are those of the definition
+-- the subcommand as it is made is that of the definition
 pub returns : goal.returns
 returns c =
     let count : c.value_parser-workers.result.value_parser ≡ Some whole_count = c.value_parser-workers.ensures.given.1

@@ -11,7 +11,7 @@ pub returns-in_err-last : goal.returns-in_err-last
 returns-in_err-last c m right of =
     rw c.from_residual.ensures (none-usable m c.args.row.now right of c.in_err-last.ensures.none)
 
--- the day of the lowest bit is of the calendar
+-- the day of the lowest bit is in the calendar
 pub returns-in_err-first : goal.returns-in_err-first
 returns-in_err-first c m right of =
     let row : MonthRow = c.args.row.now in
@@ -28,7 +28,7 @@ overflow_sub-last c =
     let low = lowest-bit m row c.in_ok-last.last c.requires.1.1 top.0 in
     lowest-le row.word (trailing_zeros w32 row.word) c.in_ok-last.last low.1 top.0
 
--- its day is of the calendar too
+-- its day is in the calendar too
 pub returns-in_err-day_behind : goal.returns-in_err-day_behind
 returns-in_err-day_behind c m right of =
     let row : MonthRow = c.args.row.now in

@@ -7,6 +7,6 @@ twice : (t : Bool) → not (not t) ≡ t
 twice true = refl
 twice false = refl
 
--- a field is bad if not every column may stand where it does
+-- a field is bad if not every column may be where it is
 pub returns : goal.returns
 returns c = ap not (c.are_set.ensures ∙ c.good_columns.ensures.good) ∙ twice _

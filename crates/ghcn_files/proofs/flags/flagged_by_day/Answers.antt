@@ -15,7 +15,7 @@ overflow_add-count c =
     one_if-le c.is_flagged_value.result c.one_if-count.result c.one_if-count.ensures in
     omega (arith, c.loop-day.invariant, few, one, c.loop-day-test.true)
 
--- one day more is counted where it is flagged
+-- one day more is counted if it is flagged
 pub loop-day-preserved : goal.loop-day-preserved
 loop-day-preserved c =
     let days : ℕ = c.args.days in

@@ -6,7 +6,7 @@ use Rattle.ghcn_files.proofs.Readings.{all_days}
 use Rattle.ghcn_files.proofs.FlaggedDays.{flagged_within-none}
 use Rattle.ghcn_files.proofs.flags.flagged_in.Goals as goal
 
--- where no day has a flag none counts
+-- if no day has a flag none counts
 pub returns-else-has_flag : goal.returns-else-has_flag
 returns-else-has_flag c =
     sym (flagged_within-none c.args.days c.args.line.now 31 (c.has_flag.ensures c.if-has_flag.false))

@@ -14,7 +14,7 @@ returns-in_err-head c =
     err_given _ _ c.from_residual.ensures.1
     ∙ unless_by line (month_of c.args.element line) (month_why-parts line why)
 
--- a value that is no number
+-- a value that isn't a number
 pub returns-in_err-days : goal.returns-in_err-days
 returns-in_err-days c =
     let line = c.args.line.now in

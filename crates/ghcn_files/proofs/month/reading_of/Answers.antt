@@ -3,7 +3,7 @@ use Rattle.ghcn_fields.specs.Numbers.{int_field}
 use Rattle.ghcn_files.proofs.Readings.{malformed, well_formed}
 use Rattle.ghcn_files.proofs.month.reading_of.Goals as goal
 
--- a value that is no number
+-- a value that isn't a number
 pub returns-then-is_bad : goal.returns-then-is_bad
 returns-then-is_bad c =
     malformed c.args.line.now (c.args.day + 1) c.value_field-field.result

@@ -15,7 +15,7 @@ returns-clause-first c =
     ∙ sym (columns-slice (14 + 8 * (c.args.day + 1)) (18 + 8 * (c.args.day + 1)) start (start + 5) line
     (omega arith) (omega arith) (omega arith) (omega arith))
 
--- and five behind eight the next one's
+-- and five after eight the next one's
 pub returns-clause-second : goal.returns-clause-second
 returns-clause-second c =
     let line : List ℕ = c.args.line.now in

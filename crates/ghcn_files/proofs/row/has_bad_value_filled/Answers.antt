@@ -2,7 +2,7 @@ use Rattle.std.proofs.Common.{◌∙◌, ◌-◌, length, sym}
 use Rattle.ghcn_files.proofs.WholeLines.{filled-says, same-why}
 use Rattle.ghcn_files.proofs.row.has_bad_value_filled.Goals as goal
 
--- a line with blanks behind it says what it says
+-- a line with blanks after it says what it says
 pub returns : goal.returns
 returns c = λ none.
     let line = c.args.line.now in

@@ -9,7 +9,7 @@ use Rattle.ghcn_files.proofs.Readings.{all_tests, no_test, passes-fine, two-fine
 use Rattle.ghcn_files.proofs.Readings.{both_clear, unless_true, is_so}
 use Rattle.ghcn_files.proofs.row.has_bad_value_in.Goals as goal
 
--- the tests of two days more are passed where their lanes are 0
+-- the tests of two days more are passed if their lanes are 0
 pub loop-pair-preserved : goal.loop-pair-preserved
 loop-pair-preserved c =
     let line : List ℕ = c.args.line.now in

@@ -46,7 +46,7 @@ loop-place-preserved c =
           ∙ c.loop-place.invariant.rest j (omega (arith, le));
     }
 
--- all days are, and the place behind them has none
+-- all days are, and the place after them has none
 pub returns : goal.returns
 returns c =
     let least : ℤ = to_z w32 (of_z w32 c.args.least) in

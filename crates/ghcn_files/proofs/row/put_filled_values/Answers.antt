@@ -2,7 +2,7 @@ use Rattle.std.proofs.Common.{◌∙◌, ◌-◌, length}
 use Rattle.ghcn_files.proofs.WholeLines.{filled-says, same-why, same-values}
 use Rattle.ghcn_files.proofs.row.put_filled_values.Goals as goal
 
--- a line with blanks behind it passes the tests of its values
+-- a line with blanks after it passes the tests of its values
 pub values_in-requires : goal.values_in-requires
 values_in-requires c =
     let line = c.args.line.now in

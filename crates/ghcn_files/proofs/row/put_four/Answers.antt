@@ -6,7 +6,7 @@ use Rattle.ghcn_files.specs.Rows.{value_or_missing}
 use Rattle.ghcn_files.proofs.GroupValues.{group-value, four-stand, others-stay, each-of-four}
 use Rattle.ghcn_files.proofs.row.put_four.Goals as goal
 
--- four days have their values, and the others what stood there
+-- four days have their values, and the others what was there
 pub returns : goal.returns
 returns c =
     let line : List ℕ = c.args.line.now in

@@ -16,7 +16,7 @@ returns-in_err-head-clause-err c =
     subst (λ (r : Result MonthRow LineWhy). IfErr r (λ why. month_why line ≡ Some why))
     (sym (err_given _ _ c.from_residual.ensures.1)) (month_why-parts line why)
 
--- a value that is no number
+-- a value that isn't a number
 pub returns-in_err-word-clause-err : goal.returns-in_err-word-clause-err
 returns-in_err-word-clause-err c =
     let line = c.args.line.now in

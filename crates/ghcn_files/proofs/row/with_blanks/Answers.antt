@@ -3,7 +3,7 @@ use Rattle.std.specs.Prelude.{replicate}
 use Rattle.std.proofs.lemmas.List.{drop-replicate}
 use Rattle.ghcn_files.proofs.row.with_blanks.Goals as goal
 
--- the blanks behind the copied line are left
+-- the blanks after the copied line are left
 pub returns : goal.returns
 returns c =
     let line = c.args.line.now in

@@ -6,7 +6,7 @@ use Rattle.ghcn_fields.specs.declared.field.Field.TheVariants.{Number}
 use Rattle.ghcn_files.specs.StationLines.{is_number_within, number_of}
 use Rattle.ghcn_files.proofs.station.degrees.Goals as goal
 
--- the number of a field that has one, where it is within a limit
+-- the number of a field that has one, if it is within a limit
 number_if : (limit n : ℤ) (f : Field) (b : Bool) → f ≡ Number n → (int_le (neg_ℤ limit) n && int_le n limit) ≡ b
     → cond b (Some n) None ≡ cond (is_number_within (neg_ℤ limit) limit f) (Some (number_of f)) None
 number_if limit n f b is within =

@@ -2,7 +2,7 @@ use Rattle.std.proofs.Common.{◌<◌, ◌^◌, rules}
 use Rattle.ghcn_series.proofs.RunDays.{run-ends}
 use Rattle.ghcn_series.proofs.days.end_of_run.Goals as goal
 
--- the run ends where the shifted word's ones do
+-- the run ends at the place at which the shifted word's ones end
 pub returns : goal.returns
 returns c =
     let fits : c.args.word < 2 ^ 32 = search rules in

@@ -6,7 +6,7 @@ use Rattle.std.proofs.lemmas.List.FromFn.{map-range_with_len_more}
 use Rattle.ghcn_series.proofs.PartsInOrder.{sorted-by_number}
 use Rattle.ghcn_series.proofs.parts.by_number.Goals as goal
 
--- one number more stands there with its place
+-- one number more is there with its place
 pub loop-place-preserved : goal.loop-place-preserved
 loop-place-preserved c =
     let ns : List ℤ = c.args.numbers.now in

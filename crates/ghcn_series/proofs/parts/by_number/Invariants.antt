@@ -2,6 +2,6 @@ use Rattle.std.proofs.Common.{◌≡◌, pos, get_or, map}
 use Rattle.std.specs.List.{range_with_len}
 use Rattle.ghcn_series.proofs.parts.by_number.Given as goal
 
--- the numbers so far stand there with their places
+-- the numbers so far are there with their places
 abbrev pub invariant-loop-place : goal.invariant-loop-place
 invariant-loop-place l = l.order.items ≡ map (λ k. (get_or l.numbers k (pos 0), k)) (range_with_len 0 l.place)

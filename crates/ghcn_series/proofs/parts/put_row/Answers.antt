@@ -3,7 +3,7 @@ use Rattle.std.proofs.lemmas.List.{get_or-drop}
 use Rattle.ghcn_series.proofs.RowParts.{placed-row}
 use Rattle.ghcn_series.proofs.parts.put_row.Goals as goal
 
--- the row stands between zeros
+-- the row is between zeros
 pub returns : goal.returns
 returns c = λ at lt.
     let place : ℕ = c.args.place in

@@ -9,7 +9,7 @@ use Rattle.ghcn_description.specs.declared.counts.CodeCount.{CodeCount}
 use Rattle.ghcn_description.proofs.OtherCodes.{searchable, place-is, found-at}
 use Rattle.ghcn_description.proofs.others.Others.add.Goals as goal
 
--- the code belongs where the search ends
+-- the code belongs at the place at which the search ends
 pub add_new-requires : goal.add_new-requires
 add_new-requires c =
     let cs : List CodeCount = c.args.self.now.counts.items in
@@ -22,7 +22,7 @@ add_new-requires c =
     (subst (λ ds. IsPartitionPoint (λ (e : CodeCount). slice_cmp nat_cmp e.code c.args.code ≡ Less)
     (λ (e : CodeCount). slice_cmp nat_cmp e.code c.args.code ≡ Greater) ds c.in-Err.place) value parted)
 
--- a line more is counted where the code was found
+-- a line more is counted at the place at which the code was found
 pub returns-in_ok-self-in-Ok : goal.returns-in_ok-self-in-Ok
 returns-in_ok-self-in-Ok c =
     let cs : List CodeCount = c.args.self.now.counts.items in

@@ -29,7 +29,7 @@ returns-then-place-ge-MOST_CODES c =
       | Err e ↦ λ h. tt
     ] c.pass_over.ensures.further
 
--- the code stands at its place, if there is room or the last one leaves
+-- the code is at its place, if there is room or the last one leaves
 pub returns : goal.returns
 returns c =
     let place : ℕ = c.args.place in

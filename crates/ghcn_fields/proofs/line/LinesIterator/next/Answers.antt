@@ -4,7 +4,7 @@ use Rattle.std.proofs.lemmas.Grind.{common_steps}
 use Rattle.ghcn_fields.proofs.FirstLine.{lines-first, lines-last, lines_left, longer}
 use Rattle.ghcn_fields.proofs.line.LinesIterator.next.Goals as goal
 
--- up to a line feed stands the first line
+-- the first line ends at a line feed
 pub returns-in-Some-clause-steps : goal.returns-in-Some-clause-steps
 returns-in-Some-clause-steps c = grind (arith, common_steps, nat_tests, lines-first, lines_left)
 

@@ -13,7 +13,7 @@ returns-in_err-find_head-clause-err c =
     subst (λ (r : Result (Unit {0}) LineWhy). IfErr r (λ why. month_why line ≡ Some why))
     (sym (err_given _ _ c.from_residual.ensures.1)) (month_why-parts line c.in_err-find_head.ensures.err)
 
--- a value that is no number
+-- a value that isn't a number
 pub returns-in_err-self-clause-err : goal.returns-in_err-self-clause-err
 returns-in_err-self-clause-err c =
     let line = c.args.line.now in

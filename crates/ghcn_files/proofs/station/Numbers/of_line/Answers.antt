@@ -29,7 +29,7 @@ returns-in_default-degrees-2-clause-err c =
     } in
     line_why-tested tested
 
--- an elevation that is no number
+-- an elevation that isn't a number
 pub returns-then-is_bad-clause-err : goal.returns-then-is_bad-clause-err
 returns-then-is_bad-clause-err c =
     let tested : Tested c.args.line.now true true true true = record {
@@ -42,7 +42,7 @@ returns-then-is_bad-clause-err c =
     } in
     line_why-tested tested
 
--- a line that passes every test has no fault
+-- a line that passes every test has no error
 pub returns-clause-ok : goal.returns-clause-ok
 returns-clause-ok c =
     let tested : Tested c.args.line.now true true true false = record {

@@ -4,7 +4,7 @@ use Rattle.std.proofs.lemmas.Bool.Decides.{nat_tests}
 use Rattle.ghcn_files.proofs.ById.{equal_keys}
 use Rattle.ghcn_files.proofs.station.StationId.is_same.Goals as goal
 
--- where the first parts of the keys are equal, the last ones tell
+-- if the first parts of the keys are equal, the last ones decide
 pub returns-then-front-other_front : goal.returns-then-front-other_front
 returns-then-front-other_front c =
     let x = c.key-front.result in
@@ -15,7 +15,7 @@ returns-then-front-other_front c =
     ∙ equal_keys c.args.self.now c.args.other.now x y c.key-front.ensures.key c.key-other_front.ensures.key
     c.key-front.ensures.bytes c.key-other_front.ensures.bytes
 
--- where they aren't, nor are the IDs
+-- if they aren't, nor are the IDs
 pub returns-else-front-other_front : goal.returns-else-front-other_front
 returns-else-front-other_front c =
     let x = c.key-front.result in

@@ -23,7 +23,7 @@ returns-then-len-ge-MOST_STATIONS-clause-err c = λ earlier e.
     (omega (arith, c.len.ensures, ap length c.self.view_is, c.if-len-ge-MOST_STATIONS.true)) in
     fault_of_right_line earlier c.args.number line c.args.self.now (id_of line) false false e right.ok refl known full
 
--- a line without a fault has the columns of an ID
+-- a line without an error has the columns of an ID
 pub is_listed-requires : goal.is_listed-requires
 is_listed-requires c =
     let there = id_there c.args.line.now c.in-Ok.ensures.ok in
@@ -33,15 +33,15 @@ is_listed-requires c =
 pub push-requires-clause-long : goal.push-requires-clause-long
 push-requires-clause-long c = id_there c.args.line.now c.in-Ok.ensures.ok
 
--- an ID that isn't listed is no station's
+-- an ID that isn't listed isn't any station's
 pub push-requires-clause-new : goal.push-requires-clause-new
 push-requires-clause-new c = not_found _ (sym c.is_listed.ensures ∙ c.if-is_listed.false)
 
--- the station of a line without a fault is right
+-- the station of a line without an error is right
 pub push-requires-clause-right : goal.push-requires-clause-right
 push-requires-clause-right c = station_of-right c.args.line.now c.in-Ok.ensures.ok
 
--- the line's station is held behind the others
+-- the line's station is held after the others
 pub returns-in-Ok-push-clause-ok : goal.returns-in-Ok-push-clause-ok
 returns-in-Ok-push-clause-ok c =
     let right = c.in-Ok.ensures in

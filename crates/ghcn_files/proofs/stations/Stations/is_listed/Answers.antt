@@ -5,7 +5,7 @@ use Rattle.ghcn_files.specs.KeptStations.{AreKeptBy, Rise, is_behind}
 use Rattle.ghcn_files.proofs.RisingIds.{place-behind}
 use Rattle.ghcn_files.proofs.stations.Stations.is_listed.Goals as goal
 
--- an ID behind all that rise is no station's
+-- an ID after all that rise isn't any station's
 pub returns-in-None : goal.returns-in-None
 returns-in-None c =
     let held = c.args.self.now in

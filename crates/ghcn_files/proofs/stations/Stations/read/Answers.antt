@@ -47,7 +47,7 @@ loop-number-preserved-in-Continue-1 c =
           (sym (length_push c.loop-number.yielded (c.in-Some.number, c.in-Some.line))) read;
     }
 
--- a line that is refused is the text's fault
+-- a line that is refused is the text's error
 pub returns-in_err-add-clause-err : goal.returns-in_err-add-clause-err
 returns-in_err-add-clause-err c =
     let text = c.args.text.now in

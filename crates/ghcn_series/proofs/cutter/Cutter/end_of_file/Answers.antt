@@ -6,7 +6,7 @@ use Rattle.ghcn_series.proofs.KeptFaults as kept
 use Rattle.ghcn_series.proofs.cutter.Cutter.end_of_file.Goals as goal
 use Rattle.ghcn_series.proofs.cutter.Cutter.end_of_file.Goals.{then-is_reading, else-is_reading}
 
--- a last line without its feed is of a file with a number
+-- a last line without its feed belongs to a file with a number
 pub read_end-requires-clause-few : goal.read_end-requires-clause-few
 read_end-requires-clause-few g c =
     kept.end-few c.args.self.now (subst (LooksAtLines c.args.self.now) c.if-is_reading.true c.is_reading.ensures)

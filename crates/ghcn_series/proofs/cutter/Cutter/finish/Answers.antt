@@ -5,7 +5,7 @@ use Rattle.ghcn_series.proofs.KeptFaults.{HasEnded, ended-begun, ended-unbegun, 
 use Rattle.ghcn_series.proofs.cutter.Cutter.finish.Goals as goal
 use Rattle.ghcn_series.proofs.cutter.Cutter.finish.Goals.{then-self, else-self}
 
--- the error that was kept is told
+-- the error that was kept is returned
 pub returns-in-Some-clause-err : goal.returns-in-Some-clause-err
 returns-in-Some-clause-err g c =
     let ended : HasEnded g.L.LineReader.has_read c.args.self c.if-self.self = elim c.if-self.branch [

@@ -4,7 +4,7 @@ use Rattle.ghcn_series.specs.Cut.{LooksAtLines}
 use Rattle.ghcn_series.proofs.KeptFaults as kept
 use Rattle.ghcn_series.proofs.cutter.Cutter.piece.Goals as goal
 
--- a piece that is looked at is of a file with a number
+-- a piece that is looked at belongs to a file with a number
 pub read-requires-clause-few : goal.read-requires-clause-few
 read-requires-clause-few g c =
     let some : 0 < length c.args.bytes.now = grind (arith, nat_tests, c.if-is_empty.false, c.is_empty.ensures) in

@@ -30,7 +30,7 @@ day_at-requires-clause-number c =
     let near : FitsSigned w32 n = search rules in
     subst IsBlock (sym (to_z-of_z w32 n near)) (lowest-block n c.self.inside.left c.self.invariant some fits)
 
--- its lowest bit is of a day of the calendar
+-- its lowest bit belongs to a day of the calendar
 pub day_at-requires-clause-day : goal.day_at-requires-clause-day
 day_at-requires-clause-day c =
     let n : ℤ = c.self.inside.number in

@@ -6,7 +6,7 @@ use Rattle.ghcn_series.proofs.PartDays.{some-bits}
 use Rattle.ghcn_series.proofs.RunDays.{kept-days, places-below}
 use Rattle.ghcn_series.proofs.days.BlockDays.keep_below.Goals as goal
 
--- the days that stay are of the calendar
+-- the days that stay are in the calendar
 pub invariant_of-self : goal.invariant_of-self
 invariant_of-self c = some-bits c.self.inside.number c.self.inside.left _ c.self.invariant
 

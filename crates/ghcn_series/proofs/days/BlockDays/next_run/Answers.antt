@@ -27,7 +27,7 @@ day_at-first-requires-clause-number c =
     let near : FitsSigned w32 n = search rules in
     subst IsBlock (sym (to_z-of_z w32 n near)) (lowest-block n c.self.inside.left c.self.invariant some fits)
 
--- the days that stay are of the calendar
+-- the days that stay are in the calendar
 pub invariant_of-self : goal.invariant_of-self
 invariant_of-self c = some-bits c.self.inside.number c.self.inside.left _ c.self.invariant
 

@@ -7,7 +7,7 @@ use Rattle.ghcn_series.specs.Packed.{block_start, block_days, AreCalendarDays}
 use Rattle.ghcn_series.proofs.PartDays.{some-bits, both-parts, each-day, ones-left, first-bit, later-bit}
 use Rattle.ghcn_series.proofs.days.BlockDays.take_to.Goals as goal
 
--- the days that stay, and those that are taken, are of the calendar
+-- the days that stay, and those that are taken, are in the calendar
 pub invariant_of-days : goal.invariant_of-days
 invariant_of-days c =
     let n : ℤ = c.self.inside.number in

@@ -16,7 +16,7 @@ returns-then-self-eq0-clause-steps c =
     c.self.inside.left c.if-self-eq0.true in
     (empty, empty)
 
--- each bit is of a day of the calendar
+-- each bit belongs to a day of the calendar
 pub day_at-day-requires-clause-day : goal.day_at-day-requires-clause-day
 day_at-day-requires-clause-day c =
     let n : ℤ = c.self.inside.number in
@@ -26,7 +26,7 @@ day_at-day-requires-clause-day c =
     let near : FitsSigned w32 n = search rules in
     rw (to_z-of_z w32 n near) (lowest-day n w c.self.invariant some fits)
 
--- the days that are left are of the calendar
+-- the days that are left are in the calendar
 pub invariant_of-self : goal.invariant_of-self
 invariant_of-self c =
     let some : 0 < c.self.inside.left = omega (arith, c.if-self-eq0.false) in

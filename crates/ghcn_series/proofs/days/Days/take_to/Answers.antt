@@ -12,7 +12,7 @@ returns-clause-taken c =
     let late : FitsSigned w32 c.args.last = search rules in
     rw (to_z-of_z w32 c.args.last late) at c.take_to.ensures.taken
 
--- and there is one where the first comes no later
+-- and there is one if the first comes no later
 pub returns-clause-some : goal.returns-clause-some
 returns-clause-some c begins =
     let late : FitsSigned w32 c.args.last = search rules in

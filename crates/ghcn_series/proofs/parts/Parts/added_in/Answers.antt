@@ -14,7 +14,7 @@ loop-number-init c =
     added-none c.args.self.now c.args.order.now c.requires.parts c.requires.order c.new-ordered.result
     c.new-ordered.ensures
 
--- the number stands at its place
+-- the number is at its place
 pub index-requires : goal.index-requires
 index-requires c =
     let at = stands c.args.self.now.numbers.items c.args.order.now c.requires.order c.loop-number.number-index

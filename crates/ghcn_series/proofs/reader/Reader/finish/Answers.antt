@@ -40,7 +40,7 @@ all_added : (held all : List (List Usable)) (rest : List StationGathering) → r
     ≡ all → held ≡ all
 all_added held all rest none is = sym (append-nil held) ∙ ap (λ gs. held ++ map station_series gs) (sym none) ∙ is
 
--- the series stand by station
+-- the series are grouped by station
 pub of-requires : goal.of-requires
 of-requires c =
     let read = c.requires.1.months in

@@ -2,7 +2,7 @@ use Rattle.std.proofs.Common.{refl}
 use Rattle.ghcn_series.proofs.ReadMonths.{read-settled}
 use Rattle.ghcn_series.proofs.reader.Reader.turn_to.Goals as goal
 
--- the days of the station before stand in memory of their own
+-- the days of the station before are in memory of their own
 pub returns-in-Some-clause-same : goal.returns-in-Some-clause-same
 returns-in-Some-clause-same c =
     read-settled c.args.self.now _ c.replace-last.result c.in-Some.station.now c.shrink_to_fit.new.self

@@ -6,7 +6,7 @@ use Rattle.ghcn_series.proofs.ListFacts.{each-append}
 use Rattle.ghcn_series.proofs.StationMonths.{settled_at}
 use Rattle.ghcn_series.proofs.station.StationGathering.shrink_to_fit.Goals as goal
 
--- one gathering more stands in memory of its own, and has the months that it had
+-- one gathering more is in memory of its own, and has the months that it had
 pub loop-place-preserved : goal.loop-place-preserved
 loop-place-preserved c = record {
   id = c.loop-place.invariant.id;
