@@ -79,7 +79,7 @@ module _ (days : List DayValue) (rise : AreRising days) (b : ℤ) (word : ℕ) (
   block-sum size = ap (λ (xs : List DayValue). total (map (λ x. x.1) xs)) block-days-in
       ∙ places-total (block_start b) word values size of_block.zeros 0 32 refl
 
-  -- a usable day's bit is of a day that has a value
+  -- a usable day's bit belongs to a day that has a value
   pub block-day : (P : ℤ → ℤ → Type 0) → AllByRecursion (λ x. P x.0 x.1) days → (j : ℕ) → j < 32 → bit_at word j ≡ 1
       → P (block_start b +ℤ pos j) (get_or values j (pos 0))
   block-day P all j lt bit = grind (arith, ints, value_on-among, get_or)

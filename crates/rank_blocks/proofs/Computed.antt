@@ -29,7 +29,7 @@ sum-unique q s n y z of_y of_z =
     let most = greatest-unique _ of_y.most of_z.most of_y.greatest_total of_z.greatest_total in
     cc (of_y.smaller, of_z.smaller)
 
--- as many blocks make the same bound
+-- the number of blocks determines the bound
 blocks-unique : (such : ℤ → Bool) (y z : ℤ) → IsBlocksBound such y → IsBlocksBound such z → y ≡ z
 blocks-unique such y z of_y of_z =
     let same = greatest-unique _ (pos of_y.blocks) (pos of_z.blocks) of_y.greatest of_z.greatest in
@@ -175,7 +175,7 @@ blocks-greatest test q s series =
     (λ x has. let day = reached-valid q s series x has in
     (block-rises first_day x.0 day.0, omega (arith, ints, block-rises x.0 last_day day.1)))
 
--- 32 times as many is the bound of hot spells
+-- 32 times the number of blocks is the bound of hot spells
 pub blocks-computed : (test : ℤ → Bool) (q : Asked) (s : Usable) → IsSeries s
     → IsBlocksBound (holds_such test (days_reached q s)) (blocks_bound test (days_reached q s))
 blocks-computed test q s series = grind (arith, ints, blocks-greatest test q s series)

@@ -40,7 +40,7 @@ module _ (test : ℤ → Bool) where
       let found = holds-in (filter (λ x. p (block_of x.0)) days) b e in
       grind (arith, ints, of_kept (λ x. p (block_of x.0)) days found.0 found.1, found.2, holds-filter p days b)
 
--- a block holds a hot day where its greatest value is hot
+-- a block holds a hot day if its greatest value is hot
 holds-greatest : (t : ℤ) (days : List DayValue) (b z : ℤ) → IsGreatest (IsDayScore (λ v. v) (days_in days b)) z
     → holds_such (test_of (Hot t)) days b ≡ int_le t z
 holds-greatest t days b z of_z = elim (cases_Bool (int_le t z)) [
@@ -81,7 +81,7 @@ counts-among (Hot t) Q days d all e =
     let day = holds-in (test_of (Hot t)) days (block_of d) e in
     subst Q day.2 (of_each (λ x. Q (block_of x.0)) days all day.0 day.1)
 
--- if a block's greatest value is hot, all its days count, and else none
+-- if a block's greatest value is hot, all its days count, and otherwise none
 pub hot-bits : (t : ℤ) (days : List DayValue) (b z : ℤ) (word : ℕ) → IsGreatest (IsDayScore (λ v. v) (days_in days b)) z
     → ((j : ℕ) → j < 32 → has_bit word j ≡ int_le t z) → AreBitsOf (counts (Hot t) days) b word
 hot-bits t days b z word of_z all = grind (arith, ints, holds-greatest, block-of_place)

@@ -10,14 +10,14 @@ pub max-one : (P : ℕ → Type 0) (m n : ℕ) → P m → P n → P (max m n)
 max-one P m n hm hn = grind (arith, ints, max-eq_right, max-eq_left)
 
 module _ (such : ℤ → Bool) where
-  -- a run that ends before a block, after days of which none is of the kind, is among those that are told of
+  -- a run that ends before a block, after days of which none is of the kind, is among those that are noted
   earlier : (r : Runs) (next : ℤ) → AreRuns such r → NoneBetween such r.next next → (len : ℕ) (first : ℤ)
       → (first +ℤ pos len) ≤ℤ block_start next → AllFrom such first len → len ≤ r.longest
   earlier r next are none zero first within pass = omega arith
   earlier r next are none (suc n) first within pass =
       grind (arith, ints, pass n, none (first +ℤ pos n), are.nowhere_more first (suc n))
 
-  -- where no day before a block is of the kind
+  -- if no day before a block is of the kind
   pub runs-none : (b : ℤ) → ((d : ℤ) → d <ℤ block_start b → such d ≡ false) → AreRuns such (runs_before b)
   runs-none b none =
       let somewhere : (first : ℤ) × AllFrom such first 0 = (pos 0, λ i lt. absurd (omega arith)) in
@@ -62,7 +62,7 @@ module _ (such : ℤ → Bool) where
         (of_bit f _ false lt refl (firsts.ends lt)) in
         grind (arith, ints, begins, ends)
 
-    -- no run that ends in the block or before it is longer than those that are told of
+    -- no run that ends in the block or before it is longer than those that are noted
     most-so_far : (first : ℤ) (len : ℕ) → (first +ℤ pos len) ≤ℤ (block_start r.next +ℤ pos 32)
         → AllFrom such first len → len ≤ max (max r.longest m) (r.last + f)
     most-so_far first len within pass =
@@ -73,7 +73,7 @@ module _ (such : ℤ → Bool) where
         grind (arith, ints, bits k, pass (k - far.0))) in
         omega arith)) (λ before. let old = are.nowhere_more first len before pass in omega arith)
 
-    -- the longest run that is told of is somewhere
+    -- the longest run that is noted is somewhere
     somewhere-so_far : (first : ℤ) × AllFrom such first (max (max r.longest m) (r.last + f))
     somewhere-so_far =
         let P : ℕ → Type 0 = λ n. (first : ℤ) × AllFrom such first n in
@@ -88,7 +88,7 @@ module _ (such : ℤ → Bool) where
     few-last : f < 32 → l < 32
     few-last lt = grind (arith, ints, firsts.ends lt, λ (at : 0 + l ≡ 32). lasts.pass 0 at f)
 
-    -- what was told goes on with the block
+    -- what was noted goes on with the block
     pub runs-more : (new : Runs) → new.next ≡ r.next +ℤ pos 1 → (f ≡ 32 → new.last ≡ r.last + f)
         → (f < 32 → new.last ≡ l) → new.longest ≡ max (max r.longest m) (r.last + f) → AreRuns such new
     runs-more new next full part longest =

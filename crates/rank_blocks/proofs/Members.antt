@@ -6,7 +6,7 @@ use Rattle.rank_blocks.proofs.Cited.{All-contains, greatest, total, IsGreatest}
 use Rattle.ghcn_series.proofs.Members.{contains-in, in-contains, in_any, kept_in, in_map, map_in, of_one, for_each as each_there, any_in as any_there, in_kept as kept_there}
 pub use Rattle.ghcn_series.proofs.Members.{of_each, itself}
 
--- nothing stands in an empty list
+-- nothing is in an empty list
 pub contains-nothing : {X : Type 0} (x : X) → Contains [] x → ⊥
 contains-nothing x h = let lt : h.0 < 0 = h.1 in omega arith
 
@@ -14,11 +14,11 @@ contains-nothing x h = let lt : h.0 < 0 = h.1 in omega arith
 pub contains-cases : {X : Type 0} (x y : X) (xs : List X) → Contains (x ∷ xs) y → (x ≡ y) ⊎ Contains xs y
 contains-cases x y xs h = grind (arith, ints, contains-nothing)
 
--- the first element stands in the list
+-- the first element is in the list
 pub contains-first : {X : Type 0} (x y : X) (xs : List X) → x ≡ y → Contains (x ∷ xs) y
 contains-first x y xs is = grind (arith, ints)
 
--- what comes after the first element stands in the list
+-- what comes after the first element is in the list
 pub contains-behind : {X : Type 0} (x y : X) (xs : List X) → Contains xs y → Contains (x ∷ xs) y
 contains-behind x y xs h = Contains-append_right (x ∷ []) xs y h
 
@@ -32,7 +32,7 @@ pub pick : {X Y : Type 0} (f : X → Y) (Q : X → Type 0) (xs : List X) (y : Y)
 pick f Q xs y all h =
     let made = map_in f xs y (contains-in (map f xs) y h) in (made.0, of_one Q xs made.0 all made.1, made.2)
 
--- if an element passes a test, one that does stands in the list
+-- if an element passes a test, one that does is in the list
 pub any_in : {X : Type 0} (p : X → Bool) (xs : List X) → list_any p xs ≡ true → (x : X) × Contains xs x × (p x ≡ true)
 any_in p xs e = let any = any_there p xs e in (any.0, in-contains xs any.0 any.1, any.2)
 
@@ -40,13 +40,13 @@ any_in p xs e = let any = any_there p xs e in (any.0, in-contains xs any.0 any.1
 pub any_of : {X : Type 0} (p : X → Bool) (xs : List X) (x : X) → Contains xs x → p x ≡ true → list_any p xs ≡ true
 any_of p xs x has e = in_any p xs x (contains-in xs x has) e
 
--- an element that is kept stands in the list, and passes the test
+-- an element that is kept is in the list, and passes the test
 pub of_kept : {X : Type 0} (t : X → Bool) (xs : List X) (x : X) → Contains (filter t xs) x
     → Contains xs x × (t x ≡ true)
 of_kept t xs x h =
     let kept = kept_in t xs x (contains-in (filter t xs) x h) in (in-contains xs x kept.0, kept.1)
 
--- what is made of an element that passes stands in what is made of those that are kept
+-- what is made of an element that passes is in what is made of those that are kept
 pub in_kept : {X Y : Type 0} (f : X → Y) (t : X → Bool) (xs : List X) (x : X) → Contains xs x → t x ≡ true
     → Contains (map f (filter t xs)) (f x)
 in_kept f t xs x has e =
@@ -64,7 +64,7 @@ pub total-cons : {X : Type 0} (f : X → ℤ) (p : X → Bool) (x : X) (xs : Lis
     → total (map f (filter p (x ∷ xs))) ≡ cond (p x) (f x) (pos 0) +ℤ total (map f (filter p xs))
 total-cons f p x xs = grind (arith, ints)
 
--- no total is below zero where no number is
+-- no total is below zero if no number is
 pub total-least : {X : Type 0} (f : X → ℤ) (p : X → Bool) (xs : List X) → AllByRecursion (λ x. pos 0 ≤ℤ f x) xs
     → pos 0 ≤ℤ total (map f (filter p xs))
 total-least f p [] falls = omega (arith, ints)

@@ -14,7 +14,7 @@ use Rattle.rank_blocks.proofs.HotBlocks.{counts-kept, counts-filter, counts-amon
 abbrev pub kind : BlockRange → Spell → Usable → ℤ → Bool
 kind r k s = counts k (days_in_range r s.days)
 
--- the runs of the days before a block are told, whatever the series; of the blocks of the range those that stand before
+-- the runs of the days before a block are noted, whatever the series; of the blocks of the range those that come before
 -- it are those of the summaries before a place
 pub record IsTold (r : BlockRange) (ms : List Summary) (i : ℕ) (runs : Runs) : Type 0 where
   pub room : runs.last ≤ 32 * i
@@ -48,7 +48,7 @@ block-of_kind r k s ms are d e =
 
 module _ (r : BlockRange) (ms : List Summary) (i : ℕ) (runs : Runs) (far : IsTold r ms i runs) where
   module _ (possible : ArePossible ms) (lt : i < length ms) where
-    -- no day of the kind lies between the block after those told and that of the summary at the place
+    -- no day of the kind lies between the block after those noted and that of the summary at the place
     none-between : (k : Spell) (s : Usable) → AreOfBlocks (HasDays k s.days) s ms
         → NoneBetween (kind r k s) runs.next (block_at ms i).number
     none-between k s are d low high = false_from_ne_true (kind r k s d) (λ e.

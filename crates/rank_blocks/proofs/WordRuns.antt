@@ -19,8 +19,8 @@ moved-up w k lt =
 lowest-empty : (w : ℕ) → bit_at (w * 2 ^ 1 % 2 ^ 32) 0 ≡ 0
 lowest-empty w = grind (arith, ints, bit_at_cat_low, bit_at-zero)
 
--- what remains of a word: a bit is set where more than n bits of the word that are set end; and n set bits follow one
--- another somewhere
+-- what remains of a word: a bit is set at each place at which more than n bits of the word that are set end; and n set
+-- bits follow one another somewhere
 pub record AreEnds (word n ends : ℕ) : Type 0 where
   pub some : (k : ℕ) → k < 32 → bit_at ends k ≡ 1 → (n ≤ k) × AllPass (has_bit word) (k - n) (k + 1)
   pub every : (k : ℕ) → k < 32 → n ≤ k → AllPass (has_bit word) (k - n) (k + 1) → bit_at ends k ≡ 1
@@ -31,12 +31,12 @@ module _ (word n ends : ℕ) (are : AreEnds word n ends) (fits : ends < 2 ^ 32) 
   abbrev next : ℕ
   next = bit_and ends (ends * 2 ^ 1 % 2 ^ 32)
 
-  -- a bit is set where it was and where the one before it was
+  -- a bit is set if it was and if the one before it was
   next-bit : (j k : ℕ) → j ≡ k + 1 → j < 32 → bit_at next j ≡ min (bit_at ends j) (bit_at ends k)
   next-bit j k is lt = bit_at_and ends (ends * 2 ^ 1 % 2 ^ 32) j
       ∙ ap (min (bit_at ends j)) (ap (bit_at (ends * 2 ^ 1 % 2 ^ 32)) is ∙ moved-up ends k (omega arith))
 
-  -- one bit more ends where a bit remains
+  -- if a bit remains, one set bit more ends at its place
   next-some : (k : ℕ) → k < 32 → bit_at next k ≡ 1 → (n + 1 ≤ k) × AllPass (has_bit word) (k - (n + 1)) (k + 1)
   next-some zero lt bit = absurd (omega (arith, bit_at_and ends (ends * 2 ^ 1 % 2 ^ 32) 0, lowest-empty ends))
   next-some (suc k) lt bit =
@@ -45,7 +45,7 @@ module _ (word n ends : ℕ) (are : AreEnds word n ends) (fits : ends < 2 ^ 32) 
       let second = are.some (suc k) lt (omega arith) in
       (omega (arith, first.0), λ i low high. grind (arith, first.1 i, second.1 i))
 
-  -- more than n follow one another where a bit remains
+  -- if a bit remains, more than n set bits follow one another
   longer : (ends ≡ 0 → ⊥) → (from : ℕ) × (from + (n + 1) ≤ 32) × AllPass (has_bit word) from (from + (n + 1))
   longer some_end =
       let lowest = bit_at-trailing_zeros w32 ends (omega (arith, some_end)) fits in

@@ -1,4 +1,4 @@
--- What the summaries of the blocks of a range tell.
+-- What the summaries of the blocks of a range say.
 use Rattle.std.specs.Prelude.{◌≡◌, ℕ, Bool, true, ◌&&◌, List, map, filter, ℤ, pos, neg_ℤ, ◌≤ℤ◌, int_le}
 use Rattle.ghcn_fields.specs.Days.{block_of}
 use Rattle.ghcn_series.specs.Series.{DayValue}

@@ -1,4 +1,4 @@
-//! What a query asks of the blocks of a series, and the bound that it gives.
+//! What a query asks of the blocks of a series, and the bound that follows.
 
 ghost use Rattle.std.specs.Prelude.{◌<◌, Some, IfOk};
 ghost use Rattle.ghcn_series.specs.Series.{Usable};

@@ -49,7 +49,7 @@ abbrev pub ScoresFall : List Candidate → Type 0
 ScoresFall [] = Unit {0}
 ScoresFall (y ∷ ys) = NoneAbove y.score ys × ScoresFall ys
 
--- what is at most another is so by the first of its answers
+-- what is at most another is so by the first comparison
 by_score : (o p l : Ordering) → is_le (ordering_then (ordering_then o p) l) ≡ true → is_le o ≡ true
 by_score o p l e = grind arith
 

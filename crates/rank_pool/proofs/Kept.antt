@@ -14,7 +14,7 @@ use Rattle.rank_pool.proofs.Places.{in_order-push, in_order-append_comm}
 use Rattle.rank_pool.proofs.Counts.{one_if, above-cons, above-append, above-in_order, ScoresFall, in_order-falls}
 use Rattle.rank_pool.proofs.Counts.{none_above}
 
--- an answer that is Greater by score
+-- a result that is Greater by score
 greater_first : (s o l : Ordering) → s ≡ Greater → is_le (ordering_then (ordering_then s o) l) ≡ false
 greater_first s o l e = grind arith
 

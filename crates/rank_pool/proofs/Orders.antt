@@ -1,4 +1,4 @@
--- The order of listing tells any two candidates apart, and what is in order stays so.
+-- The order of listing distinguishes any two candidates, and what is in order stays so.
 use Rattle.std.proofs.Common.{◌≡◌, ℕ, zero, suc, Bool, true, false, List, [], ◌∷◌, take, refl, sym, ap, ◌∙◌, arith}
 use Rattle.std.specs.List.{AllByRecursion}
 use Rattle.std.specs.declared.cmp.Ordering.{Ordering}

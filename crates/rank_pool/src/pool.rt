@@ -191,7 +191,7 @@ fn place_of(held: &VecDeque<Candidate>, candidate: &Candidate) -> usize
 /// The place of a candidate that is listed after the first one, and probably not far after it.
 ///
 /// If scores rise, few of the candidates that are held tie with the new one. A step is as wide as the distance from
-/// where the search began, but never wider than half of what is left.
+/// the place at which the search began, but never wider than half of what is left.
 fn place_near_front(held: &VecDeque<Candidate>, candidate: &Candidate) -> usize
     requires order { in_order held.now.items ≡ held.now.items }
     requires behind { comes_first candidate.now (slice_index_or held.now.items 0 candidate.now) ≡ false }

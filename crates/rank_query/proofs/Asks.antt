@@ -1,4 +1,4 @@
--- A text is read as the query that it asks, and as no other.
+-- A text is read as the query that it denotes, and as no other.
 use Rattle.rank_query.proofs.Cited.{cases_Bool, inl, inr}
 use Rattle.rank_query.proofs.Cited.{◌≡◌, ℕ, ◌≤◌, List, length, Ok, arith, nat_lt}
 use Rattle.rank_query.proofs.Cited.{nat_tests, Asked, read_query}
@@ -14,7 +14,7 @@ read_short text q e = elim (cases_Bool (nat_lt 256 (length text))) [
   | inr short ↦ grind (arith, nat_tests)
 ]
 
--- what is read as a query asks it
+-- what is read as a query denotes it
 pub read_asks : (text : List ℕ) (q : Asked) → read_query text ≡ Ok q → Asks text q
 read_asks text q e = record {
   can = read_asked text q e;
@@ -22,6 +22,6 @@ read_asks text q e = record {
   short = read_short text q e;
 }
 
--- what asks a query is read as it
+-- what denotes a query is read as it
 pub asks_read : (text : List ℕ) (q : Asked) → Asks text q → read_query text ≡ Ok q
 asks_read text q asks = spelling_read text q asks.can asks.spells asks.short

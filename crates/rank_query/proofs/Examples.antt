@@ -50,7 +50,7 @@ ends : (read_query (codes "top 1") ≡ Err QueryEnds) × (read_query [] ≡ Err 
 unfolding read_query read_words keyword says number element score_at no_score_at region_at season_at period_at
 ends = (refl, refl, refl)
 
--- a word that doesn't stand there
+-- a word that can't be there
 unexpected : (read_query (codes "Top 1 highest TMAX") ≡ Err (UnexpectedWord 1))
     × (read_query (codes "top +1 highest TMAX") ≡ Err (UnexpectedWord 2))
     × (read_query (codes "top 1 highest TAVG") ≡ Err (UnexpectedWord 4))
@@ -76,7 +76,7 @@ scores_refused : (read_query (codes "top 1 lowest PRCP") ≡ Err (UnexpectedWord
 unfolding read_query read_words keyword says number element score_at sum_at no_score_at region_at season_at period_at
 scores_refused = (refl, refl, refl, refl, refl, refl, refl)
 
--- the first of several errors of a box is told at its word: no latitude and no longitude,
+-- the first of several errors of a box is reported at its word: no latitude and no longitude,
 -- the north south of the south, and then nothing more
 boxes_refused : (read_query (codes "top 1 highest TMAX box -91 0 10 10") ≡ Err (BadBox 6))
     × (read_query (codes "top 1 highest TMAX box 10 0 -10") ≡ Err (BadBox 8))
@@ -123,7 +123,8 @@ past_the_world : (read_query (codes "top 1 wet box -90.0001 0 0 0") ≡ Err (Bad
 unfolding read_query read_words keyword says number score_at no_score_at region_at season_at period_at box_at degrees
 past_the_world = (refl, refl, refl, refl, refl, refl, refl, refl, refl)
 
--- a northern edge one ten-thousandth south of the southern one, and a word that is no number, told before what follows
+-- a northern edge one ten-thousandth south of the southern one, and a word that isn't a number, reported before what
+-- follows
 turned : (read_query (codes "top 1 wet box 1 0 0.9999 181") ≡ Err (BadBox 7))
     × (read_query (codes "top 1 wet box south 0 95 0") ≡ Err (BadBox 5))
 unfolding read_query read_words keyword says number score_at no_score_at region_at season_at period_at box_at degrees
@@ -138,7 +139,7 @@ codes_refused : (read_query (codes "top 1 highest TMAX country ZZZ") ≡ Err (Un
 unfolding read_query read_words keyword says number element score_at no_score_at region_at season_at period_at code
 codes_refused = (refl, refl, refl, refl, refl)
 
--- a letter of two bytes is no code, and neither is a control byte; the first and the last byte that show in print are
+-- a letter of two bytes isn't a code, and neither is a control byte; the first and the last byte that show in print are
 no_codes : (read_query (codes "top 1 wet country " ++ 195 ∷ 169 ∷ []) ≡ Err (UnexpectedWord 5))
     × (read_query (codes "top 1 wet state N" ++ 1 ∷ []) ≡ Err (UnexpectedWord 5))
     × (read_query (codes "top 1 wet state N" ++ 128 ∷ []) ≡ Err (UnexpectedWord 5))
@@ -210,7 +211,7 @@ dates_refused = (refl, refl, refl)
 abbrev dry_from : ℤ → ℤ → Asked
 dry_from first last = record (top 1 Dry) { period = Some (first, last) }
 
--- a period from a day to itself, one that ends before it begins, told before a word too many, and a word too many
+-- a period from a day to itself, one that ends before it begins, reported before a word too many, and a word too many
 periods : (read_query (codes "top 1 dry from 2020-07-01 to 2020-07-01") ≡ Ok (dry_from (pos 18444) (pos 18444)))
     × (read_query (codes "top 1 dry from 2020-07-02 to 2020-07-01 now") ≡ Err EmptyPeriod)
     × (read_query (codes "top 1 dry from 2020-07-01 to 2020-07-01 now") ≡ Err (UnexpectedWord 8))
@@ -218,7 +219,7 @@ unfolding read_query read_words keyword says number score_at no_score_at region_
     days_from_civil day_count days_of_years days_of_months
 periods = (refl, refl, refl)
 
--- region, season and period stand in this order
+-- region, season and period are in this order
 in_order : (read_query (codes "top 1 dry months 6..8 country ZZ") ≡ Err (UnexpectedWord 6))
     × (read_query (codes "top 1 dry from 2020-07-01 to 2020-07-01 months 6..8") ≡ Err (UnexpectedWord 8))
     × (read_query (codes "top 1 country ZZ dry") ≡ Err (UnexpectedWord 3))
@@ -243,7 +244,7 @@ places_behind : map place_behind ((codes "top" ∷ []) ∷ (codes "sum" ∷ code
     ≡ a_number ∷ a_number ∷ []
 places_behind = refl
 
--- of a box: after four numbers no edge stands
+-- of a box: after four numbers no edge comes
 edges_behind : map place_behind (
     (codes "box" ∷ codes "dry" ∷ [])
     ∷ (codes "-1.5" ∷ codes "box" ∷ [])
@@ -270,7 +271,7 @@ dates_behind : map place_behind (
     ≡ a_date ∷ another ∷ a_date ∷ another ∷ another ∷ []
 dates_behind = refl
 
--- where errors stand: at an element that can't be ranked so, at a northern edge south of the southern one,
+-- where errors are: at an element that can't be ranked so, at a northern edge south of the southern one,
 -- at the end, past 256 bytes, at a number, at a date
 places : StandsIn (codes "top 1 lowest PRCP") (UnexpectedWord 4)
     × StandsIn (codes "top 1 highest TMAX box 10 0 -10") (BadBox 8) × StandsIn (codes "top 1 highest") QueryEnds
@@ -295,7 +296,7 @@ begun = record {
   spelt = (refl, (record { some_digit = omega arith; digits_alone = refl; value = refl }, (refl, (refl, tt))));
 }
 
--- an error stands at no word before or after its own
+-- an error is at no word before or after its own
 other_places : (n : ℕ) → StandsIn (codes "top 1 lowest PRCP") (UnexpectedWord n) → n ≡ 4
 other_places n (inl long) = absurd (omega (arith, long.0))
 other_places n (inr other) =

@@ -155,7 +155,7 @@ rows_part [] otherwise rows others = others
 rows_part (row ∷ table) otherwise rows others =
     row_step row.0 row.1 table otherwise rows.0 (rows_part table otherwise rows.1 others)
 
--- what stands at the place after some words has a form, and a value is read of what has it
+-- what is at the place after some words has a form, and a value is read of what has it
 abbrev ReadByForm : {A : Type 0} → (List ℕ → Option A) → List (List ℕ) → Type 0
 ReadByForm read past = (word : List ℕ) → has_form (place_behind past) word ≡ Some (is_some (read word))
 
@@ -267,7 +267,7 @@ score_part =
       ),
     ) no_score
 
--- after four edges another word stands
+-- after four edges another word comes
 edges_settled : (e n w s : List ℕ) (box : List (List ℕ)) → IsNoKeyword e → IsNoKeyword n → IsNoKeyword w
     → IsNoKeyword s → IsSettled (e ∷ n ∷ w ∷ s ∷ box)
 edges_settled e n w s box no_e no_n no_w no_s = grind (arith, ints, settled_word, edge_less, not_both)

@@ -1,4 +1,4 @@
--- The error that is told stands at the first word with which no query goes on.
+-- The error that is reported is at the first word with which no query goes on.
 use Rattle.rank_query.proofs.Cited.{cases_Bool}
 use Rattle.rank_query.proofs.Cited.{◌≡◌, ℕ, ◌+◌, ◌⊎◌, inl, inr, List, [], ◌∷◌, ◌++◌}
 use Rattle.rank_query.proofs.Cited.{length, Result, Ok, Err, refl, sym, ap, ◌∙◌, subst, append_assoc, append-nil, IfErr}
@@ -15,7 +15,7 @@ use Rattle.rank_query.proofs.PartStops.{Any}
 use Rattle.rank_query.proofs.QueryStops.{query_first}
 use Rattle.rank_query.proofs.ReadAsked.{words_asked}
 
--- the words in front of others have no blank where none of all has
+-- the words in front of others have no blank if none of all has
 blank_in_front : (front back : List Word) → AllByRecursion HasNoBlank (unnumbered (front ++ back)) → HaveNoBlank front
 blank_in_front [] back clean = tt
 blank_in_front (w ∷ front) back clean = (clean.0, blank_in_front front back clean.1)
@@ -26,7 +26,7 @@ pub record IsPlace (n : ℕ) (before : List Word) (w : Word) : Type 0 where
   pub again : (more : List (List ℕ)) → (rest : List Word)
       × (enumerate_from n (unnumbered before ++ w.1 ∷ more) ≡ before ++ w ∷ rest)
 
--- the numbers of words tell their places
+-- the numbers of words give their places
 pub place_of : (n : ℕ) (words : List (List ℕ)) (before : List Word) (w : Word) (behind : List Word)
     → enumerate_from n words ≡ before ++ w ∷ behind → IsPlace n before w
 place_of n [] [] w behind e = absurd cc
@@ -79,7 +79,7 @@ ended before w fault place stops begin =
     ∙ ap (λ ws. read_words (enumerate_from 1 ws)) words ∙ ap read_words rest.1 ∙ stops rest.0 in
     absurd cc
 
--- the error of a word stands there
+-- the error of a word is there
 stands_at : (ws : List (List ℕ)) (fault : QueryFault) (before : List Word) (w : Word)
     → IsFirstWrong ws (unnumbered before) w.1 → w.0 ≡ 1 + length before → IsWordOf fault before w → StandsAmong ws fault
 stands_at ws QueryTooLong before w wrong at is = absurd is
@@ -94,7 +94,7 @@ stands_at ws (BadBox n) before w wrong at is =
     (unnumbered before, w.1, wrong, omega (arith, is, at, length-map before (λ (w : Word). w.1)))
 stands_at ws EmptyPeriod before w wrong at is = (unnumbered before, w.1, wrong, is)
 
--- the error of words stands where the reading stops
+-- the error of words is where the reading stops
 by_left : (text : List ℕ) (fault : QueryFault) (before left : List Word) → read_words (numbered_words text) ≡ Err fault
     → words_of text ≡ unnumbered (before ++ left) → numbered_words text ≡ before ++ left
     → BeginQuery (unnumbered before) → StopsAt read_words fault before left → StandsAmong (words_of text) fault
@@ -114,7 +114,7 @@ by_left text fault before (w ∷ behind) e words numbered begins at =
     } in
     stands_at (words_of text) fault before w wrong place.number at.0
 
--- an error of the words of a text stands among them
+-- an error of the words of a text is among them
 words_fault : (text : List ℕ) (fault : QueryFault) → read_words (numbered_words text) ≡ Err fault
     → StandsAmong (words_of text) fault
 words_fault text fault e =
@@ -133,13 +133,13 @@ fault_stands text fault e = elim (cases_Bool (nat_lt 256 (length text))) [
   | inr short ↦ let read = rw short at e in inr (grind (arith, nat_tests), words_fault text fault read)
 ]
 
--- if the reading fails, the error stands where it is told
+-- if the reading fails, the error is where it is reported
 pub if_fault_stands : (text : List ℕ) (r : Result Asked QueryFault) → r ≡ read_query text
     → IfErr r (λ fault. StandsIn text fault)
 if_fault_stands text (Ok q) e = tt
 if_fault_stands text (Err fault) e = fault_stands text fault (sym e)
 
--- words that begin a query still do so where some of the last are left out
+-- words that begin a query still do so if some of the last are left out
 fewer_begin : (front back : List (List ℕ)) → BeginQuery (front ++ back) → BeginQuery front
 fewer_begin front back begin = record {
   query = begin.query;
@@ -148,7 +148,7 @@ fewer_begin front back begin = record {
   spelt = subst (λ ws. SpellsQuery ws begin.query) (append_assoc front back begin.more) begin.spelt;
 }
 
--- of two words of one list, one stands among those before the other, or both have the same number of words before them
+-- of two words of one list, one is among those before the other, or both have the same number of words before them
 two_places : (xs ys : List (List ℕ)) (x y : List ℕ) (behind_x behind_y : List (List ℕ))
     → xs ++ x ∷ behind_x ≡ ys ++ y ∷ behind_y
     → (length xs ≡ length ys) ⊎ ((back : List (List ℕ)) × (ys ≡ (xs ++ x ∷ []) ++ back))

@@ -25,7 +25,7 @@ first_kept : (part : List ℕ) (parts : List (List ℕ)) → 0 < length part
     → filter is_word (part ∷ parts) ≡ part ∷ filter is_word parts
 first_kept part parts some = grind (arith, ints)
 
--- the first word ends where a blank stands
+-- the first word ends at a blank
 ends_at_blank : (text : List ℕ) (n : ℕ) → n ≡ position_or_len is_separator text → 0 < n → n < length text
     → words_of text ≡ take n text ∷ words_of (drop n text)
 ends_at_blank text n e some inside =
@@ -61,7 +61,7 @@ words_of-first text n e some =
           text n e some outside
     ]
 
--- the first byte past the blanks is none
+-- the first byte past the blanks isn't a blank
 after_blanks-first : (text : List ℕ) → 0 < length (after_blanks text)
     → 0 < position_or_len is_separator (after_blanks text)
 after_blanks-first [] some = absurd (omega arith)
@@ -70,7 +70,7 @@ after_blanks-first (b ∷ bytes) some = elim (cases_Bool (is_separator b)) [
   | inr other ↦ rw (other, other) (omega arith)
 ]
 
--- past the blanks stands the first word
+-- the first word comes after the blanks
 pub first_word : (text rest : List ℕ) (n : ℕ) → rest ≡ after_blanks text → 0 < length rest
     → n ≡ position_or_len is_separator rest → (words_of text ≡ take n rest ∷ words_of (drop n rest)) × (0 < n)
 first_word text rest n e some at =
@@ -92,7 +92,7 @@ no_word text rest e none = sym (words_of-after_blanks text) ∙ ap words_of (sym
 place_or : (n len : ℕ) → n ≤ len → unwrap_or (cond (nat_lt n len) (Some n) None) len ≡ n
 place_or n len within = grind (arith, nat_tests)
 
--- the place of the first blank, or else the length
+-- the place of the first blank, or otherwise the length
 pub position-or : (text : List ℕ) → unwrap_or (position is_separator text)
     (length text) ≡ position_or_len is_separator text
 position-or text =

@@ -75,7 +75,7 @@ signed-kept (b ∷ bytes) t e = elim (cases_Bool (b == 45)) [
   | inr plain ↦ let found = rw plain at e in rw plain (sign-kept false (decimal_number 1 (b ∷ bytes)) t found)
 ]
 
--- what was kept is read as degrees where it is within their limits
+-- what was kept is read as degrees if it is within their limits
 pub heat-kept : (at : ℕ) (word : List ℕ) (t : ℤ)
     → signed_by (λ ds. option_map (min 1001) (decimal_number 1 ds)) word ≡ Some t → is_heat t ≡ true
     → heat (at, word) ≡ Ok t
@@ -84,7 +84,7 @@ heat-kept at word t e inside =
     let kept = signed-kept word t e in
     tested_again tenths_in is_heat OutOfLimits at word t (kept.is ∙ ap (λ (z : ℤ). Some z) (kept.same inside)) inside
 
--- and is out of them where it isn't
+-- and is out of them if it isn't
 pub heat-past : (at : ℕ) (word : List ℕ) (t : ℤ)
     → signed_by (λ ds. option_map (min 1001) (decimal_number 1 ds)) word ≡ Some t → is_heat t ≡ false
     → heat (at, word) ≡ Err (OutOfLimits at)
@@ -106,7 +106,7 @@ two-whole word nowhere =
     no_second None = refl
     no_second (Some a) = refl
 
--- the first number stands before the first point, and the second after another one
+-- the first number comes before the first point, and the second after another one
 pub two-point : (word : List ℕ) (point : ℕ) → IsFirstByte (is_byte 46) word (Some point)
     → two_numbers word ≡ both_numbers (natural (take point word)) (natural_behind (drop (point + 1) word))
 two-point word point first =

@@ -1,19 +1,19 @@
--- Words of a text: no blank stands in them, and those that are joined by blanks are the words of the text.
+-- Words of a text: no blank is in them, and those that are joined by blanks are the words of the text.
 use Rattle.rank_query.proofs.Cited.{◌≡◌, ℕ, Bool, true, false, not, cond, ◌&&◌, List, [], ◌∷◌, ◌++◌, All, filter, refl}
 use Rattle.rank_query.proofs.Cited.{ap, ◌∙◌, slice_split, onto_first, join_with_byte, list_all, AllByRecursion}
 use Rattle.rank_query.proofs.Cited.{slice_split_none, slice_split_at, AllPass-from_list_all, is_separator, words_of}
 use Rattle.rank_query.proofs.Cited.{◌==◌, length}
 use Rattle.std.proofs.lemmas.List.Elements.{All-filter, recursion_from_All}
 
--- something stands in it
+-- something is in it
 abbrev pub is_word : List ℕ → Bool
 is_word part = not (length part == 0)
 
--- a byte that stands in a word
+-- a byte that is in a word
 abbrev pub stands_in_word : ℕ → Bool
 stands_in_word b = not (is_separator b)
 
--- no blank stands in a word
+-- no blank is in a word
 abbrev pub HasNoBlank : List ℕ → Type 0
 HasNoBlank word = list_all stands_in_word word ≡ true
 

@@ -1,4 +1,4 @@
--- Where the reading of one word stops, and that of a part that its first word tells.
+-- Where the reading of one word stops, and that of a part that its first word determines.
 use Rattle.rank_query.proofs.Cited.{cases_Bool}
 use Rattle.rank_query.proofs.Cited.{◌≡◌, ℕ, zero, Bool, true, false, cond, ◌⊎◌, inl, inr, List, [], ◌∷◌}
 use Rattle.rank_query.proofs.Cited.{Result, Ok, Err, refl, sym, ap, ◌∙◌, subst, AllByRecursion, QueryFault}
@@ -10,7 +10,7 @@ use Rattle.rank_query.proofs.Stops.{Reading, then, GoesOn, IsWordOf, Stops, Stop
 use Rattle.rank_query.proofs.Stops.{bind_err, Follows, same_follows, on_follows, stops_follows, stops_behind}
 use Rattle.rank_query.proofs.Stops.{stops_word, stops_end, takes_behind}
 
--- a word's value is good, a word without one is told by its number, and some word has a value
+-- a word's value is good, a word without one is named by its number, and some word has a value
 pub record ReadsWord (A : Type 0) (Good : A → Type 0) (value : Word → Result A QueryFault) : Type 0 where
   pub good : (w : Word) (x : A) → value w ≡ Ok x → Good x
   pub told : (w : Word) (fault : QueryFault) → value w ≡ Err fault → IsWordOf fault [] w
@@ -151,7 +151,7 @@ unfolding keyword
 keyword-then text onward [] = refl
 keyword-then text onward (w ∷ ws) = by_test (says text w.1) w ws onward
 
--- a reading that always answers as another one stops as it does
+-- a reading that always returns what another one does stops as it does
 pub first_same : {C : Type 0} (Good : C → Type 0) (read other : Reading C) → ((ws : List Word) → other ws ≡ read ws)
     → StopsFirst C Good read → StopsFirst C Good other
 first_same Good read other same first = record {
@@ -165,7 +165,7 @@ pub takes_same : {A : Type 0} (Good : A → Type 0) (read other : Reading (A × 
 takes_same Good read other same takes =
     λ ws r e. takes_behind Good other read [] ws r same (takes ws r (sym (same ws) ∙ e))
 
--- the first word tells by which row all is read that begins with it, or that no row is
+-- the first word determines by which row all is read that begins with it, or that none of the rows is used
 pub by_first : {A : Type 0} (Good : A → Type 0) (table : List (List ℕ × (List Word → Read A)))
     (otherwise : List Word → Read A) (w : Word) → AllByRecursion (λ row. ReadsPart A Good row.1) table
     → ((read : List Word → Read A) × ReadsPart A Good read

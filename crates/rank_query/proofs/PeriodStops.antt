@@ -74,7 +74,7 @@ last_on first w t behind = record {
 before_from_test : (first last : ℤ) → int_le first last ≡ false → last <ℤ first
 before_from_test first last e = grind (arith, ints)
 
--- the second date is wrong where it is none, or that of an earlier day
+-- the second date is wrong if it isn't a date, or is that of an earlier day
 last_stops : (first : ℤ) (w t : Word) (ws : List Word) (fault : QueryFault) → Behind first w t
     → last_from first ws ≡ Err fault → Stops Days Ended days_at fault (w ∷ t ∷ ws)
 last_stops first w t [] fault behind e =
@@ -158,7 +158,7 @@ days_on = record {
       to_last first.0 first.1) (written_date 0 some_day refl) ∙ to_again some_day refl;
 }
 
--- a first word that is no date is wrong
+-- a first word that isn't a date is wrong
 days_stops : (ws : List Word) (fault : QueryFault) → days_at ws ≡ Err fault
     → Stops Days Ended days_at fault ws
 unfolding days_at
@@ -196,7 +196,7 @@ says_to : says (codes "to") (codes "to") ≡ true
 unfolding says
 says_to = refl
 
--- both dates are taken with what stands between them
+-- both dates are taken with what is between them
 days_take : TakesAll (ℤ × ℤ) GoodDays days_at
 unfolding days_at
 days_take =

@@ -10,11 +10,11 @@ use Rattle.ghcn_files.proofs.Ordered.{each-weaker}
 use Rattle.rank_query.proofs.ReadingSteps.{or_fault_ok}
 use Rattle.rank_query.proofs.WordValues.{element_code}
 
--- after these words no number, edge or date stands
+-- after these words no number, edge or date comes
 abbrev pub IsSettled : List (List ℕ) → Type 0
 IsSettled past = place_behind past ≡ other
 
--- the words after which an edge, a first date, a number, degrees or months stand
+-- the words after which an edge, a first date, a number, degrees or months come
 abbrev keywords : List (List ℕ)
 keywords = codes "box" ∷ codes "from" ∷ codes "top" ∷ codes "sum" ∷ codes "hot" ∷ codes "months" ∷ []
 
@@ -26,7 +26,7 @@ IsNoKeyword w = AllByRecursion (λ text. same_bytes w text ≡ false) keywords
 pub not_both : (a b : Bool) → b ≡ false → (a && b) ≡ false
 not_both x b e = grind (arith, ints)
 
--- after a word that is no keyword another word stands, if none of what stands before it goes on
+-- after a word that isn't a keyword another word comes, if none of what comes before it goes on
 pub settled_word : (v : List ℕ) (past : List (List ℕ)) → IsNoKeyword v → is_behind_box 2 past ≡ false
     → is_behind_first_day past ≡ false → IsSettled (v ∷ past)
 settled_word v past word box day = grind (arith, ints, not_both)
@@ -41,7 +41,7 @@ pub edge_less : (n : ℕ) (w : List ℕ) (past : List (List ℕ)) → same_bytes
     → is_behind_box n past ≡ false → is_behind_box (suc n) (w ∷ past) ≡ false
 edge_less n w past apart behind = grind (arith, ints)
 
--- where an edge stands
+-- where an edge is
 pub edge_place : (past : List (List ℕ)) → is_behind_box 3 past ≡ true → place_behind past ≡ edge
 edge_place past is = grind (arith, ints)
 
@@ -50,13 +50,13 @@ not_same : {A : Type 0} (value : Word → Result A QueryFault) (w : Word) (x : A
     → value w ≡ Ok x → value (w.0, text) ≡ Err fault → same_bytes w.1 text ≡ false
 not_same value w x text fault ok err = grind (arith, ints, bytes_decides)
 
--- a word with a value is no keyword, if no keyword has one
+-- a word with a value isn't a keyword, if no keyword has one
 no_keyword : {A : Type 0} (value : Word → Result A QueryFault) (w : Word) (x : A) (fault : QueryFault) → value w ≡ Ok x
     → AllByRecursion (λ text. value (w.0, text) ≡ Err fault) keywords → IsNoKeyword w.1
 no_keyword value w x fault e none = each-weaker (λ text. value (w.0, text) ≡ Err fault)
     (λ text. same_bytes w.1 text ≡ false) keywords (λ text err. not_same value w x text fault e err) none
 
--- a number is no keyword
+-- a number isn't a keyword
 pub number_no_keyword : (low high : ℕ) (w : Word) (n : ℕ) → number low high w ≡ Ok n → IsNoKeyword w.1
 unfolding number
 number_no_keyword low high w n e = grind (arith, ints, no_keyword)
@@ -94,7 +94,7 @@ pub date_no_keyword : (w : Word) (day : ℤ) → date w ≡ Ok day → IsNoKeywo
 unfolding date
 date_no_keyword w day e = no_keyword date w day (BadDate w.0) e (refl, (refl, (refl, (refl, (refl, (refl, tt))))))
 
--- after the code of an element another word stands
+-- after the code of an element another word comes
 code_settled : (e : Element) (past : List (List ℕ)) → IsSettled (code_of e ∷ past)
 code_settled Prcp past = refl
 code_settled Snow past = refl

@@ -75,7 +75,7 @@ visible_text bytes h =
     IsUtf8-from_ascii bytes (IsAscii-from_all bytes
     (λ k d inside. visible_ascii _ (AllPass-from_list_all is_visible bytes h k d inside)))
 
--- what fails only where a fact doesn't hold succeeds where it does
+-- what fails only if a fact doesn't hold succeeds if it does
 pub ok_from_fact : {T E A : Type 0} (P : T → Type 0) (Q : E → Type 0) (r : Result T E)
     → MatchResult r P (λ e. (A → ⊥) × Q e) → A → IsOk r
 ok_from_fact P Q (Ok x) cases fact = refl

@@ -24,7 +24,7 @@ from_period k s r t ws = period_at ws >>= λ p. nothing_more p.1 (asked k s r t 
 abbrev from_season : ℕ → Score → Region → Reading Asked
 from_season k s r ws = season_at ws >>= λ t. from_period k s r t.0 t.1
 
--- and behind a score
+-- and after a score
 abbrev from_region : ℕ → Score → Reading Asked
 from_region k s ws = region_at ws >>= λ r. from_season k s r.0 r.1
 
@@ -35,7 +35,7 @@ StopsAhead next =
     → ((rest : List Word) → whole (w ∷ rest) ≡ next (w ∷ rest)) → GoesOn Asked Any whole
     → whole (w ∷ ws) ≡ Err fault → Stops Asked Any whole fault (w ∷ ws)
 
--- where nothing more is asked each word is wrong
+-- if nothing more is asked each word is wrong
 nothing_ahead : (q : Asked) → StopsAhead (λ ws. nothing_more ws q)
 nothing_ahead q whole w ws fault same on e =
     let here : ◌≡◌ {A = Result Asked QueryFault} (Err (UnexpectedWord w.0)) (Err fault) = sym (same ws) ∙ e in
@@ -58,7 +58,7 @@ optional_ahead {A} Good rows none onward parts firsts ahead whole w ws fault sam
           (λ rest. same rest ∙ ap (λ x. x >>= λ x. onward x.0 x.1) (missing rest)) on e
     ]
 
--- no word is needed, and where one comes it stops there or goes on
+-- no word is needed, and if one comes it stops there or goes on
 first_from : (next : Reading Asked) (q : Asked) → next [] ≡ Ok q → StopsAhead next → StopsFirst Asked Any next
 first_from next q reads ahead = record { on = on; stops = stops } where
   on : GoesOn Asked Any next

@@ -23,7 +23,7 @@ pub test_ok : {A : Type 0} (b : Bool) (x y : A) (fault : QueryFault) → cond b 
 test_ok true x y fault e = (refl, cc)
 test_ok false x y fault e = cc
 
--- what succeeds where a test fails, and else has an error, succeeds
+-- what succeeds if a test fails, and otherwise has an error, succeeds
 pub else_ok : {A : Type 0} (b : Bool) (fault : QueryFault) (r : Result A QueryFault) (x : A)
     → cond b (Err fault) r ≡ Ok x → r ≡ Ok x
 else_ok true fault r x e = cc
@@ -84,7 +84,7 @@ pub said : (text word : List ℕ) → says text word ≡ true → word ≡ text
 unfolding says
 said text word e = (bytes_decides word text).0 e
 
--- the keyword that was read stands there
+-- the keyword that was read is there
 pub keyword_took : (text : List ℕ) (ws rest : List Word) → keyword text ws ≡ Ok rest
     → unnumbered ws ≡ text ∷ unnumbered rest
 unfolding keyword
@@ -93,7 +93,7 @@ keyword_took text (w ∷ ws) rest e =
     let test = test_ok (says text w.1) ws rest (UnexpectedWord w.0) e in
     rw (said text w.1 test.0, test.1)
 
--- the word that was read stands there, and was read as its value
+-- the word that was read is there, and was read as its value
 pub one_word_took : {A : Type 0} (value : Word → Result A QueryFault) (ws rest : List Word) (x : A)
     → one_word value ws ≡ Ok (x, rest) → (w : Word) × (unnumbered ws ≡ w.1 ∷ unnumbered rest) × (value w ≡ Ok x)
 one_word_took value [] rest x e = cc

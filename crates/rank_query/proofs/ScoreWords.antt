@@ -11,13 +11,13 @@ use Rattle.rank_query.proofs.ReadingSteps.{bind_ok, unnumbered}
 use Rattle.rank_query.proofs.WordValues.{number_numeral, numeral_number, element_code, code_element, heat_spelt}
 use Rattle.rank_query.proofs.WordValues.{spelt_heat}
 
--- each score behind its word
+-- each score after its word
 abbrev pub score_rows : List (List ℕ × (List Word → Read Score))
 score_rows =
     (codes "highest", highest_at) ∷ (codes "lowest", lowest_at) ∷ (codes "sum", sum_at) ∷ (codes "dry", dry_at) ∷
     (codes "wet", wet_at) ∷ (codes "hot", hot_at) ∷ []
 
--- where no score stands none is read
+-- if no score is there none is read
 no_score : (ws : List Word) (y : Score × List Word) → no_score_at ws ≡ Ok y → ⊥
 unfolding no_score_at
 no_score [] y e = absurd cc

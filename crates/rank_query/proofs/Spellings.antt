@@ -19,7 +19,7 @@ pub nothing_left : (ws : List Word) (q r : Asked) → nothing_more ws q ≡ Ok r
 nothing_left [] q r e = (refl, cc)
 nothing_left (w ∷ ws) q r e = cc
 
--- where no words are left none are spelt
+-- if no words are left none are spelt
 none_spelt : (words : List (List ℕ)) → SpellAll words [] → words ≡ []
 none_spelt [] all = refl
 none_spelt (w ∷ words) all = absurd all
@@ -28,7 +28,7 @@ none_spelt (w ∷ words) all = absurd all
 abbrev pub asked : ℕ → Score → Region → Option (ℕ × ℕ) → Option (ℤ × ℤ) → Asked
 asked k s r t p = record { k = k; score = s; region = r; season = t; period = p }
 
--- the words of the parts of a query stand one after another
+-- the words of the parts of a query come one after another
 parts_order : (s r t p : List QueryWord) → s ++ r ++ t ++ p ≡ s ++ (r ++ (t ++ (p ++ [])))
 parts_order s r t p =
     append_assoc (s ++ r) t p ∙ append_assoc s r (t ++ p) ∙ ap (λ p. s ++ (r ++ (t ++ p))) (sym (append-nil p))

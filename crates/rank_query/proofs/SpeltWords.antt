@@ -9,7 +9,7 @@ use Rattle.rank_query.proofs.ReadingSteps.{unnumbered, one_word_took, made_into_
 abbrev pub SpellAll : List (List ℕ) → List QueryWord → Type 0
 SpellAll words these = AllZip SpellsWord words these
 
--- so they do if no blank stands in them
+-- so they do if no blank is in them
 abbrev pub Spell : List (List ℕ) → List QueryWord → Type 0
 Spell words these = AllByRecursion HasNoBlank words → SpellAll words these
 
@@ -119,7 +119,7 @@ behind_read whole read text same reads (w ∷ words) n spelt =
       spells = left.spells;
     }
 
--- where no word is needed all are left
+-- if no word is needed all are left
 pub always_read : {A : Type 0} {read : List Word → Read A} {x : A} {others : List QueryWord}
     → ((ws : List Word) → read ws ≡ Ok (x, ws)) → ReadsAs read x others others
 always_read same words n spelt =

@@ -14,7 +14,7 @@ Reading C = List Word → Result C QueryFault
 abbrev pub then : {A C : Type 0} → Reading (A × List Word) → (A → Reading C) → Reading C
 then read onward ws = read ws >>= λ r. onward r.0 r.1
 
--- no blank stands in these words
+-- no blank is in these words
 abbrev pub HaveNoBlank : List Word → Type 0
 HaveNoBlank ws = AllByRecursion HasNoBlank (unnumbered ws)
 
@@ -73,7 +73,7 @@ pub record Takes (A : Type 0) (Good : A → Type 0) (read : Reading (A × List W
 abbrev pub TakesAll : (A : Type 0) → (A → Type 0) → Reading (A × List Word) → Type 0
 TakesAll A Good read = (ws : List Word) (r : A × List Word) → read ws ≡ Ok r → Takes A Good read ws r
 
--- no word is left behind a value
+-- no word is left after a value
 abbrev pub Ended : {A : Type 0} → A × List Word → Type 0
 Ended r = r.1 ≡ []
 
@@ -114,7 +114,7 @@ pub record Follows {A C : Type 0} (make : A → C) (whole : Reading C) (front : 
   pub ok : (more : List Word) (x : A) → part more ≡ Ok x → whole (front ++ more) ≡ Ok (make x)
   pub err : (more : List Word) (fault : QueryFault) → part more ≡ Err fault → whole (front ++ more) ≡ Err fault
 
--- so it does where it is the same there
+-- so it does if it is the same there
 pub same_follows : {C : Type 0} (whole part : Reading C) (front : List Word)
     → ((more : List Word) → whole (front ++ more) ≡ part more) → Follows (λ x. x) whole front part
 same_follows whole part front same = record { ok = λ more x e. same more ∙ e; err = λ more fault e. same more ∙ e }
@@ -154,7 +154,7 @@ stops_follows GoodA Good make whole part front ws fault good follows stops = rec
   at = at_follows whole part front fault stops.before stops.left (λ more e. follows.err more fault e) stops.at;
 }
 
--- as where it is the same after some words
+-- the same, if it is the same after some words
 pub stops_behind : {C : Type 0} (Good : C → Type 0) (whole part : Reading C) (front ws : List Word) (fault : QueryFault)
     → ((more : List Word) → whole (front ++ more) ≡ part more) → Stops C Good part fault ws
     → Stops C Good whole fault (front ++ ws)

@@ -12,12 +12,12 @@ use Rattle.rank_query.proofs.PrintedWords.{date_word}
 use Rattle.rank_query.proofs.Stops.{IsWordOf}
 use Rattle.rank_query.proofs.PartStops.{ReadsWord}
 
--- an error is told of the word that it is named by
+-- an error belongs to the word that it names
 pub told : {A : Type 0} (named fault : QueryFault) (w : Word) → IsWordOf named [] w
     → ◌≡◌ {A = Result A QueryFault} (Err named) (Err fault) → IsWordOf fault [] w
 told named fault w is e = let same : named ≡ fault = cc in subst (λ f. IsWordOf f [] w) same is
 
--- also where a test fails
+-- also if a test fails
 test_told : {A : Type 0} (b : Bool) (x : A) (named fault : QueryFault) (w : Word) → IsWordOf named [] w
     → cond b (Ok x) (Err named) ≡ Err fault → IsWordOf fault [] w
 test_told b x named fault w is e = subst (λ f. IsWordOf f [] w) (test_err b x named fault e).1 is

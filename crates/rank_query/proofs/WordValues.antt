@@ -59,7 +59,7 @@ spelt_heat t at text inside spells =
 point_is : (b : ℕ) → is_point b ≡ true → b ≡ 46
 point_is b e = grind (arith, nat_tests)
 
--- a digit is no point
+-- a digit isn't a point
 no_point : (d : ℕ) → is_ascii_digit d ≡ true → is_point d ≡ false
 no_point d is = grind (arith, nat_tests)
 

@@ -1,9 +1,9 @@
--- Which query a text asks, without an order of its reading.
+-- Which query a text denotes, without an order of its reading.
 use Rattle.std.specs.Prelude.{ℕ, ◌≤◌, List, length}
 use Rattle.rank_query.specs.Asked.{Asked, IsAsked}
 use Rattle.rank_query.specs.Spelling.{IsSpelling}
 
--- a text asks a query: the query can be asked, and the text spells it in at most 256 bytes
+-- a text denotes a query: the query can be asked, and the text spells it in at most 256 bytes
 pub record Asks (text : List ℕ) (q : Asked) : Type 0 where
   pub can : IsAsked q
   pub spells : IsSpelling text q

@@ -56,7 +56,7 @@ is_decimal word = is_number (scaled_field 4 word)
 abbrev pub is_date_word : List ℕ → Bool
 is_date_word word = is_some (read_date word)
 
--- the nearest of some words is this one; of the words after which a word stands the nearest always comes first
+-- the nearest of some words is this one; of the words after which a word comes, the nearest always comes first
 abbrev pub is_next_behind : List ℕ → List (List ℕ) → Bool
 is_next_behind text [] = false
 is_next_behind text (w ∷ past) = same_bytes w text

@@ -1,4 +1,4 @@
--- Where the error of a text stands: at the first word with which no query goes on.
+-- Where the error of a text is: at the first word with which no query goes on.
 use Rattle.std.specs.Prelude.{◌≡◌, ℕ, ◌+◌, ◌<◌, ◌≤◌, ◌⊎◌, List, [], ◌∷◌, ◌++◌, length, codes, ◌&&◌, ℤ, ◌<ℤ◌, IsTrue}
 use Rattle.ghcn_fields.specs.Days.{is_day}
 use Rattle.ghcn_fields.specs.Dates.{date_text}
@@ -27,7 +27,7 @@ pub record IsFirstWrong (ws before : List (List ℕ)) (word : List ℕ) : Type 0
 abbrev pub IsFirstWrongAt : List (List ℕ) → ℕ → Type 0
 IsFirstWrongAt ws n = (before : List (List ℕ)) × (word : List ℕ) × IsFirstWrong ws before word × (n ≡ length before + 1)
 
--- it is the date of a day, and before it stand the date of a later one and "to"
+-- it is the date of a day, and before it come the date of a later one and "to"
 pub record EndsTooEarly (before : List (List ℕ)) (word : List ℕ) : Type 0 where
   pub earlier : List (List ℕ)
   pub first : ℤ
@@ -41,7 +41,7 @@ pub record EndsTooEarly (before : List (List ℕ)) (word : List ℕ) : Type 0 wh
 abbrev pub SpellNone : List (List ℕ) → Type 0
 SpellNone ws = (q : Asked) → IsAsked q → SpellsQuery ws q → ⊥
 
--- where an error stands among the words of a text that isn't too long
+-- where an error is among the words of a text that isn't too long
 abbrev pub StandsAmong : List (List ℕ) → QueryFault → Type 0
 StandsAmong ws QueryTooLong = ⊥
 StandsAmong ws (UnexpectedWord n) = IsFirstWrongAt ws n
@@ -52,7 +52,7 @@ StandsAmong ws (BadBox n) = IsFirstWrongAt ws n
 StandsAmong ws EmptyPeriod =
     (before : List (List ℕ)) × (word : List ℕ) × IsFirstWrong ws before word × EndsTooEarly before word
 
--- a text of more than 256 bytes is too long, and the error of any other stands among its words
+-- a text of more than 256 bytes is too long, and the error of any other is among its words
 abbrev pub StandsIn : List ℕ → QueryFault → Type 0
 StandsIn text fault =
     ((256 < length text) × (fault ≡ QueryTooLong)) ⊎ ((length text ≤ 256) × StandsAmong (words_of text) fault)

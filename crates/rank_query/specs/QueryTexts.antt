@@ -11,7 +11,7 @@ use Rattle.rank_query.specs.declared.region.Region.{Region}
 use Rattle.rank_query.specs.declared.region.Region.TheVariants.{Everywhere, Inside, Country, State, Only}
 use Rattle.rank_query.specs.Asked.{Asked}
 
--- a word of a query: bytes as they stand; or a number, which has more than one spelling: of rows or days, of tenths of
+-- a word of a query: bytes as they are; or a number, which has more than one spelling: of rows or days, of tenths of
 -- a degree, of ten-thousandths of a degree at an edge of a box; or the numbers of a first and a last month
 pub data QueryWord : Type 0 where
   Exactly : List ℕ → QueryWord

@@ -12,7 +12,7 @@ use Rattle.rank_query.specs.Words.{Word, numbered_words}
 use Rattle.rank_query.specs.Readers.{◌>>=◌, Read, next_word, keyword, one_word, made_into, by_word}
 use Rattle.rank_query.specs.WordValues.{number, element, heat, months, degrees, code, date}
 
--- no score: another word stands there, or none
+-- no score: another word is there, or none
 unfoldable pub no_score_at : List Word → Read Score
 no_score_at ws = do
   w ← next_word ws

@@ -14,7 +14,7 @@ pub record IsNumeralOf (digits : List ℕ) (n : ℕ) : Type 0 where
   pub digits_alone : list_all is_ascii_digit digits ≡ true
   pub value : n ≡ digits_value 10 digits
 
--- what stands in a text spells a word: the very bytes, a numeral, a number with at most one or four decimals, or two
+-- what is in a text spells a word: the very bytes, a numeral, a number with at most one or four decimals, or two
 -- numerals with two points between them
 abbrev pub SpellsWord : List ℕ → QueryWord → Type 0
 SpellsWord word (Exactly text) = word ≡ text

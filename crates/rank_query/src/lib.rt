@@ -1,7 +1,7 @@
 //! The query language: what is ranked, where and when.
 //!
-//! The crates of scores, bounds, plans and papers and the program use it, for the query and for the
-//! stations and days that it admits.
+//! The crates of scores, bounds, plans, reports and certificates and the program use it, for the
+//! query and for the stations and days that it admits.
 #![tactic(auto)]
 
 mod fault;

@@ -45,7 +45,7 @@ impl Query {
             → result ≡ Ok q }
         // So is its canonical text.
         ensures canonical { (q : Asked) → IsAsked q → text.now ≡ query_text q → result ≡ Ok q }
-        // An error stands at the first word with which no query goes on.
+        // An error is at the first word with which no query goes on.
         ensures fault { IfErr result (λ fault. StandsIn text.now fault) }
         // Which error it is follows from what the grammar has at the word's place.
         ensures kind { IfErr result (λ fault. IsFaultAmong fault (words_of text.now)) }

@@ -99,7 +99,7 @@ fn without_blanks(text: &[u8]) -> &[u8]
     rest
 }
 
-/// How many bytes stand before the first blank.
+/// How many bytes come before the first blank.
 fn word_len(text: &[u8]) -> usize
     ensures { result ≡ position_or_len is_separator text.now }
 {

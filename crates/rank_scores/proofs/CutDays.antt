@@ -109,7 +109,7 @@ module _ (q : Asked) (id : StationId) (e : Element) where
       → admitted_in (f ++ g) ≡ admitted_in g
   admitted-left f g none = search (rules, arith, admitted_in-append, joined-left, none_sorted, admitted-sorted)
 
-  -- and where the others have none, those of the first
+  -- and if the others have none, those of the first
   pub admitted-right : (f g : List Fact) → not (length (admitted_in g) == 0) ≡ false
       → admitted_in (f ++ g) ≡ admitted_in f
   admitted-right f g none = search (rules, arith, admitted_in-append, joined-right, none_sorted, admitted-sorted)

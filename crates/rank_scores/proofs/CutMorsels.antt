@@ -29,7 +29,7 @@ use Rattle.std.proofs.Common.{rules}
 
 -- ---- series by their IDs
 
--- two series are of one station
+-- two series belong to one station
 abbrev same_station : Usable → Usable → Bool
 same_station a b = same_id a.id b.id
 
@@ -48,7 +48,7 @@ module _ (q : Asked) (stations : List Station) where
   abbrev by_id : List Fact → List Usable
   by_id facts = sorted_by series_first (ready facts)
 
-  -- what facts give joins where they do
+  -- what facts give joins if they do
   given_join : lists.Joins (given q stations) has_days same_station
   given_join =
       grind (arith, ints, same_station-turned (λ (s : Usable). s.id), usable_of-left, usable_of-right, same_id-refl)
@@ -117,7 +117,7 @@ module _ (q : Asked) (stations : List Station) where
       ready-pieces facts = sym (lists.filter-pieces (has_admitted q) (own facts))
 
       module _ (distinct : IsDistinct same_id (series_ids q data_by_part)) where
-        -- no two series of the parts are of one station
+        -- no two series of the parts belong to one station
         own_apart : IsDistinct same_station (flat_map own facts_by_part)
         own_apart = subst (IsDistinct same_station) (all_own parts)
             (distinct-mapped (λ (s : Usable). s.id) same_id (flat_map (admitted_series q) data_by_part) distinct)

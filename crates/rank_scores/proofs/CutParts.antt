@@ -42,7 +42,7 @@ module _ {P : Type 0} (q : Asked) (stations : List Station) (files : P → List 
   abbrev by_id : List Fact → List Seen
   by_id facts = sorted_by comes_first (held_in q stations facts)
 
-  -- the data of all parts are of the same stations
+  -- the data of all parts belong to the same stations
   same_stations : (ps : List P) → AllByRecursion (λ d. d.stations ≡ stations) (map data_in ps)
   same_stations [] = tt
   same_stations (p ∷ ps) = (refl, same_stations ps)
@@ -72,12 +72,12 @@ module _ {P : Type 0} (q : Asked) (stations : List Station) (files : P → List 
       → seen_in q (f ++ g) st ≡ seen_in q g st
   seen-left st f g none = grind (arith, ints, admitted-left q st.id (score_element q.score) f g none)
 
-  -- and where nothing is seen in the others, in the first
+  -- and if nothing is seen in the others, in the first
   seen-right : (st : Station) (f g : List Fact) → has_any (seen_in q g st) ≡ false
       → seen_in q (f ++ g) st ≡ seen_in q f st
   seen-right st f g none = grind (arith, ints, admitted-right q st.id (score_element q.score) f g none)
 
-  -- so what is seen joins where facts do
+  -- so what is seen joins if facts do
   seen_join : lists.Joins (seen_in q) has_any of_one
   seen_join = grind (arith, ints, same_station-turned (λ (x : Seen). x.0), seen-left, seen-right, same_id-refl)
 
@@ -109,7 +109,7 @@ module _ {P : Type 0} (q : Asked) (stations : List Station) (files : P → List 
         (sorted-permutation comes_first (held_in q stations f)))
 
     module _ (distinct : IsDistinct same_id (morsel_ids q data_by_part)) where
-      -- what is seen in all parts is of different stations
+      -- what is seen in all parts belongs to different stations
       all_apart : IsDistinct of_one (flat_map by_id facts_by_part)
       all_apart = subst (IsDistinct of_one) (seen_morsels parts)
           (distinct_seen q (flat_map (morsels q) data_by_part) distinct)
@@ -178,6 +178,6 @@ cut_by_parts q stations files parts ds held are all distinct =
     (λ apart. subst (λ (c : Contents). IsCut q c (map (λ p. contents_in stations (files p)) parts))
     (data-held stations (flat_map files parts) held all) (cut q stations files parts apart)) distinct
 
--- so are files of parts that have papers
+-- so are files of parts that have a report and a certificate
 pub cut_by_files : CutByFiles
 cut_by_files q stations parts ds held are all distinct = search (rules, arith, cut_by_parts)

@@ -37,7 +37,7 @@ Seen = StationId × List DayValue
 abbrev pub has_any : Seen → Bool
 has_any x = not (length x.1 == 0)
 
--- two are of one station
+-- two belong to one station
 abbrev pub of_one : Seen → Seen → Bool
 of_one a b = same_id a.0 b.0
 
@@ -62,7 +62,7 @@ module _ (q : Asked) where
   pub nothing_seen : (x : Seen) → has_any x ≡ false → candidates_seen x ≡ []
   nothing_seen x none = search (rules, arith, none_in, not-false)
 
-  -- all candidates of series are those of what is seen where there is an admitted day
+  -- all candidates of series are those of what is seen if there is an admitted day
   candidates-seen : (ss : List Usable)
       → flat_map (candidates q) ss ≡ flat_map candidates_seen (map seen (filter (has_admitted q) ss))
   candidates-seen [] = refl

@@ -145,18 +145,18 @@ pub made : (id : StationId) (day : ℤ) (o : Option (ℤ × ℤ)) (c : Candidate
     → (c.id ≡ id) × (c.first ≡ day) × (o ≡ Some (c.last, c.score))
 made id day o c e = (grind arith, grind arith, grind arith)
 
--- what stands in a list stands in a longer one
+-- what is in a list is in a longer one
 contains-more : (o : Option Candidate) (cs : List Candidate) (c : Candidate) → Contains cs c
     → Contains (cons_option o cs) c
 contains-more None cs c h = h
 contains-more (Some d) cs c h = Contains-append_right (d ∷ []) cs c h
 
--- the value of a day stands first, or is that of the others
+-- the value of a day comes first, or is that of the others
 first_or_later : (x : DayValue) (xs : List DayValue) (day v : ℤ) → value_on (x ∷ xs) day ≡ Some v
     → ((x.0 ≡ day) × (x.1 ≡ v)) ⊎ (value_on xs day ≡ Some v)
 first_or_later x xs day v h = grind (arith, ints)
 
--- what is made of a day with its value stands among what is made of all
+-- what is made of a day with its value is among what is made of all
 made_stands : (f : DayValue → Option Candidate) (day v : ℤ) (c : Candidate) → f (day, v) ≡ Some c
     → (xs : List DayValue) → value_on xs day ≡ Some v → Contains (filter_map f xs) c
 made_stands f day v c e [] h = absurd cc
@@ -170,7 +170,7 @@ made_stands f day v c e (x ∷ xs) h =
 abbrev pub begun_on : Asked → Usable → DayValue → Option Candidate
 begun_on q s x = option_map (candidate s.id x.0) (begun (shape q.score) (admitted q s) x)
 
--- what is true of all is true of what stands among them
+-- what is true of all is true of what is among them
 of_all : (P : Candidate → Type 0) (cs : List Candidate) (c : Candidate) → AllByRecursion P cs → Contains cs c → P c
 of_all P cs c h = All-contains P cs c (All-from_recursion P cs h)
 

@@ -41,7 +41,7 @@ listed_first a b listed apart =
     ahead (rank_cmp a b) (rank_cmp b a) (int_cmp b.last a.last) (rank_cmp_total.antisymm b a)
     (λ e. let alike = tied_alike a b e in cc) listed
 
--- if each precedes what stands at later places, each precedes all after it
+-- if each precedes what is at later places, each precedes all after it
 by_place : (xs : List Candidate)
     → ((i j : ℕ) (d : Candidate) → i < j → j < length xs → precedes (get_or xs i d) (get_or xs j d) ≡ true)
     → Descends xs

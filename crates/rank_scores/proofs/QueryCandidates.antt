@@ -1,4 +1,4 @@
--- The candidates of a query: that no two begin alike, and that they and the best of them are of listed stations.
+-- The candidates of a query: that no two begin alike, and that they and the best of them belong to listed stations.
 use Rattle.std.proofs.Common.{◌≡◌, ℕ, Bool, true, false, List, [], ◌∷◌, ◌++◌, map, filter, Option, Some, None}
 use Rattle.std.proofs.Common.{refl, ◌∙◌, subst, arith}
 use Rattle.std.specs.Prelude.{IsTrue}
@@ -36,7 +36,7 @@ pub found-holds : {X : Type 0} (P : X → Type 0) (test : X → Bool) (xs : List
     AllByRecursion P xs → find test xs ≡ Some x → P x
 found-holds P test xs x h e = of_one P xs x h (found_in test xs x e).0
 
--- one is found where one passes
+-- one is found if one passes
 any_found : {X : Type 0} (test : X → Bool) (xs : List X) → is_some (find test xs) ≡ list_any test xs
 any_found test [] = refl
 any_found test (x ∷ xs) = grind (arith, ints, any_found test xs)
@@ -131,7 +131,7 @@ module _ (q : Asked) (c : Contents) where
 
 -- ---- the morsels of a query
 
--- no two are of one station
+-- no two belong to one station
 pub morsels_apart : (q : Asked) (c : Contents) → IsContents c
     → IsDistinct (λ a b. same_id a.id b.id) (filter (has_admitted q) (admitted_series q c))
 morsels_apart q c right = distinct_filter (λ a b. same_id a.id b.id) (has_admitted q) (admitted_series q c)
@@ -145,11 +145,11 @@ morsels_rise q c right = sorted-rise (λ s. s.id) (filter (has_admitted q) (admi
 
 -- ---- all candidates of a query
 
--- no two of them are of one station and begin on one day
+-- no two of them belong to one station and begin on one day
 pub all_apart : CandidatesAreApart
 all_apart q c right = apart_among q c right.series.right c.stations right.listed.distinct
 
--- they are of listed stations
+-- they belong to listed stations
 pub all_listed : CandidatesAreOfListed
 all_listed q c right =
     let IsFound : StationId → Type 0 = λ id. IsTrue (is_some (find (is_station_of id) c.stations)) in

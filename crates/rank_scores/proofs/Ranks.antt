@@ -93,7 +93,7 @@ module _ (all xs : List Candidate) (perm : IsPermutation all xs) (down : Descend
   rank_placed : (c : Candidate) (i : ℕ) → slice_get xs i ≡ Some c → rank_in all c ≡ i
   rank_placed c i e = rank-permuted all xs c perm ∙ rank_at xs i c down e
 
-  -- a candidate of a rank stands at that place
+  -- a candidate of a rank is at that place
   at_rank : (r : ℕ) (c : Candidate) → Placed xs c → (rank_in all c == r) ≡ true → slice_get xs r ≡ Some c
   at_rank r c placed h = ap (slice_get xs) (sym (eqb-true _ _ h) ∙ rank_placed c placed.0 placed.1) ∙ placed.1
 

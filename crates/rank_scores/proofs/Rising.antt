@@ -65,7 +65,7 @@ admitted-rise q s series = rise-filter (λ x. admits_day q x.0) s.days (rise-fro
 
 -- ---- look-ups
 
--- among what is kept, the same is found with one element more, which is kept where it passes the search
+-- among what is kept, the same is found with one element more, which is kept if it passes the search
 find-cons : {X : Type 0} (test keeps : X → Bool) (x : X) (xs : List X) → (test x ≡ true → keeps x ≡ true)
     → find test (filter keeps xs) ≡ find test xs → find test (filter keeps (x ∷ xs)) ≡ find test (x ∷ xs)
 find-cons test keeps x xs h rest = grind arith
@@ -95,14 +95,14 @@ pub value_on-before : (x : DayValue) (xs : List DayValue) (a : ℤ) → Rise (x 
     → value_on (x ∷ xs) a ≡ None
 value_on-before x xs a rise h = grind (arith, ints, value_on-later, from_each)
 
--- if days rise, each has the value that stands beside it
+-- if days rise, each has the value that is beside it
 pub values_stand : (days : List DayValue) → Rise days → AllByRecursion (λ x. value_on days x.0 ≡ Some x.1) days
 values_stand [] h = tt
 values_stand (x ∷ xs) h = grind (arith, ints, value_on-here x xs x.0, from_both, value_on-other, values_stand xs h.1)
 
 -- ---- what begins on days that rise
 
--- two ways to make something of days make the same where they do so of each
+-- two ways to make something of days make the same if they do so of each
 pub same_made : (f g : DayValue → Option Candidate) (xs : List DayValue) → AllByRecursion (λ x. f x ≡ g x) xs
     → filter_map f xs ≡ filter_map g xs
 same_made f g [] h = refl

@@ -54,7 +54,7 @@ module _ (id : StationId) (test : ℤ → Bool) (days : List DayValue) (cal : Ar
   none_on : (d : ℤ) → begins_run such d ≡ false → spell_on d ≡ None
   none_on d e = grind arith
 
-  -- an open spell ends where the next day isn't of the kind
+  -- an open spell ends if the next day isn't of the kind
   ends_here : (first last : ℤ) → IsOpen such first last → such (last +ℤ pos 1) ≡ false
       → spell_on first ≡ Some (spell_from id first last)
   ends_here first last o after = grind (arith, ints, spell-begins days cal test first last (pos o.len) o.len)
@@ -72,7 +72,7 @@ module _ (id : StationId) (test : ℤ → Bool) (days : List DayValue) (cal : Ar
   module _ (last : ℤ) (y : DayValue) (ys : List DayValue) (rise : Rise (y ∷ ys)) (later : last <ℤ y.0)
       (agree : (d : ℤ) → last <ℤ d → such d ≡ is_such test (y ∷ ys) d)
       (rest : (run : Option (ℤ × ℤ)) → IsState run y.0 → offered id test run ys ≡ left run ys) where
-    -- the next day is of the kind where its value passes
+    -- the next day is of the kind if its value passes
     here : such y.0 ≡ test y.1
     here = agree y.0 later ∙ ap (λ (o : Option ℤ). option_map_or test o false) (value_on-here y ys y.0 refl)
 
@@ -80,11 +80,11 @@ module _ (id : StationId) (test : ℤ → Bool) (days : List DayValue) (cal : Ar
     quiet : (d : ℤ) → last <ℤ d → d <ℤ y.0 → such d ≡ false
     quiet d low high = grind (arith, ints, value_on-before y ys d rise high)
 
-    -- nor is the one just before it, if the last one isn't where that is it
+    -- nor is the one just before it: it isn't the last one, or the last one isn't of the kind
     quiet_before : (y.0 ≡ last +ℤ pos 1 → such last ≡ false) → such (y.0 -ℤ pos 1) ≡ false
     quiet_before h = grind (arith, ints, by_lt_z, quiet)
 
-    -- nor is the one after the last, if the next one isn't where that is it
+    -- nor is the one after the last: it isn't the next one, or the next one isn't of the kind
     quiet_behind : (y.0 ≡ last +ℤ pos 1 → test y.1 ≡ false) → such (last +ℤ pos 1) ≡ false
     quiet_behind h = grind (arith, ints, by_lt_z, quiet (last +ℤ pos 1) (omega (arith, ints)), here)
 
@@ -93,7 +93,7 @@ module _ (id : StationId) (test : ℤ → Bool) (days : List DayValue) (cal : Ar
         → offered id test (cond (test y.1) (Some (y.0, y.0)) None) ys ≡ left None (y ∷ ys)
     anew before = grind (arith, ints, cases_Bool, here, and_left, none_on)
 
-    -- if an open spell goes on, the next day is of it, and none begins there
+    -- if an open spell goes on, the next day belongs to it, and none begins there
     longer : (s : ℤ × ℤ) → s.1 ≡ last → IsOpen such s.0 s.1 → test y.1 ≡ true → y.0 ≡ s.1 +ℤ pos 1
         → offered id test (Some (s.0, y.0)) ys ≡ left (Some s) (y ∷ ys)
     longer s is o passes on =

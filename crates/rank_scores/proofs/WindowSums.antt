@@ -117,12 +117,12 @@ pub fits : {ring : List ℤ} {w : Window} {days rest : List DayValue} {next : �
 fits {ring} {w} {days} {rest} {next} at few =
     grind (arith, ints, leading-small w.len at.first w.total days at.good.small at.sum)
 
--- the days from the window's first one on, or those after it where it is begun anew
+-- the days from the window's first one on, or those after it if it is begun again
 abbrev days_of : Bool → Window → List DayValue → List DayValue
 days_of true w days = days
 days_of false w days = drop w.len days
 
--- the window is begun anew unless the next day goes on with it
+-- the window is begun again unless the next day goes on with it
 anew : (ring : List ℤ) (w : Window) (days : List DayValue) (next : ℤ) (y : DayValue) (ys : List DayValue) (b : Bool)
     → IsAt ring w days next (y ∷ ys) → (IsTrue b ↔ (y.0 ≡ next))
     → IsAt ring (begun_anew_unless b w) (days_of b w days) y.0 (y ∷ ys)
@@ -143,7 +143,7 @@ anew-len : (w : Window) (b : Bool) → (begun_anew_unless b w).len ≤ w.len
 anew-len w true = omega arith
 anew-len w false = omega arith
 
--- a window that begins anew, or doesn't, has its first day's place
+-- a window that begins again, or doesn't, has its first day's place
 pub anew-place : (w u : Window) (b : Bool) → u ≡ begun_anew_unless b w → w.first < 512 → u.first < 512
 anew-place w u true is lt = rw is lt
 anew-place w u false is lt = rw is lt
@@ -232,7 +232,7 @@ pub record Leaves (id : StationId) (n : ℕ) (days : List DayValue) (ring : List
   pub at : IsAt ring (without_first ring v) now (d +ℤ pos 1) rest
   pub offered : windows id n days ≡ candidate id (d +ℤ pos 1 -ℤ pos n) (d, v.total) ∷ windows id n now
 
--- so it is where the window is whole
+-- so it is if the window is whole
 pub leaves : {n : ℕ} {days rest : List DayValue} {ring : List ℤ} {v : Window} (id : StationId) (d : ℤ)
     → IsAt ring v days (d +ℤ pos 1) rest → 0 < n → n ≤ 366 → v.len ≡ n → Leaves id n days ring v d rest
 leaves {days = []} {v = v} id d at some most is =

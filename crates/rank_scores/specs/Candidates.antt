@@ -100,7 +100,7 @@ candidates_among id sh days = filter_map (λ x. option_map (candidate id x.0) (b
 abbrev pub candidates : Asked → Usable → List Candidate
 candidates q s = candidates_among s.id (shape q.score) (admitted q s)
 
--- c is of the station of the series, and a candidate from its first to its last day with its score
+-- c belongs to the station of the series, and is a candidate from its first to its last day with its score
 abbrev pub IsCandidateOf : Asked → Usable → Candidate → Type 0
 IsCandidateOf q s c = (c.id ≡ s.id) × IsCandidate (shape q.score) (admitted q s) c.first c.last c.score
 

@@ -17,7 +17,7 @@ pub record IsSameFor (q : Asked) (a b : Usable) : Type 0 where
   pub id : a.id ≡ b.id
   pub candidates : candidates q a ≡ candidates q b
 
--- a series whose ID stands before another's, or is the same
+-- a series whose ID comes before another's, or is the same
 abbrev pub series_first : Usable → Usable → Bool
 series_first a b = id_comes_first a.id b.id
 

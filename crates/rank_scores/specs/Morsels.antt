@@ -22,7 +22,7 @@ admitted_series q c = filter_map (λ st. series_of c st.id (score_element q.scor
 abbrev pub all_candidates : Asked → Contents → List Candidate
 all_candidates q c = flat_map (candidates q) (admitted_series q c)
 
--- an ID that stands before another, or is the same
+-- an ID that comes before another, or is the same
 abbrev pub id_comes_first : StationId → StationId → Bool
 id_comes_first a b = is_le (slice_cmp nat_cmp a.0 b.0)
 

@@ -13,7 +13,7 @@ abbrev pub rank_cmp : Candidate → Candidate → Ordering
 rank_cmp = then_cmp (on (λ c. c.score) (flip_args int_cmp))
     (then_cmp (on (λ c. c.id.0) (slice_cmp nat_cmp)) (on (λ c. c.first) int_cmp))
 
--- a stands before b
+-- a comes before b
 abbrev pub precedes : Candidate → Candidate → Bool
 precedes a b = is_lt (rank_cmp a b)
 
@@ -43,10 +43,10 @@ abbrev pub bound_is_below : Option ℤ → ℤ → Bool
 bound_is_below None b = false
 bound_is_below (Some score) b = int_lt b score
 
--- two candidates are of one station and begin on one day
+-- two candidates belong to one station and begin on one day
 abbrev pub begin_alike : Candidate → Candidate → Bool
 begin_alike a b = same_id a.id b.id && int_eq a.first b.first
 
--- no two of these candidates are of one station and begin on one day
+-- no two of these candidates belong to one station and begin on one day
 abbrev pub AreApart : List Candidate → Type 0
 AreApart all = IsDistinct begin_alike all

@@ -11,15 +11,15 @@ use Rattle.rank_scores.specs.declared.candidate.Candidate.{Candidate}
 use Rattle.rank_scores.specs.Order.{AreApart}
 use Rattle.rank_scores.specs.Morsels.{all_candidates, best_of_query}
 
--- each candidate is of a listed station
+-- each candidate belongs to a listed station
 abbrev pub AreOfListed : List Station → List Candidate → Type 0
 AreOfListed stations cs = AllByRecursion (λ c. IsTrue (is_some (find (is_station_of c.id) stations))) cs
 
--- no two candidates of a query are of one station and begin on one day
+-- no two candidates of a query belong to one station and begin on one day
 abbrev pub CandidatesAreApart : Type 0
 CandidatesAreApart = (q : Asked) (c : Contents) → IsContents c → AreApart (all_candidates q c)
 
--- all candidates of a query are of listed stations
+-- all candidates of a query belong to listed stations
 abbrev pub CandidatesAreOfListed : Type 0
 CandidatesAreOfListed = (q : Asked) (c : Contents) → IsContents c → AreOfListed c.stations (all_candidates q c)
 

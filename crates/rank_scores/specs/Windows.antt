@@ -1,4 +1,4 @@
--- Days one after another, whose values stand in a ring, with their sum, as days come and leave.
+-- Days one after another, whose values are kept in a ring, with their sum, as days come and leave.
 use Rattle.std.specs.Prelude.{◌+◌, ◌-◌, ◌%◌, ℕ, Bool, true, false, List, get_or, ℤ, pos, ◌+ℤ◌, ◌-ℤ◌}
 use Rattle.rank_scores.specs.declared.window.Window.{Window}
 

@@ -57,7 +57,7 @@ impl PartialOrd for Candidate {
     }
 }
 
-/// Whether `a` stands before `b`: by greater score, then smaller ID, then earlier first day.
+/// Whether `a` comes before `b`: by greater score, then smaller ID, then earlier first day.
 #[inline]
 pub fn precedes(a: &Candidate, b: &Candidate) -> bool
     ensures { result ≡ order.precedes a.now b.now }

@@ -30,7 +30,8 @@ pub trait FloorSink: Sink {
             → length candidates ≡ count → self.new ≡ fold Self.taken self.old candidates };
 }
 
-/// Whether no day of a part scores as much as the sink's floor. Then its days are given by their number.
+/// Whether no day of a part scores as much as the sink's floor. Then the sink is given the number of
+/// these days alone.
 #[inline(always)]
 pub(crate) fn is_passed_over<S: FloorSink>(part: &BlockDays, extreme: Extreme, sink: &mut S) -> bool
     ensures passed { (id : StationId) → result ≡ true →

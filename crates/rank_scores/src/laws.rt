@@ -15,8 +15,8 @@ pub fn candidates_of_series()
     ensures bounds { series.BoundsEachCandidate }
 {}
 
-/// All candidates of a query are of listed stations, as are the best of them, and no two are of one
-/// station and begin on one day.
+/// All candidates of a query belong to listed stations, as do the best of them, and no two belong
+/// to one station and begin on one day.
 pub fn candidates_of_queries()
     ensures apart { query.CandidatesAreApart }
     ensures listed { query.CandidatesAreOfListed }

@@ -18,8 +18,8 @@ use rank_query::Query;
 /// How many values the ring of a window has places for: no window has as many days.
 const PLACES: usize = 512;
 
-/// Days one after another, with the sum of their values, which stand in a ring. The ring isn't a part
-/// of it, so that its numbers stay in registers.
+/// Days one after another, with the sum of their values, which are kept in a ring. The ring isn't a
+/// part of it, so that its numbers stay in registers.
 #[derive(Drop)]
 struct Window {
     /// The place of the first day's value.

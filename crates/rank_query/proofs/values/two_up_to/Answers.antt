@@ -16,7 +16,7 @@ returns-in-None c =
     subst (λ (r : Option ℕ). IsFirstByte (is_byte 46) word r) c.in-None.is c.memchr.ensures in
     sym (ap (kept c.args.most) (two-whole word nowhere))
 
--- with one they stand on both sides of it
+-- with one they are on both sides of it
 pub returns-in-Some : goal.returns-in-Some
 returns-in-Some c =
     let word : List ℕ = c.args.word.now in

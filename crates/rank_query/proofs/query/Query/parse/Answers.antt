@@ -6,7 +6,7 @@ use Rattle.rank_query.proofs.FaultKinds.{if_fault_kind}
 use Rattle.rank_query.proofs.ReadAsked.{if_read}
 use Rattle.rank_query.proofs.query.Query.parse.Goals as goal
 
--- what is read is spelt so, what spells a query is read as it, and an error stands where no query goes on
+-- what is read is spelt so, what spells a query is read as it, and an error is where no query goes on
 pub returns : goal.returns
 returns c = record {
   read = c.query_of_text.ensures;
