@@ -22,7 +22,7 @@ use Rattle.rank_board.proofs.Words.{score_word-score_of, floor_seen}
 abbrev AreIdle : List View → Type 0
 AreIdle views = (j : ℕ) (u : View) → get_elem? views j ≡ some u → length u.claims ≡ 0 → length u.raised ≡ 0
 
--- so it stays where one view is replaced by such a view
+-- so it stays if one view is replaced by such a view
 idle_set : (views : List View) (id : ℕ) (w : View) → AreIdle views → (length w.claims ≡ 0 → length w.raised ≡ 0)
     → AreIdle (set views id w)
 idle_set views id w others mine j u at bare = ⊎_elim

@@ -47,7 +47,7 @@ floor_of-none f z = ap (λ t. cond t None (Some (score_of_word f))) (eq-eqb f 0 
 pub floor_of-some : (f : ℕ) → f ≢ 0 → floor_of f ≡ Some (score_of_word f)
 floor_of-some f ne = ap (λ t. cond t None (Some (score_of_word f))) (ne_eqb f 0 ne)
 
--- a look at the floor with the word f adds a score with the word f alone, and none where f is 0
+-- a look at the floor with the word f adds a score with the word f alone, and none if f is 0
 pub floor_seen : (f n : ℕ) → 0 < standing n (option_to_list (floor_of f)) → (f ≡ n) × (0 < f)
 floor_seen f n some_seen = elim (cases_eq f 0) [
   | inl z ↦ absurd (omega (arith, ap (λ t. standing n (option_to_list t)) (floor_of-none f z)))

@@ -1,4 +1,4 @@
--- What each step of a seat does to its view, and what it tells.
+-- What each step of a seat does to its view, and what it returns.
 use Rattle.std.specs.Prelude.{◌≡◌, ℕ, ◌+◌, ◌-◌, ◌^◌, ◌<◌, ◌≤◌, List, [], ◌∷◌, ◌++◌, option_to_list, All, ℤ}
 use Rattle.atomic_table.specs.Table.{Me, Step}
 use Rattle.rank_board.specs.declared.rule.View.{View}

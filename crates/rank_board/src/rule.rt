@@ -14,7 +14,7 @@ pub(crate) const FLOOR: usize = 1;
 
 /// What a seat knows: its claims, the scores that it raised and saw, and its rights left.
 ///
-/// It stands in proofs alone, and no value of it is made.
+/// It is used in proofs alone, and no value of it is made.
 pub struct View {
     pub ghost claims: { List ℕ },
     pub ghost raised: { List ℤ },

@@ -69,7 +69,7 @@ last_then k true xs ys p q some e f = refl
 last_then k false xs ys p q some e f =
     ap (λ (x : Pooled). last_score x) (f ∙ best_more k p xs ys e) ∙ last_is_kth k (xs ++ ys) some
 
--- a k-th score, or none where the morsel was skipped, can be a floor
+-- a k-th score, or none if the morsel was skipped, can be a floor
 raises_score : (b : Bool) (k : ℕ) (xs : List Candidate) → HaveScores xs → IfSome (cond b None (kth k xs)) IsScore
 raises_score true k xs a = tt
 raises_score false k xs a = kth_is_score k xs a

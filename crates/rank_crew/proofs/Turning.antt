@@ -96,7 +96,7 @@ at_least_last : (floor : Option ℤ) (all before new : List ℤ) → all ≡ bef
 at_least_last floor all before new e h =
     All-right (λ s. IsSomeAnd floor (λ f. s ≤ℤ f)) before new (subst (IsAtLeast floor) e h)
 
--- the records before a claim are of smaller morsels
+-- the records before a claim belong to smaller morsels
 smaller : (t : Task) (guess : Option ℤ) (w n : ℕ) (begin now : Seat) (h : Haul) → IsMidway t guess w begin now h
     → All (λ x. x < n) (claims_of now) → AllByRecursion (λ x. x < n) (morsels_of (records_of h))
 smaller t guess w n begin now h m above =

@@ -32,7 +32,7 @@ module _ (b : Board) (t : Task) (guess : Option ℤ) (workers rights : ℕ) (beg
     end_state : State
     end_state = record { next = closed.next; floor = closed.floor; workers = g.crew }
 
-    -- what stands raised in the end is what the workers raised
+    -- what has been raised in the end is what the workers raised
     all_raised : raised_of after ≡ raised_in (all_exchanges t g.crew)
     all_raised = g.raised ∙ ap (λ (l : List ℤ). l ++ raised_in (all_exchanges t g.crew)) open_.raised
 
@@ -61,7 +61,7 @@ module _ (b : Board) (t : Task) (guess : Option ℤ) (workers rights : ℕ) (beg
           under_floor = ends.2;
         })
 
-  -- the same where there may have been out of memory
+  -- the same if there may have been out of memory
   pub is_end_if : {V E : Type 0} (items : V → List Haul) (r : Result V E)
       → IfOk r (λ v. BringHome b t 0 workers begin after (items v)) → IfOk r (λ v. IsEnd t guess workers (items v))
   is_end_if items (Ok v) g = is_end (items v) g

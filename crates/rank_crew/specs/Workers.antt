@@ -1,4 +1,4 @@
--- What workers do to a seat of a board, and what they bring home.
+-- What workers do to a seat of a board, and their hauls.
 use Rattle.std.specs.Prelude.{◌≡◌, ℕ, ◌+◌, ◌*◌, ◌<◌, ◌≤◌, true, List, ◌++◌, length, ℤ, Option, option_to_list, All}
 use Rattle.std.specs.Prelude.{Contains, []}
 use Rattle.std.specs.List.{AllByRecursion}

@@ -1,4 +1,4 @@
-//! What two groups of workers bring home, as one list.
+//! The hauls of two groups of workers, as one list.
 
 ghost use Rattle.std.specs.Prelude.{◌≡◌, ◌++◌, IfOk, IsOkAnd};
 

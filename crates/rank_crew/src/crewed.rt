@@ -1,5 +1,5 @@
 //! A whole crew: a board is opened, the workers run to their end, the board is closed, and an
-//! answer is made of what they brought home.
+//! answer is made of their hauls.
 
 ghost use Rattle.std.specs.Prelude.{◌<◌, ◌≤◌, IfOk, IfSome};
 ghost use Rattle.ghcn_fields.specs.Floor.{IsScore};
@@ -39,7 +39,7 @@ pub fn crew<R: Threads + Wait + Sync, G: Gate + Sync>(
     finish(alloc, plan, hauls)
 }
 
-/// What the workers bring home, in the order of their numbers.
+/// The hauls of the workers, in the order of their numbers.
 fn run_crew<R: Threads + Wait + Sync, G: Gate + Sync>(
     rt: &R,
     alloc: Global,

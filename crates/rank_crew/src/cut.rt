@@ -1,4 +1,4 @@
-//! Where some places are cut, so that each part has its share of what there is to measure.
+//! How places are cut into parts, so that each part has its share of what there is to measure.
 
 ghost use Rattle.std.specs.Prelude.{◌≤◌};
 

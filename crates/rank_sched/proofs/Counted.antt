@@ -25,7 +25,7 @@ made vs = sum_by (λ v. length v.records) vs
 abbrev opened : List Worker → ℕ
 opened vs = sum_by (λ v. length (open_exchange v.turn)) vs
 
--- a total over workers is that of those in front, of the one between, and of those behind
+-- a total over workers is that of those before, of the one between, and of those after
 by_parts : (f : Worker → ℕ) (front : List Worker) (v : Worker) (behind : List Worker)
     → sum_by f (front ++ v ∷ behind) ≡ sum_by f front + (f v + sum_by f behind)
 by_parts f front v behind = simp (sum_by-append, sum_by-cons)

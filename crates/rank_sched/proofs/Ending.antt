@@ -1,4 +1,4 @@
--- The end of a run: hauls are merged, and skips are taken back, morsel after morsel.
+-- The end of a run: hauls are merged, and skips are undone, morsel after morsel.
 use Rattle.std.proofs.Common.{rules, ◌≡◌, ℕ, ◌+◌, ◌<◌, Bool, true, false, cond, not, List, [], ◌∷◌, ◌++◌, length}
 use Rattle.std.proofs.Common.{get_or, set, refl, sym, ap, ◌∙◌, append-nil, append_assoc, arith, All}
 use Rattle.std.proofs.lemmas.Grind.{common_steps, flat_map-append}
@@ -55,7 +55,7 @@ merged t p q p' rs ss e f took holds = grind (arith, size-fold, flat_map-append)
 -- ---- what is left of the hauls, one haul less
 
 module _ (t : Task) where
-  -- the first haul's pool is its own, and so are those behind it
+  -- the first haul's pool is its own, and so are those after it
   pub own_parts : (h : Haul) (rest left : List Haul) → rest ≡ h ∷ left → AllByRecursion (HasOwnPool t) rest
       → HasOwnPool t h × AllByRecursion (HasOwnPool t) left
   own_parts h rest left step all = search rules
@@ -76,18 +76,18 @@ all_within n (r ∷ rs) a = (
       (All-tail (λ x. x < n) r.morsel (morsels_of rs) a),
 )
 
--- records that stand once for each morsel are of morsels
+-- records that occur once for each morsel belong to morsels
 pub once_within : (n : ℕ) (rs : List Record) → HasEachBelow n (morsels_of rs) → AreWithin n rs
 once_within n rs once = grind (arith, all_within, all_below)
 
--- ---- skips that are taken back
+-- ---- skips that are undone
 
 -- the morsel was skipped, and below i its skip stays
 abbrev pub stays_so_far : Task → List Record → ℕ → ℕ → Bool
 stays_so_far t rs i m = was_skipped rs m && (nat_le i m || is_justified t rs m)
 
 module _ (t : Task) (rs : List Record) (i : ℕ) where
-  -- the skips below one morsel more, where it isn't taken back
+  -- the skips below one morsel more, if its skip isn't undone
   back_kept : is_taken_back t rs i ≡ false → back_below t rs (i + 1) ≡ back_below t rs i
   back_kept e = grind (arith, append-nil)
 
@@ -102,7 +102,7 @@ pub step_kept : (t : Task) (rs : List Record) (i n : ℕ) (marks : List Bool) (p
     → IsBefore t rs i n marks pool → IsBefore t rs (i + 1) n marks pool
 step_kept t rs i n marks pool low own kept h = grind (arith, back_kept)
 
--- a skip that is taken back loses its mark, and its candidates are offered
+-- a skip that is undone loses its mark, and its candidates are offered
 pub step_back : (t : Task) (rs : List Record) (i n : ℕ) (marks marks' : List Bool) (pool pool' : Pooled) → i < n
     → was_skipped rs i ≡ true → is_justified t rs i ≡ false
     → marks' ≡ set marks i false → length marks' ≡ length marks → pool' ≡ fold taken pool (t.candidates i)
@@ -116,19 +116,19 @@ step_back t rs i n marks marks' pool pool' low skipped unjust e len took h = sea
 abbrev one_if : Bool → ℕ
 one_if b = cond b 1 0
 
--- records whose morsels have marks: as many are unmarked as are taken back
+-- records whose morsels have marks: as many are unmarked as have their skips undone
 pub back_counted : (t : Task) (rs all : List Record) (n : ℕ) (marks : List Bool) → AreWithin n rs
     → AreMarks (stays t all) n marks
     → unmarked marks rs ≡ count_by (λ r. r.skipped && not (stays t all r.morsel)) rs
 back_counted t [] all n marks within h = refl
 back_counted t (r ∷ rs) all n marks within h = grind (arith, common_steps, back_counted t rs all n marks within.1 h)
 
--- the best of what was scanned and taken back are the best
+-- the best of what was scanned, or had its skip undone, are the best
 pub best_are : (t : Task) (rs : List Record) (pool : Pooled) → IsFair t → HasEachBelow t.len (morsels_of rs)
     → HasBackBelow t rs t.len pool → pool.held ≡ best t.k (all_of_task t)
 best_are t rs pool fair once h = grind (arith, best_there, best-first)
 
--- ---- what the loops and calls of the end give
+-- ---- what the loops and calls of the end return
 
 -- equal marks and pools
 pub carried : (t : Task) (rs : List Record) (i n : ℕ) (marks marks' : List Bool) (pool pool' : Pooled)
@@ -164,7 +164,7 @@ pub read_stays : (t : Task) (rs : List Record) (i n : ℕ) (marks : List Bool) (
     → IsRead t rs i n marks pool true → true ≡ is_justified t rs i → IsBefore t rs (i + 1) n marks pool
 read_stays t rs i n marks pool h just = grind (arith, step_kept)
 
--- its skip is taken back
+-- its skip is undone
 pub read_back : (t : Task) (rs : List Record) (i n : ℕ) (marks marks' : List Bool) (pool pool' : Pooled)
     → IsRead t rs i n marks pool true → false ≡ is_justified t rs i
     → marks' ≡ set marks i false → pool' ≡ fold taken pool (t.candidates i) → IsBefore t rs (i + 1) n marks' pool'

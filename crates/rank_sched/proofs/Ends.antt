@@ -84,7 +84,7 @@ module _ (t : Task) (guess : Option ℤ) where
       → n < next
   some_past n next ls some h b = grind (arith, common_steps)
 
-  -- a number that isn't below n stands nowhere among numbers below n
+  -- a number that isn't below n is nowhere among numbers below n
   not_there : (n x : ℕ) (ms : List ℕ) → AllByRecursion (λ y. y < n) ms → n ≤ x → times x ms ≡ 0
   not_there n x [] h le = refl
   not_there n x (m ∷ ms) h le = grind (arith, not_there n x ms h.1 le)
@@ -168,7 +168,7 @@ module _ (t : Task) (guess : Option ℤ) where
       front [] us a = tt
       front (z ∷ zs) us a = (a.0, front zs us a.1)
 
-  -- what sound workers bring home are the hauls of workers with their numbers
+  -- the hauls of sound workers are those of workers with their numbers
   hauls_from : (w : ℕ) (hs : List Haul) (vs : List Worker)
       → AllZip (λ h v. (records_of h ≡ v.records) × (h.pool ≡ v.pool)) hs vs → AreSoundFrom t guess w vs
       → AreHaulsFrom t w hs
@@ -176,7 +176,7 @@ module _ (t : Task) (guess : Option ℤ) where
   hauls_from w (h ∷ hs) (v ∷ vs) a s = grind (arith, rise_front, hauls_from (w + 1) hs vs a.1 s.1)
   hauls_from w hs vs a s = absurd a
 
-  -- where all have stopped, each haul's floors were seen upward
+  -- if all have stopped, each haul's floors were seen upward
   hauls_upward : (w : ℕ) (hs : List Haul) (vs : List Worker)
       → AllZip (λ h v. (records_of h ≡ v.records) × (h.pool ≡ v.pool)) hs vs → AreSoundFrom t guess w vs
       → list_all (λ v. has_stopped v.turn) vs ≡ true

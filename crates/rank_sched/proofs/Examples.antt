@@ -114,7 +114,7 @@ by_bound : (ids (planned (ask 1) (of_three (pos 250) (pos 311) (pos 300))) ≡ b
 unfolding ids bounds
 by_bound = (refl, refl)
 
--- a station without a series is no morsel
+-- a station without a series isn't a morsel
 none_there : (ids (planned (ask 1) nothing) ≡ []) × (measures (ask 1) nothing ≡ None ∷ [])
 unfolding ids
 none_there = (refl, refl)
@@ -155,11 +155,11 @@ three_turns = turn 0 ++ turn 0 ++ turn 0 ++ Claim 0 ∷ []
 abbrev pub alone : ℕ → Option ℤ → Left
 alone k guess = run (plan k) 1 guess three_turns
 
--- the lines of the answer that such a run gives
+-- the lines of the answer of such a run
 abbrev pub lines_after : ℕ → Left → List Line
 lines_after k r = lines_of (plan k) (records_in r)
 
--- how many of its skips are taken back
+-- how many of its skips are undone
 abbrev pub back_after : ℕ → Left → ℕ
 back_after k r = taken_back (task_of (plan k)) (records_in r)
 
@@ -167,7 +167,7 @@ back_after k r = taken_back (task_of (plan k)) (records_in r)
 abbrev pub one_skipped : List Line
 one_skipped = line a (pos 311) false ∷ line b (pos 311) false ∷ line c (pos 250) true ∷ []
 
--- the lines where no skip stays
+-- the lines if no skip stays
 abbrev pub none_skipped : List Line
 none_skipped = line a (pos 311) false ∷ line b (pos 311) false ∷ line c (pos 250) false ∷ []
 
@@ -184,16 +184,16 @@ floor_is_shared : records_in (run (planned (ask 1) (of_three (pos 311) (pos 300)
     record { morsel = 2; worker = 1; seen = Some (pos 311); skipped = true } ∷ []
 floor_is_shared = refl
 
--- a guess that is the k-th score: one morsel is skipped, and none is taken back
+-- a guess that is the k-th score: one morsel is skipped, and none is undone
 right_guess : (lines_after 1 (alone 1 (Some (pos 311))) ≡ one_skipped) × (back_after 1 (alone 1 (Some (pos 311))) ≡ 0)
 right_guess = (refl, refl)
 
--- a guess above the k-th score: two of three skips are taken back
+-- a guess above the k-th score: two of three skips are undone
 high_guess : (lines_after 1 (alone 1 (Some (pos 1000))) ≡ one_skipped) ×
     (back_after 1 (alone 1 (Some (pos 1000))) ≡ 2)
 high_guess = (refl, refl)
 
--- a guess where there are fewer than k candidates: the one skip is taken back
+-- a guess if there are fewer than k candidates: the one skip is undone
 guess_for_ten : (lines_after 10 (alone 10 (Some (pos 300))) ≡ none_skipped) ×
     (back_after 10 (alone 10 (Some (pos 300))) ≡ 1)
 guess_for_ten = (refl, refl)
@@ -231,13 +231,13 @@ at_once = run (plan 1) 3 None (Claim 0 ∷ Claim 1 ∷ Claim 2 ∷ Look 0 ∷ Lo
 three_workers : (all_stopped (at_once.0).workers ≡ true) × (at_once.1 ≡ 12) × (lines_after 1 at_once ≡ none_skipped)
 three_workers = (refl, refl, refl)
 
--- the greatest bound is drawn first, and the lines stand by ID
+-- the greatest bound is drawn first, and the lines are in the order of IDs
 falling : lines_of (planned (ask 1) (of_three (pos 250) (pos 311) (pos 300)))
     (records_in (run (planned (ask 1) (of_three (pos 250) (pos 311) (pos 300))) 1 None three_turns))
     ≡ line a (pos 250) true ∷ line b (pos 311) false ∷ line c (pos 300) true ∷ []
 falling = refl
 
--- what is seen and passed over, morsel by morsel
+-- what is seen and skipped, morsel by morsel
 falling_records : records_in (run (planned (ask 1) (of_three (pos 311) (pos 300) (pos 250))) 1 None three_turns)
     ≡ record { morsel = 0; worker = 0; seen = None; skipped = false } ∷
     record { morsel = 1; worker = 0; seen = Some (pos 311); skipped = true } ∷
@@ -276,7 +276,7 @@ stopped_refuses = (refl, refl)
 
 -- ---- sound records
 
--- a record, as it stands in the code
+-- a record, as it is in the code
 abbrev noted : ℕ → ℕ → Option ℤ → Bool → Record
 noted m w seen skipped = record { morsel = m; worker = w; seen = seen; skipped = skipped }
 

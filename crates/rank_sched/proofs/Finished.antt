@@ -1,4 +1,4 @@
--- What was scanned in a sound run and then taken back has the first k of all candidates.
+-- What was scanned in a sound run, or had its skip undone after it, has the first k of all candidates.
 use Rattle.std.proofs.Common.{rules, ◌≡◌, ◌≢◌, ℕ, zero, suc, ◌+◌, ◌<◌, ◌≤◌, true, false, cond, not, List, [], ◌∷◌, ◌++◌}
 use Rattle.std.proofs.Common.{length, refl, sym, ap, ◌∙◌, append-nil, append_assoc, inl, inr, arith, All}
 use Rattle.std.proofs.lemmas.Grind.{common_steps, flat_map-append}
@@ -45,7 +45,7 @@ split n (m ∷ ms) h = elim (cases_eq m n) [
 none_left : (ms : List ℕ) → length ms ≡ 0 → ms ≡ []
 none_left ms e = grind (arith, common_steps)
 
--- the candidates of numbers that stand there once each
+-- the candidates of numbers that occur there once each
 each_alike : (f : ℕ → List Candidate) (n : ℕ) (ms : List ℕ) → HasEachBelow n ms
     → Alike (flat_map f ms) (flat_map f (range_with_len 0 n))
 each_alike f zero ms once = cc (none_left ms (length-each_below 0 ms once))
@@ -78,7 +78,7 @@ each_alike f (suc n) ms once =
 lt_yes : (m n : ℕ) → m < n → nat_lt m n ≡ true
 lt_yes m n h = grind arith
 
--- any morsel but n comes before the next one just where it comes before n
+-- any morsel but n comes before the next one if and only if it comes before n
 lt_same : (m n : ℕ) → m ≢ n → nat_lt m (suc n) ≡ nat_lt m n
 lt_same m n ne = grind arith
 
@@ -86,11 +86,11 @@ lt_same m n ne = grind arith
 known_zero : (t : Task) (rs : List Record) → known_before t rs 0 ≡ scanned t rs
 known_zero t rs = grind arith
 
--- the candidates of a morsel, where it was passed over
+-- the candidates of a morsel, if it was skipped
 abbrev skip_part : Task → List Record → ℕ → List Candidate
 skip_part t rs n = cond (was_skipped rs n) (t.candidates n) []
 
--- a morsel without a record wasn't passed over
+-- a morsel without a record wasn't skipped
 pub not_skipped : (n : ℕ) (rs : List Record) → times n (morsels_of rs) ≡ 0 → was_skipped rs n ≡ false
 not_skipped n [] e = refl
 not_skipped n (r ∷ rs) e = grind (
@@ -104,7 +104,7 @@ not_skipped n (r ∷ rs) e = grind (
       rs (omega (arith, times-cons n r.morsel (morsels_of rs))),
 )
 
--- what is known before the next morsel is what was known, and this one's candidates if it was passed over
+-- what is known before the next morsel is what was known, and this one's candidates if it was skipped
 known_suc : (t : Task) (n : ℕ) (rs : List Record) → times n (morsels_of rs) ≤ 1
     → Alike (known_before t rs (suc n)) (known_before t rs n ++ skip_part t rs n)
 known_suc t n [] few = refl
@@ -140,7 +140,7 @@ known_suc t n (r ∷ rs) few = elim (cases_eq r.morsel n) [
       )
 ]
 
--- ---- what is taken back
+-- ---- skips that are undone
 
 -- a number counts once or not at all among those below n
 pub below_few : (x n : ℕ) → times_below x n ≤ 1
@@ -151,7 +151,7 @@ module _ (t : Task) (rs : List Record) (fair : IsFair t) (once : HasEachBelow t.
   few : (n : ℕ) → times n (morsels_of rs) ≤ 1
   few n = omega (arith, below_few n t.len)
 
-  -- what was scanned, and taken back below n, has the first k of all that is known before n
+  -- what was scanned, or has its skip undone below n, has the first k of all that is known before n
   back_agrees : (n : ℕ) → first t.k (scanned t rs ++ back_below t rs n) ≡ first t.k (known_before t rs n)
   back_agrees zero = simp (append-nil, known_zero)
   back_agrees (suc n) =
@@ -191,7 +191,7 @@ module _ (t : Task) (rs : List Record) (fair : IsFair t) (once : HasEachBelow t.
   pub best_there : first t.k (scanned t rs ++ back_below t rs t.len) ≡ first t.k (all_of_task t)
   best_there = search (rules, back_agrees, known_all, all_below, each_alike)
 
-  -- the k-th score of what was scanned and taken back so far says whether the next skip stays
+  -- the k-th score of what was scanned, or had its skip undone so far, says whether the next skip stays
   pub decides : (n : ℕ) → bound_is_below (kth t.k (scanned t rs ++ back_below t rs n)) (t.bound n) ≡ is_justified t rs n
   decides n = cc (
     last_is_kth t.k (scanned t rs ++ back_below t rs n) fair.some,
@@ -200,7 +200,7 @@ module _ (t : Task) (rs : List Record) (fair : IsFair t) (once : HasEachBelow t.
         (known_before t rs n) fair.some,
   )
 
--- what was scanned in the run, and then taken back, has the first k of all candidates
+-- what was scanned in the run, or had its skip undone after it, has the first k of all candidates
 pub best_are_there : BestAreThere
 best_are_there t hs fair sound = best_there t (all_records hs) fair sound.once
 

@@ -39,7 +39,7 @@ module _ {X : Type 0} (P : X → Type 0) where
   pub All-middle : (F V B : List X) → All P (F ++ (V ++ B)) → All P V
   All-middle F V B h = All-left P V B (All-right P F (V ++ B) h)
 
-  -- what is true of all of three lists and of another is true of all, where that stands behind the second
+  -- what is true of all of three lists and of another is true of all, if that comes after the second
   pub All-between : (F V Z B : List X) → All P (F ++ (V ++ B)) → All P Z → All P (F ++ ((V ++ Z) ++ B))
   All-between F V Z B h new = All-append P F ((V ++ Z) ++ B) (All-left P F (V ++ B) h) (All-append P (V ++ Z) B
       (All-append P V Z (All-middle F V B h) new) (All-right P V B (All-right P F (V ++ B) h)))
@@ -135,7 +135,7 @@ pub record At {X : Type 0} (xs : List X) (i : ℕ) (x : X) : Type 0 where
   pub place : length front ≡ i
   pub put : (y : X) → slice_set xs i y ≡ front ++ y ∷ behind
 
--- a list has each of its elements between those in front and those behind
+-- a list has each of its elements between those before and those after
 pub at : {X : Type 0} (xs : List X) (i : ℕ) (x : X) → slice_get xs i ≡ Some x → At xs i x
 at [] i x h = absurd cc
 at (y ∷ ys) zero x h =
@@ -154,7 +154,7 @@ at (y ∷ ys) (suc i) x h =
 
 -- ---- the last place of a pool
 
--- what stands at one of the first k places stands there in the whole list
+-- what is at one of the first k places is there in the whole list
 get_cut : (ys : List Candidate) (k j : ℕ) → j < k → slice_get (take k ys) j ≡ slice_get ys j
 get_cut ys zero j h = absurd (omega arith)
 get_cut [] (suc k) j h = refl

@@ -184,7 +184,7 @@ pub running_failed : (m : Running) (failed : Bool) → IsRunning m
     → IsRunning (record { plan = m.plan; guess = m.guess; state = m.state; failed = failed })
 running_failed m failed r = search rules
 
--- ---- the answers of a machine
+-- ---- what a machine returns
 
 -- a machine refuses an event of a worker that isn't there, and stays as it is
 pub no_worker_refused : {A : Type 0} (m : Running) (next : ℕ) (floor : Option ℤ) (turns read : List Turn)
@@ -221,7 +221,7 @@ pub not_looked : (w : ℕ) (turn : Turn) → ((m : ℕ) (seen : Option ℤ) → 
     → is_awaited turn (Settle w) ≡ false
 not_looked w turn h = grind arith
 
--- the greater floor, where a score is raised only by what isn't passed over
+-- the greater floor, if a score is raised only by what isn't skipped
 pub raised_floor : (floor raised : Option ℤ) (r : Record) (p : Pooled) → raised ≡ cond r.skipped None (last_score p)
     → greater_floor floor raised ≡ floor_after floor r p
 raised_floor floor raised r p e = search rules
@@ -250,7 +250,7 @@ same_workers (x ∷ xs) [] w h h' e s = refl
 same_workers (x ∷ xs) (y ∷ hs) zero h h' e s = cc
 same_workers (x ∷ xs) (y ∷ hs) (suc w) h h' e s = cc (same_workers xs hs w h h' e s)
 
--- want of memory leaves the state as it was
+-- running out of memory leaves the state as it was
 pub same_state_of : (next : ℕ) (floor : Option ℤ) (turns : List Turn) (hs : List Haul) (w : ℕ) (turn : Turn)
     (h h' : Haul) → length turns ≡ length hs → slice_get turns w ≡ Some turn → h ≡ get_or hs w h → IsSameHaul h h'
     → state_of next floor turns (slice_set hs w h') ≡ state_of next floor turns hs
@@ -294,7 +294,7 @@ module _ (t : Task) (guess : Option ℤ) where
         claims_few (w + 1) vs few h.1,
       )
 
-  -- so the next number is at most as many for each worker
+  -- so the next number is at most 2^20 + 1 times the number of workers
   next_few : (s : State) → t.len ≤ 1_048_576 → IsSoundState t guess s → s.next ≤ 1_048_577 * length s.workers
   next_few s few h = grind (
     arith,
@@ -351,7 +351,7 @@ hauls_of next floor [] (h ∷ hs) e = absurd (omega (arith, e))
 hauls_of next floor (x ∷ xs) [] e = absurd (omega (arith, e))
 hauls_of next floor (x ∷ xs) (h ∷ hs) e = grind (arith, hauls_of next floor xs hs (omega (arith, e)))
 
--- what the workers of a stopped machine bring home is sound
+-- the hauls of the workers of a stopped machine are sound
 pub stopped_sound : (m : Running) (hs : List Haul) → IsRunning m → is_stopped m ≡ true → AreHaulsOf m.state.workers hs
     → IsSoundEnd (task_of m.plan) m.state × AreSound (task_of m.plan) hs × AreUnderFloor
     (task_of m.plan) m.guess hs m.state.floor

@@ -11,17 +11,17 @@ use Rattle.std.proofs.lemmas.Option.{slice_get_within}
 
 -- ---- a machine that failed
 
--- a machine that failed answers want of memory to each event, stays as it is, and isn't stopped
+-- a machine that failed returns out of memory for each event, stays as it is, and isn't stopped
 pub failed_stays : FailedStaysFailed
 failed_stays m m' e x f a = grind arith
 
--- want of memory leaves a machine that failed
+-- running out of memory leaves a machine that failed
 pub want_fails : WantOfMemoryFails
 want_fails m m' e x w a = grind arith
 
 -- ---- which events are accepted
 
--- an event that isn't refused is of a worker that there is, and the one that it waits for
+-- an event that isn't refused belongs to a worker that there is, and the one that it waits for
 pub record IsAccepted (s : State) (e : Event) : Type 0 where
   pub worker : Worker
   pub here : slice_get s.workers (worker_of e) ≡ Some worker
@@ -53,7 +53,7 @@ pub after_here : (t : Task) (s : State) (e : Event) (v : Worker) → slice_get s
     → after t s e ≡ moved t s e v v.turn
 after_here t s e v h = cc
 
--- each step is of an event that isn't refused, and leads to the computed state
+-- each step belongs to an event that isn't refused, and leads to the computed state
 step_computed : (t : Task) (s s' : State) (e : Event) → IsStep t s e s' → (refusal s e ≡ None) × (s' ≡ after t s e)
 step_computed t s s' e h = grind (arith, not_refused)
 

@@ -9,7 +9,7 @@ use Rattle.rank_scores.specs.Morsels.{morsel_at}
 use Rattle.rank_blocks.specs.Bounds.{bound}
 use Rattle.rank_sched.specs.Plan.{measures}
 
--- the bound of the station at a place stands at that place
+-- the bound of the station at a place is at that place
 pub measured_there : (q : Asked) (c : Contents) (place : ℕ) (o : Option Usable) → place < length c.stations
     → o ≡ option_and_then (morsel_at q c) (slice_get c.stations place)
     → slice_get (measures q c) place ≡ Some (option_map (bound q) o)

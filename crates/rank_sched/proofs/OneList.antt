@@ -19,15 +19,15 @@ use Rattle.rank_sched.proofs.Reached.{all_skips}
 pub seen_at_most : SeenIsAtMost
 seen_at_most t guess s h = grind arith
 
--- where there are no morsels, no number is a morsel's
+-- if there are no morsels, no number is a morsel's
 none_times : (x n : ℕ) → n ≡ 0 → 0 ≡ times_below x n
 none_times x n e = grind arith
 
--- where not even zero is a morsel's number, there are no morsels
+-- if not even zero is a morsel's number, there are no morsels
 some_times : (n : ℕ) → 0 ≡ times_below 0 n → n ≡ 0
 some_times n e = grind arith
 
--- no hauls are sound exactly where there are no morsels
+-- no hauls are sound if and only if there are no morsels
 pub no_hauls : NoHauls
 no_hauls t = (λ s. some_times t.len (s.once 0), λ e. record { each = tt; once = λ x. none_times x t.len e })
 
@@ -54,7 +54,7 @@ named_from : (t : Task) (w : ℕ) (hs : List Haul) → AreHaulsFrom t w hs
 named_from t w [] a = tt
 named_from t w (h ∷ hs) a = grind (arith, each-append, each-weaker, named_from t (w + 1) hs a.1)
 
--- the records of the first of some hauls, behind records of smaller workers
+-- the records of the first of some hauls, after records of smaller workers
 first_own : (t : Task) (w : ℕ) (front : List Record) (h : Haul) (hs : List Haul)
     → AllByRecursion (λ r. r.worker < w) front → IsHaulOf t w h → AreHaulsFrom t (w + 1) hs
     → records_by w (front ++ (records_of h ++ all_records hs)) ≡ records_of h

@@ -18,7 +18,7 @@ use Rattle.std.proofs.lemmas.Int.{ints}
 stopped_waits : (turn : Turn) (e : Event) → has_stopped turn ≡ true → is_awaited turn e ≡ false
 stopped_waits turn e h = grind arith
 
--- each of some workers has stopped, where all have
+-- each of some workers has stopped, if all have
 stopped_at : (vs : List Worker) (i : ℕ) (v : Worker) → list_all (λ w. has_stopped w.turn) vs ≡ true
     → slice_get vs i ≡ Some v → has_stopped v.turn ≡ true
 stopped_at [] i v all e = absurd cc
@@ -26,7 +26,7 @@ stopped_at (w ∷ vs) zero v all e = grind (arith, ints, both_true)
 stopped_at (w ∷ vs) (suc i) v all e =
     stopped_at vs i v (both_true (has_stopped w.turn) (list_all (λ (u : Worker). has_stopped u.turn) vs) all).1 e
 
--- where all have stopped no step is made
+-- if all have stopped no step is made
 none_after : (t : Task) (s s' : State) (e : Event) → all_stopped s.workers ≡ true → IsStep t s e s' → ⊥
 none_after t s s' e all step =
     let a : is_awaited step.before.turn e ≡ true = does_awaited t e s s' step.before step.after step.does in

@@ -46,7 +46,7 @@ module _ {A : Type 0} (before : A → A → Bool) (f : A → List Candidate) whe
   alike_sorted [] = refl
   alike_sorted (x ∷ xs) = grind (arith, alike_placed, alike-right, alike_sorted xs)
 
--- an element behind some others
+-- an element after some others
 pub get_behind : {A : Type 0} (front : List A) (x : A) (rest : List A)
     → slice_get (front ++ x ∷ rest) (length front) ≡ Some x
 get_behind [] x rest = refl

@@ -29,7 +29,7 @@ map-more f [] i b e = absurd cc
 map-more f (x ∷ xs) zero b e = cc
 map-more f (x ∷ xs) (suc i) b e = ap (λ l. f x ∷ l) (map-more f xs i b e)
 
--- what stands at a place of a list that was made of another
+-- what is at a place of a list that was made of another
 pub made_at : {A B : Type 0} (f : A → B) (xs : List A) (i : ℕ) (d : B) → i < length xs
     → option_map f (slice_get xs i) ≡ Some (get_or (map f xs) i d)
 made_at f [] i d lt = absurd (omega arith)
@@ -67,7 +67,7 @@ module _ (q : Asked) (c : Contents) where
   by_id = IsPermutation-map (measured q) (filter (has_admitted q) (admitted_series q c)) (morsels q c)
       (grind (arith, sorted-permutation))
 
-  -- no two morsels of a query are of one station
+  -- no two morsels of a query belong to one station
   distinct_morsels : IsContents c → IsDistinct of_one_station (map (measured q) (morsels q c))
   distinct_morsels right = IsDistinct-IsPermutation of_one_station of_one_station-symm
       (map (measured q) (filter (has_admitted q) (admitted_series q c))) (map (measured q) (morsels q c)) by_id
@@ -117,7 +117,7 @@ few_morsels p is =
     cc in
     omega (arith, kept-length (measured_at q is.dataset) sts, ap length (by_station q is.dataset sts))
 
--- the morsels of a plan are of different stations
+-- the morsels of a plan belong to different stations
 pub plan_distinct : (p : Planned) → IsPlan p → IsDistinct of_one_station p.morsels
 plan_distinct p is =
     let ms : List Morsel = map (measured p.query) (morsels p.query is.dataset) in

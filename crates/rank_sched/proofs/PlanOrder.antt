@@ -17,9 +17,9 @@ use Rattle.ghcn_files.proofs.Ordered as ordered
 pub drawn_total : IsTotalOrder drawn_cmp
 drawn_total = search (rules, nat_list_cmp_total)
 
--- ---- a morsel is drawn first where the comparison doesn't put it behind
+-- ---- a morsel is drawn first if the comparison doesn't put it after the other
 
--- a morsel is drawn first exactly where the comparison doesn't put it behind
+-- a morsel is drawn first if and only if the comparison doesn't put it after the other
 pub drawn-is : (a b : Morsel) → is_drawn_first a b ≡ is_le (drawn_cmp a b)
 drawn-is a b = grind arith
 
@@ -53,14 +53,14 @@ module _ {X : Type 0} (seen : X → Morsel) where
   pub strictly_ranks : IsStrictWeakOrder strictly
   strictly_ranks = grind (arith, drawn_total)
 
-  -- what a sort by the comparison gives is drawn in turn
+  -- what a sort by the comparison returns is drawn in turn
   pub sort-in_turn : (xs : List X) → IsSortedBy strictly xs → AreDrawnInTurn (map seen xs)
   sort-in_turn xs up = drawn_turn (map seen xs)
       (ordered.sort-in_turn drawn_cmp drawn_total is_drawn_first drawn-is seen xs up)
 
 -- ---- morsels with IDs of their own
 
--- two morsels are of one station
+-- two morsels belong to one station
 abbrev pub of_one_station : Morsel → Morsel → Bool
 of_one_station a b = same_id a.series.id b.series.id
 
@@ -72,7 +72,7 @@ of_one_station-symm a b = search rules
 same_by_id : (s i : Ordering) → ordering_then s i ≡ Equal → is_eq i ≡ true
 same_by_id s i e = grind arith
 
--- morsels that tie are of one station
+-- morsels that tie belong to one station
 station_tied : (a b : Morsel) → drawn_cmp a b ≡ Equal → of_one_station a b ≡ true
 station_tied a b e = grind (arith, is_eq-slice_cmp, same_by_id)
 

@@ -1,4 +1,4 @@
--- Floors that were seen were reached by scanned candidates, or are the guess: so no skip is taken back.
+-- Floors that were seen were reached by scanned candidates, or are the guess: so no skip is undone.
 use Rattle.std.proofs.Common.{rules, ◌≡◌, ℕ, ◌+◌, ◌<◌, ◌≤◌, ⊎_elim, true, false, cond, not, List, [], ◌∷◌, ◌++◌, ℤ, pos}
 use Rattle.std.proofs.Common.{◌-ℤ◌, ◌≤ℤ◌, Option, Some, None, option_to_list, All, refl, append_assoc, arith}
 use Rattle.std.proofs.lemmas.Grind.{common_steps}
@@ -31,7 +31,7 @@ more_reached : (t : Task) (xs ys : List Candidate) (z : ℤ) → ((b : ℤ) → 
     → IsReached t ys z
 more_reached t xs ys z le h b lt = omega (arith, le b, h b lt)
 
--- a score, if there is one, is reached where k candidates score above each number below it
+-- a score, if there is one, is reached if k candidates score above each number below it
 one_reached : (t : Task) (xs : List Candidate) (o : Option ℤ) → ((b : ℤ) → bound_is_below o b ≡ true → t.k ≤ above b xs)
     → All (IsReached t xs) (option_to_list o)
 one_reached t xs None h = All-nil (IsReached t xs)
@@ -111,7 +111,7 @@ module _ (Q : ℤ → Type 0) where
       (seen_each t [] (records_of h) (All-left Q (seen_in (exchanges_in t h)) (seen_in (turns_of t hs)) both))
       (all_seen_each t hs (All-right Q (seen_in (exchanges_in t h)) (seen_in (turns_of t hs)) both))
 
--- all records pass over what they should
+-- all records skip what they should
 pub all_skips : (t : Task) (w : ℕ) (hs : List Haul) → AreHaulsFrom t w hs
     → AllByRecursion (IsRightSkip t) (all_records hs)
 all_skips t w [] a = tt
@@ -139,7 +139,7 @@ none_above_bound : (c d : ℤ) (xs : List Candidate) → AllByRecursion (λ x. x
 none_above_bound c d [] a le = refl
 none_above_bound c d (x ∷ xs) a le = grind (arith, ints, none_above_bound c d xs a.1 le)
 
--- where the skipped morsels have nothing above c, all that is above c was scanned
+-- if the skipped morsels have nothing above c, all that is above c was scanned
 only_scanned : (t : Task) (c : ℤ) (rs : List Record)
     → AllByRecursion (λ r. r.skipped ≡ true → over t c r.morsel ≡ 0) rs → over_records t c rs ≡ above c (scanned t rs)
 only_scanned t c [] a = refl
@@ -171,13 +171,13 @@ same_le g s e = omega (arith, ints)
 
 module _ (t : Task) (g : ℤ) (hs : List Haul) (fair : IsFair t) (s : AreSound t hs)
     (low_guess : IsLowGuess t (Some g)) where
-  -- a morsel that was passed over by a floor of at most the guess has no candidate that scores the guess or more
+  -- a morsel that was skipped by a floor of at most the guess has no candidate that scores the guess or more
   skipped_over : (r : Record) → IsRightSkip t r → IfSome r.seen (λ z. z ≤ℤ g) → r.skipped ≡ true
       → over t (g -ℤ pos 1) r.morsel ≡ 0
   skipped_over r right h e = none_above_bound (g -ℤ pos 1) (t.bound r.morsel) (t.candidates r.morsel)
       (fair.bounded r.morsel) (grind (arith, under_guess))
 
-  -- where no score above the guess was seen, all that is at least the guess was scanned
+  -- if no score above the guess was seen, all that is at least the guess was scanned
   guess_alone : AllByRecursion (λ r. IfSome r.seen (λ z. z ≤ℤ g)) (all_records hs)
       → IsReached t (scanned t (all_records hs)) g
   guess_alone low b e =
@@ -215,9 +215,9 @@ guess_reached : (t : Task) (guess : Option ℤ) (hs : List Haul) (floor : Option
 guess_reached t None hs floor fair s f low = tt
 guess_reached t (Some g) hs floor fair s f low = guess_top t g hs fair s low floor f
 
--- ---- no skip is taken back
+-- ---- no skip is undone
 
--- a record that passes over what is justified isn't counted
+-- a record that skips what is justified isn't counted
 none_counted : (t : Task) (all rs : List Record)
     → AllByRecursion (λ r. r.skipped ≡ true → is_justified t all r.morsel ≡ true) rs
     → AllByRecursion (λ r. r.skipped ≡ true → was_skipped all r.morsel ≡ true) rs
@@ -230,7 +230,7 @@ own_skip : (all : List Record) → AllByRecursion (λ r. r.skipped ≡ true → 
 own_skip [] = tt
 own_skip (r ∷ rs) = grind (arith, each-weaker, own_skip rs)
 
--- without a guess, or with one that is at most the k-th score, no skip is taken back
+-- without a guess, or with one that is at most the k-th score, no skip is undone
 pub none_back : NoneIsTakenBack
 none_back t guess hs floor fair s f low =
     let rs : List Record = all_records hs in

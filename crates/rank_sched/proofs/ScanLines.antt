@@ -1,4 +1,4 @@
--- A morsel's line is a scan for one cause: its record is no skip, or it was taken back.
+-- A morsel's line is a scan for one cause: its record isn't a skip, or its skip was undone.
 use Rattle.std.proofs.Common.{rules, ◌≡◌, ℕ, zero, suc, ◌<◌, ◌≤◌, Bool, true, false, not, List, [], ◌∷◌, Some, arith}
 use Rattle.std.proofs.lemmas.Grind.{common_steps}
 use Rattle.std.specs.Prelude.{◌↔◌, ◌⊎◌, ◌&&◌, slice_get}
@@ -19,7 +19,7 @@ times_there [] i r e = absurd cc
 times_there (x ∷ rs) zero r e = grind (arith, common_steps)
 times_there (x ∷ rs) (suc i) r e = search (rules, times-cons, times_there rs i r e)
 
--- a morsel with one record was passed over just where that record says so
+-- a morsel with one record was skipped if and only if that record says so
 skipped_once : (rs : List Record) (i : ℕ) (r : Record) → times r.morsel (morsels_of rs) ≤ 1 → slice_get rs i ≡ Some r
     → was_skipped rs r.morsel ≡ r.skipped
 skipped_once [] i r few e = absurd cc
@@ -36,7 +36,7 @@ skipped_once (x ∷ rs) (suc i) r few e = grind (
       (omega (arith, times-cons r.morsel x.morsel (morsels_of rs))) e,
 )
 
--- a skip that isn't justified is taken back, one that is justified stays
+-- a skip that isn't justified is undone, one that is justified stays
 causes : (skipped just : Bool) →
     (((skipped && just) ≡ false) ↔ ((skipped ≡ false) ⊎ ((skipped && not just) ≡ true)))
     × (¬ ((skipped ≡ false) × ((skipped && not just) ≡ true)))

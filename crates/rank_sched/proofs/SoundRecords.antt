@@ -53,7 +53,7 @@ greatest guess (s ∷ raised) =
 from_worker : ℕ → List Record → List Record
 from_worker w rs = filter (λ r. nat_le w r.worker) rs
 
--- how often a number stands among the morsels of records, of which the first may be left out
+-- how often a number occurs among the morsels of records, of which the first may be left out
 times-if : (x : ℕ) (b : Bool) (r : Record) (rs : List Record)
     → times x (morsels_of (cond b (r ∷ rs) rs)) ≡ cond b (one_if_equal r.morsel x) 0 + times x (morsels_of rs)
 times-if x true r rs = times-cons x r.morsel (morsels_of rs)

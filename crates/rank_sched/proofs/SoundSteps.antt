@@ -392,7 +392,7 @@ module _ (t : Task) (guess : Option ℤ) where
   itself None = tt
   itself (Some x) = inl refl
 
-  -- where the next number is the first, none was drawn
+  -- if the next number is the first, none was drawn
   none_times : (x : ℕ) → times x [] ≡ times_below x 0
   none_times x = search rules
 

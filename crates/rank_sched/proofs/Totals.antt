@@ -19,7 +19,7 @@ use Rattle.rank_sched.specs.Laws.{SkipsAreRight, SkipsStayOnwards}
 
 -- ---- sums over the numbers below n
 
--- how often a number stands in a list with one more in front
+-- how often a number occurs in a list with one more in front
 pub times-cons : (x y : ℕ) (ys : List ℕ) → times x (y ∷ ys) ≡ one_if_equal y x + times x ys
 times-cons x y ys = sum_by-cons (λ z. one_if_equal z x) y ys
 
@@ -94,7 +94,7 @@ pub fewer_above : (b c : ℤ) (xs : List Candidate) → b ≤ℤ c → above c x
 fewer_above b c [] le = omega arith
 fewer_above b c (x ∷ xs) le = grind (arith, ints, common_steps, fewer_above b c xs le)
 
--- where a skip stays, every skip of a later number stays
+-- if a skip stays, every skip of a later number stays
 pub skips_onwards : SkipsStayOnwards
 skips_onwards t rs m n fair le lt h s = grind (
   arith,

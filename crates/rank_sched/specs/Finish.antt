@@ -20,11 +20,11 @@ pub record AreMarks (test : ℕ → Bool) (n : ℕ) (marks : List Bool) : Type 0
   pub count : length marks ≡ n
   pub each : (m : ℕ) → m < n → mark marks m ≡ test m
 
--- each record is of one of n morsels
+-- each record belongs to one of n morsels
 abbrev pub AreWithin : ℕ → List Record → Type 0
 AreWithin n rs = AllByRecursion (λ r. r.morsel < n) rs
 
--- the pool has the best of what was scanned, and undone below n
+-- the pool has the best of what was scanned, or had its skip undone below n
 abbrev pub HasBackBelow : Task → List Record → ℕ → Pooled → Type 0
 HasBackBelow t rs n pool = pool ≡ best_pool t.k (scanned t rs ++ back_below t rs n)
 

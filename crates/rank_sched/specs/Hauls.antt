@@ -1,4 +1,4 @@
--- What workers bring home, of threads as of a machine: sound by itself, with the floor, and as one list of records.
+-- Hauls of workers, of threads as of a machine: sound by themselves, with the floor, and as one list of records.
 use Rattle.std.specs.Prelude.{◌≡◌, ℕ, ◌+◌, ◌<◌, ◌==◌, List, [], ◌∷◌, filter, ℤ, Option, option_to_list, All}
 use Rattle.std.specs.List.{flat_map, range_with_len, AllByRecursion, AllZip}
 use Rattle.ghcn_fields.specs.Counting.{HasEachBelow}
@@ -44,7 +44,7 @@ exchanges_in t h = exchanges t [] (records_of h)
 abbrev pub turns_of : Task → List Haul → List Exchange
 turns_of t hs = flat_map (exchanges_in t) hs
 
--- hauls from under a floor: it is the greatest of guess and raised scores, and floors seen rise and are of these
+-- hauls from under a floor: it is the greatest of guess and raised scores, and floors seen rise and are among these
 pub record AreUnderFloor (t : Task) (guess : Option ℤ) (hs : List Haul) (floor : Option ℤ) : Type 0 where
   pub floor_is : IsFloorOf guess (raised_in (turns_of t hs)) floor
   pub upward : AllByRecursion (λ h. SeeUpward (option_to_list guess) (exchanges_in t h)) hs
@@ -71,7 +71,7 @@ HaveRecords t w rs (h ∷ hs) =
 abbrev pub turns_by : Task → ℕ → List Record → List Exchange
 turns_by t workers rs = flat_map (λ w. exchanges t [] (records_by w rs)) (range_with_len 0 workers)
 
--- the records of a sound run of that many workers, all in one list, if those of each worker stand in their order
+-- the records of a sound run of that many workers, all in one list, if those of each worker are in their order
 pub record AreSoundRecords (t : Task) (guess : Option ℤ) (workers : ℕ) (rs : List Record) : Type 0 where
   -- records: they name the workers, each worker's rise by morsel, and each morsel has exactly one
   pub named : AllByRecursion (λ r. r.worker < workers) rs

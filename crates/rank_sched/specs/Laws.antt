@@ -109,12 +109,12 @@ abbrev pub RecordsAloneAreOne : Type 0
 RecordsAloneAreOne = (t : Task) (guess : Option ℤ) (rs rs' : List Record) → AreRecordsAlone t guess rs
     → AreRecordsAlone t guess rs' → rs ≡ rs'
 
--- a machine that failed answers out of memory to each event, stays as it is, and isn't stopped
+-- a machine that failed returns out of memory for each event, stays as it is, and isn't stopped
 abbrev pub FailedStaysFailed : Type 0
 FailedStaysFailed = (m m' : Running) (e : Event) (r : Result (Unit {0}) StepFault) → m.failed ≡ true
     → IsAnswered m e r m' → IsOfMemory r × (m' ≡ m) × (is_stopped m ≡ false)
 
--- an answer of out of memory leaves a machine that failed
+-- a step that returns out of memory leaves a machine that failed
 abbrev pub WantOfMemoryFails : Type 0
 WantOfMemoryFails = (m m' : Running) (e : Event) (r : Result (Unit {0}) StepFault) → IsOfMemory r → IsAnswered m e r m'
     → m'.failed ≡ true
@@ -195,12 +195,12 @@ abbrev pub NoneIsTakenBack : Type 0
 NoneIsTakenBack = (t : Task) (guess : Option ℤ) (hs : List Haul) (floor : Option ℤ) → IsFair t → AreSound t hs
     → AreUnderFloor t guess hs floor → IsLowGuess t guess → taken_back t (all_records hs) ≡ 0
 
--- what was scanned in the run, and then undone, has the first k of all candidates
+-- what was scanned in the run, or had its skip undone after it, has the first k of all candidates
 abbrev pub BestAreThere : Type 0
 BestAreThere = (t : Task) (hs : List Haul) → IsFair t → AreSound t hs
     → first t.k (scanned t (all_records hs) ++ back_below t (all_records hs) t.len) ≡ first t.k (all_of_task t)
 
--- and the pool of what was scanned and undone before a morsel says whether its skip stays
+-- and the pool of what was scanned, or had its skip undone before a morsel, says whether its skip stays
 abbrev pub PoolDecides : Type 0
 PoolDecides = (t : Task) (hs : List Haul) (n : ℕ) → IsFair t → AreSound t hs
     → bound_is_below (kth t.k (scanned t (all_records hs) ++ back_below t (all_records hs) n)) (t.bound n)
@@ -227,7 +227,7 @@ abbrev pub FewerWorkersAreSound : Type 0
 FewerWorkersAreSound = (t : Task) (guess : Option ℤ) (fewer more : ℕ) (rs : List Record) → fewer ≤ more
     → AreSoundRecords t guess fewer rs → AreSoundRecords t guess more rs
 
--- a line is a scan if and only if its morsel's record isn't a skip or the morsel is undone, and never are both so
+-- a line is a scan if and only if its morsel's record isn't a skip or the skip is undone, and never are both so
 abbrev pub ScansHaveOneCause : Type 0
 ScansHaveOneCause = (p : Planned) (rs : List Record) (i : ℕ) (r : Record) (x : Morsel)
     → HasEachBelow (length p.morsels) (morsels_of rs) → slice_get rs i ≡ Some r →

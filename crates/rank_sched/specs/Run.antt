@@ -1,4 +1,4 @@
--- What contracts see of a machine, and what its calls answer.
+-- What contracts see of a machine, and what its calls return.
 use Rattle.std.specs.Prelude.{◌≡◌, ◌⊎◌, ℕ, ◌<◌, ◌≤◌, ◌++◌, Bool, true, false, ◌&&◌, not, List, [], ◌∷◌, fold, length}
 use Rattle.std.specs.Prelude.{take, map, zip, IfSome, Option, None, Some, Result, Ok, Err, ℤ, slice_get, ⊤}
 use Rattle.ghcn_fields.specs.Floor.{IsScore}
@@ -91,14 +91,14 @@ pub record Steps (m : Running) (e : Event) (m' : Running) : Type 0 where
   pub step : IsStep (task_of m.plan) m.state e m'.state
   pub kept : m' ≡ record m { state = m'.state }
 
--- what a machine answers to an event, and what it is afterwards
+-- what a machine returns for an event, and what it is afterwards
 abbrev pub IsAnswered : {A : Type 0} → Running → Event → Result A StepFault → Running → Type 0
 IsAnswered m e (Ok done) m' = Steps m e m'
 IsAnswered m e (Err (NoWorker w)) m' = Refuses m e (NoWorker w) m'
 IsAnswered m e (Err (NotNow w)) m' = Refuses m e (NotNow w) m'
 IsAnswered m e (Err (Memory x)) m' = Fails m e m'
 
--- the answer is out of memory
+-- the result is out of memory
 abbrev pub IsOfMemory : {A : Type 0} → Result A StepFault → Type 0
 IsOfMemory (Ok done) = ⊥
 IsOfMemory (Err (NoWorker w)) = ⊥

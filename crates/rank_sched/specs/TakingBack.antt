@@ -28,7 +28,7 @@ was_skipped rs m = list_any (λ r. (r.morsel == m) && r.skipped) rs
 abbrev pub stays : Task → List Record → ℕ → Bool
 stays t rs m = was_skipped rs m && is_justified t rs m
 
--- the morsel was skipped, and is undone
+-- the morsel was skipped, and the skip is undone
 abbrev pub is_taken_back : Task → List Record → ℕ → Bool
 is_taken_back t rs m = was_skipped rs m && not (is_justified t rs m)
 
@@ -36,7 +36,7 @@ is_taken_back t rs m = was_skipped rs m && not (is_justified t rs m)
 abbrev pub taken_back : Task → List Record → ℕ
 taken_back t rs = count_by (λ r. r.skipped && not (stays t rs r.morsel)) rs
 
--- the candidates of the morsels below n that are undone, in the plan's order
+-- the candidates of the morsels below n whose skips are undone, in the plan's order
 abbrev pub back_below : Task → List Record → ℕ → List Candidate
 back_below t rs zero = []
 back_below t rs (suc n) = back_below t rs n ++ (if is_taken_back t rs n then t.candidates n else [])

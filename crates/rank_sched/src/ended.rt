@@ -17,7 +17,7 @@ use rank_pool::Pool;
 use rank_scores::bound_is_below;
 use std::alloc::Global;
 
-/// The answer of a run whose workers brought these hauls home.
+/// The answer of a run whose workers have these hauls.
 ///
 /// A skip stays if its bound is strictly below the k-th score of all that was scanned in the run
 /// and of all skipped morsels before it. The others are undone.

@@ -9,7 +9,7 @@ pub enum Event {
     Claim(u64),
     /// It looks at the floor.
     Look(u64),
-    /// It scans its morsel or passes it over, and may raise the floor.
+    /// It scans its morsel or skips it, and may raise the floor.
     Settle(u64),
 }
 

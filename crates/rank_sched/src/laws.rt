@@ -1,4 +1,4 @@
-//! Laws of plans, of runs, and of the hauls that runs bring home.
+//! Laws of plans, of runs, and of the hauls of runs.
 
 ghost use Rattle.rank_sched.specs.Laws as laws;
 
@@ -43,7 +43,7 @@ pub fn workers_join()
 {}
 
 /// Sound hauls are right, whatever the guess, and nothing is undone if the guess is low. A
-/// line is a scan for one cause: its morsel wasn't skipped, or was undone.
+/// line is a scan for one cause: its morsel wasn't skipped, or the skip was undone.
 pub fn hauls_are_right()
     ensures raised { laws.RaisedIsReached }
     ensures skips { laws.SkipsAreRight }

@@ -25,7 +25,7 @@ pub struct Machine<'a> {
     /// The number that the next claim draws.
     next: u64,
     floor: Option<i64>,
-    /// Where each worker is in its turn, and what it brings home.
+    /// Where each worker is in its turn, and its haul.
     turns: Vec<Turn>,
     hauls: Vec<Haul>,
     /// Memory was refused.
@@ -121,7 +121,7 @@ impl<'a> Machine<'a> {
         }
     }
 
-    /// A worker that looked scans its morsel or passes it over, and may raise the floor.
+    /// A worker that looked scans its morsel or skips it, and may raise the floor.
     fn settle(&mut self, worker: u64) -> Result<(), StepFault>
         requires { self.old.failed ≡ false }
         ensures { IsAnswered self.old (events.Settle worker) result self.new }
@@ -145,7 +145,7 @@ impl<'a> Machine<'a> {
         }
     }
 
-    /// What the workers bring home, once all have stopped.
+    /// The hauls of the workers, once all have stopped.
     pub fn hauls(self) -> Vec<Haul>
         requires { is_stopped self ≡ true }
         ensures hauls { hauls.AreHaulsOf self.entry.state.workers result.items }

@@ -7,8 +7,7 @@ ghost use Rattle.rank_sched.specs.Task.{task_of};
 use crate::Plan;
 use rank_scores::bound_is_below;
 
-/// What one worker did with one morsel: the floor that it saw, and whether it passed the morsel
-/// over.
+/// What one worker did with one morsel: the floor that it saw, and whether it skipped the morsel.
 #[derive(Clone, Copy, Debug, PartialEq, Eq)]
 pub struct Record {
     pub morsel: u64,

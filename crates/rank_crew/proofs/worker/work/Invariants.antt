@@ -4,7 +4,7 @@ use Rattle.rank_crew.specs.Workers.{IsKept}
 use Rattle.rank_crew.proofs.Turning.{IsMidway}
 use Rattle.rank_crew.proofs.worker.work.Given as goal
 
--- the worker stands between two turns
+-- the worker is between two turns
 abbrev pub invariant-loop-seat : goal.invariant-loop-seat
 invariant-loop-seat g l = record {
   kept : IsKept l.board l.fn.seat l.seat;

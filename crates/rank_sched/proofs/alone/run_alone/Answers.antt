@@ -46,7 +46,7 @@ hauls-requires c =
     let past : length c.args.plan.now.morsels ≤ c.loop.counter = omega arith in
     last_claim c.args.plan.now c.args.guess c.loop.counter _ _ past c.loop.invariant c.in_ok-advance-4.ensures
 
--- what the worker brings home is sound
+-- the worker's haul is sound
 pub finish-requires : goal.finish-requires
 finish-requires c = grind (arith, lone_sound)
 

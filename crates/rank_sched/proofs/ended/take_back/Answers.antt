@@ -7,7 +7,7 @@ use Rattle.rank_sched.proofs.ended.take_back.Goals.{then-index+then-not-is_justi
 use Rattle.rank_sched.proofs.ended.take_back.Goals.{else-index-via-then-index+else-not-is_justified}
 use Rattle.rank_sched.proofs.ended.take_back.Goals.{else-index-via-else-index}
 
--- the records are of morsels
+-- the records belong to morsels
 pub skips_of-requires : goal.skips_of-requires
 skips_of-requires c = grind (arith, once_within)
 

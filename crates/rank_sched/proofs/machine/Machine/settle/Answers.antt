@@ -35,7 +35,7 @@ invariant_of-self c =
           c.in-Ok.ensures.raised c.greater_floor-self-inside.ensures),
     )
 
--- what is true of every machine is true after want of memory
+-- what is true of every machine is true after it ran out of memory
 pub invariant_of-self-in-Err : goal.invariant_of-self-in-Err
 invariant_of-self-in-Err c =
     let here : slice_get c.self.inside.turns.items c.args.worker ≡ Some (Looked c.in-Looked.morsel c.in-Looked.seen) =
@@ -45,7 +45,7 @@ invariant_of-self-in-Err c =
           c.index_mut.ensures.value c.in-Err.ensures.err) (running_failed _ true c.self.invariant.1),
     )
 
--- the morsel is scanned or passed over
+-- the morsel is scanned or skipped
 pub returns-in-Ok : goal.returns-in-Ok
 returns-in-Ok c =
     let here : slice_get c.self.inside.turns.items c.args.worker ≡ Some (Looked c.in-Looked.morsel c.in-Looked.seen) =
