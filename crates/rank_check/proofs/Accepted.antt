@@ -1,4 +1,4 @@
--- A verdict accepts if and only if both papers were read and every test passes.
+-- A verdict accepts if and only if the report and the certificate were both read and every test passes.
 use Rattle.std.proofs.Common.{◌≡◌, ℕ, Bool, true, false, cond, List, [], ◌∷◌, ◌++◌, Some, None, Result, Ok, Err, refl}
 use Rattle.std.proofs.Common.{ap, ◌∙◌}
 use Rattle.std.specs.List.{flat_map, enumerate_from, AllByRecursion}
@@ -30,7 +30,7 @@ none_fails (t ∷ ts) e = elim (t.0) as (λ b. t.0 ≡ b → cond b (first_faili
       | false ↦ λ p f. absurd cc
     ] refl e
 
--- and where all pass, none fails
+-- and if all pass, none fails
 pub all_pass : (ts : List Test) → AllByRecursion Passes ts → first_failing ts ≡ None
 all_pass [] h = refl
 all_pass (t ∷ ts) h = ap (λ (b : Bool). cond b (first_failing ts) (Some t.1)) h.0 ∙ all_pass ts h.1
@@ -45,7 +45,7 @@ accepted-none (t ∷ ts) h e = elim (t.0) as (λ b. or_accepted (cond b (first_f
       | false ↦ λ f. absurd (h.0 f)
     ] e
 
--- tests of two lists refuse where those of each do
+-- tests of two lists refuse if those of each do
 both : (xs ys : List Test) → AllByRecursion Refuses xs → AllByRecursion Refuses ys → AllByRecursion Refuses (xs ++ ys)
 both [] ys h k = k
 both (x ∷ xs) ys h k = (h.0, both xs ys h.1 k)
@@ -91,7 +91,7 @@ certificate-refuse q c rows z = (
   ),
 )
 
--- both papers were read, and every test of what they say passes
+-- the report and the certificate were both read, and every test of what they say passes
 pub record AllPass (q : Asked) (c : Contents) (r : Result Reported ℕ) (z : Result Certified ℕ) : Type 0 where
   pub report : Reported
   pub certificate : Certified
@@ -99,7 +99,7 @@ pub record AllPass (q : Asked) (c : Contents) (r : Result Reported ℕ) (z : Res
   pub certificate_read : z ≡ Ok certificate
   pub tests : AllByRecursion Passes (report_tests q c report ++ certificate_tests q c (of_rows report.rows) certificate)
 
--- so papers that are accepted pass all tests
+-- so a report and a certificate that are accepted pass all tests
 pub accepted-pass : (q : Asked) (c : Contents) (r : Result Reported ℕ) (z : Result Certified ℕ)
     → judged q c r z ≡ Accepted → AllPass q c r z
 accepted-pass q c (Err n) z e = absurd cc
@@ -115,7 +115,7 @@ accepted-pass q c (Ok r) (Ok z) e = record {
       (certificate-refuse q c (of_rows r.rows) z)) e);
 }
 
--- and papers that pass all tests are accepted
+-- and a report and a certificate that pass all tests are accepted
 pub pass-accepted : (q : Asked) (c : Contents) (r : Result Reported ℕ) (z : Result Certified ℕ) → AllPass q c r z
     → judged q c r z ≡ Accepted
 pass-accepted q c r z h =

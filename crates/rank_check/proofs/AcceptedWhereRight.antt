@@ -1,4 +1,4 @@
--- Papers are accepted if and only if both are right.
+-- A report and a certificate are accepted if and only if both are right.
 use Rattle.std.proofs.Common.{◌≡◌, inl, inr, ℕ, ◌≤◌, false, cond, map, subst, Option, true, List, [], ◌∷◌, ◌++◌, length}
 use Rattle.std.proofs.Common.{Ok, None, refl, sym, ap}
 use Rattle.std.proofs.Common.{◌∙◌, ℤ}
@@ -45,7 +45,7 @@ module _ (certificates : CertificatesAreRead) where
   bare_read q asked = (certificates (certificate_text (bare q)) (bare q)).1
       (record { can_be = record { asked = asked; kth = tt; entries = tt; counts = inl (refl, refl) }; text = refl })
 
-  -- queries that can be asked are the same where their texts are
+  -- queries that can be asked are the same if their texts are
   pub one_query : (a b : Asked) → IsAsked a → IsAsked b → same_query a b ≡ true → a ≡ b
   one_query a b can_a can_b e =
       let texts : query_text a ≡ query_text b = (bytes_decides (query_text a) (query_text b)).0 e in

@@ -56,7 +56,7 @@ abbrev text : List (List ℕ) → List ℕ
 text [] = []
 text (l ∷ ls) = l ++ 10 ∷ text ls
 
--- ---- the right papers of the highest one, and what stands between their heads and ends
+-- ---- the right report and certificate of the highest one, and what is between their heads and ends
 
 -- the row of the highest
 abbrev row : List ℕ
@@ -98,7 +98,7 @@ bad_row line why = Refused Report line why
 abbrev bad_entry : ℕ → Why → Verdict
 bad_entry line why = Refused Certificate line why
 
--- the right papers are accepted
+-- the right report and certificate are accepted
 accepted : verdict (ask 1) dataset right_report right_certificate ≡ Accepted
 unfolding digits year_and_rest month_and_day read_query read_words keyword says number element score_at no_score_at
     region_at season_at period_at days_from_civil day_count days_of_years days_of_months
@@ -186,7 +186,7 @@ unfolding digits year_and_rest month_and_day read_query read_words keyword says 
     region_at season_at period_at days_from_civil day_count days_of_years days_of_months
 versions = (refl, refl, refl, refl, refl)
 
--- ---- of two errors the one of the earlier test is told
+-- ---- of two errors the one of the earlier test is reported
 
 -- the report's query before its rows; the form of the certificate before the report's query
 early : (verdict (ask 2) dataset
@@ -206,7 +206,7 @@ one_of_two line =
     ∷ [])) right_certificate
 
 -- a wrong name before the wrong order; a row before the next one; a row before the number of rows; the number of rows,
--- told at the end line, before the certificate's query
+-- reported at the end line, before the certificate's query
 rows_in_turn : (two_rows (row ∷ codes "2 ZZA00000001 2020-07-01 2020-07-01 31.1 C BRAVO" ∷ [])
     ≡ bad_row 4 NotACandidate)
     × (two_rows (codes "1 ZZA00000001 2020-07-02 2020-07-02 30.5 C ALPHA"

@@ -52,7 +52,7 @@ before_some (t ∷ ts) us v e =
       | false ↦ λ f. f
     ] e
 
--- the first of two lists that fails is the first of the one, or else of the other
+-- the first of two lists that fails is the first of the one, or otherwise of the other
 pub first_failing-append : (ts us : List Test)
     → option_or (first_failing ts) (first_failing us) ≡ first_failing (ts ++ us)
 first_failing-append [] us = refl
@@ -63,7 +63,7 @@ first_failing-append (t ∷ ts) us =
       | false ↦ refl
     ]
 
--- none of two lists fails where none of either does
+-- none of two lists fails if none of either does
 none_of_first : (ts us : List Test) → first_failing (ts ++ us) ≡ None → first_failing ts ≡ None
 none_of_first [] us e = refl
 none_of_first (t ∷ ts) us e =
@@ -129,14 +129,14 @@ module _ {X : Type 0} (tests : ℕ × X → List Test) where
 
 -- ---- places
 
--- what is said of what stands at a place is said of what is made of it
+-- what is said of what is at a place is said of what is made of it
 pub said_there : {X Y R : Type 0} (g : X → Y) (F : Y → R) (xs : List X) (i : ℕ) (r : R)
     → option_map (λ x. F (g x)) (slice_get xs i) ≡ Some r → (y : Y) × (slice_get (map g xs) i ≡ Some y) × (r ≡ F y)
 said_there g F [] i r e = absurd cc
 said_there g F (x ∷ xs) zero r e = let same : F (g x) ≡ r = cc in (g x, refl, sym same)
 said_there g F (x ∷ xs) (suc i) r e = said_there g F xs i r e
 
--- an element stands at its place
+-- an element is at its place
 pub stands_at : {X : Type 0} (xs : List X) (i : ℕ) (x : X) → i < length xs → x ≡ get_or xs i x → slice_get xs i ≡ Some x
 stands_at xs i x lt e = slice_get-get_or xs i x lt ∙ ap (λ z. Some z) (sym e)
 
@@ -194,11 +194,11 @@ pub counted_there : (rows : List Candidate) (e : Entry) (wanted : ℕ) (count : 
     → is_counted rows e count ≡ option_map_or (λ n. n == wanted) count true
 counted_there rows e wanted count h = ap (λ (w : ℕ). option_map_or (λ n. n == w) count true) (sym h)
 
--- the greater of two numbers is at most a bound where both are
+-- the greater of two numbers is at most a bound if both are
 both_low : (x y b : ℤ) → int_le x b ≡ true → int_le y b ≡ true → int_le (int_max x y) b ≡ true
 both_low x y b e f = grind (arith, ints)
 
--- and isn't where the first isn't
+-- and isn't if the first isn't
 left_high : (x y b : ℤ) → int_le x b ≡ false → int_le (int_max x y) b ≡ false
 left_high x y b e = grind (arith, ints)
 
@@ -217,7 +217,7 @@ max-bounded x y b =
       | false ↦ λ e. left_high x y b e
     ] refl
 
--- the greatest of some numbers is at most a bound where each is
+-- the greatest of some numbers is at most a bound if each is
 fold-bounded : (a bound : ℤ) (cs : List Candidate) → int_le (fold int_max a (map (λ c. c.score) cs)) bound
     ≡ (int_le a bound && list_all (λ c. int_le c.score bound) cs)
 fold-bounded a bound [] = sym (and-true (int_le a bound))

@@ -31,7 +31,7 @@ use Rattle.rank_check.proofs.Failing.{first_failing-append}
 
 -- ---- the number of rows
 
--- a count that stops at 64 bits tells of few rows what the number itself does
+-- a count that stops at 64 bits compares with few rows as the number itself does
 counted : (n rows : ℕ) → rows ≤ 1000 → nat_le (in_64_bits n) rows ≡ nat_le n rows
 counted n rows few = by (nat_le n rows) refl
   where
@@ -74,7 +74,7 @@ module _ (q : Asked) (c : Contents) (own rows : List Row) (lent : rows ≡ own) 
   rows_decided stations fault listed is =
       subst (λ (rs : List Row). IsFaultOfRows stations rs found fault) lent is q c listed are
 
--- the error of the rows, or else of their number, is that of the report
+-- the error of the rows, or otherwise of their number, is that of the report
 pub report_decided : (q : Asked) (c : Contents) (r : Reported) (fault few : Option Verdict)
     → same_query r.query q ≡ true → fault ≡ first_failing (tests_of_rows q c r.rows)
     → few ≡ first_failing (number_test q.k (length (all_candidates q c)) (length r.rows) ∷ [])
@@ -89,7 +89,7 @@ report_decided q c r fault few same rows number =
 
 -- ---- a certificate
 
--- the error of the lines, or else of their number, is that of the certificate
+-- the error of the lines, or otherwise of their number, is that of the certificate
 pub certificate_decided : (q : Asked) (c : Contents) (rows : List Candidate) (z : Certified)
     (fault few : Option Verdict)
     → same_query z.query q ≡ true → same_score z.kth (kth_of_query q c) ≡ true

@@ -92,7 +92,7 @@ counted-by : (b : Bool) (s t x : ℕ) → t + cond b 0 x ≡ s + cond b 0 (in_64
 counted-by true s t x e low high = let same : t ≡ s = omega (arith, e) in ap in_64_bits same
 counted-by false s t x e low high = one_more s t x e low high
 
--- those that a row doesn't precede are one more where the candidate precedes the row
+-- those that a row doesn't precede are one more if the candidate precedes the row
 pub counted-passed : (marks : List Mark) → AreInOrder marks → (d : Candidate) (p : ℕ)
     → IsPlace (candidates_at marks) d p → (c : Candidate) → Contains (candidates_at marks) c
     → in_64_bits (passed (counted_at p marks) c)
@@ -194,7 +194,7 @@ met-own marks c (j, lt, e) =
     (omega (arith, lt, length-map marks (shown_by c), length-map marks (λ m. m.candidate)))
     (ap (is_met_at c) (get_or-map (shown_by c) marks j (unmet c)) ∙ met)
 
--- a candidate is met where it was, or is the one that is offered
+-- a candidate is met if it was, or is the one that is offered
 pub shown-met : (d : Candidate) (marks : List Mark) (c : Candidate) → Contains (candidates_at marks) c
     → is_met (map (shown_by d) marks) c ≡ (is_met marks c || is_eq (full_cmp d c))
 shown-met d marks c there = elim (is_eq (full_cmp d c)) as (λ t. is_eq (full_cmp d c) ≡ t
@@ -206,9 +206,9 @@ shown-met d marks c there = elim (is_eq (full_cmp d c)) as (λ t. is_eq (full_cm
       | false ↦ λ h. met-other d marks c h ∙ sym (or_false (is_met marks c))
     ] refl
 
--- ---- where no row ties with the candidate
+-- ---- if no row ties with the candidate
 
--- where the mark before the place precedes the candidate none is at a place
+-- if the mark before the place precedes the candidate none is at a place
 none_ties : (marks : List Mark) → AreInOrder marks → (d : Candidate) (p : ℕ) → p ≤ length marks
     → IsPlace (candidates_at marks) d p → ties_before p marks d ≡ false
     → (j : ℕ) (c : Candidate) → j < length (candidates_at marks) → get_or (candidates_at marks) j c ≡ d → ⊥
@@ -237,7 +237,7 @@ none_ties marks up d (suc q) bound here none j c lt e = elim (ltb q j) as (λ t.
       cc
 ] refl
 
--- where the mark before the place precedes the candidate no mark is its own
+-- if the mark before the place precedes the candidate no mark is its own
 pub not_marked : (marks : List Mark) → AreInOrder marks → (d : Candidate) (p : ℕ) → p ≤ length marks
     → IsPlace (candidates_at marks) d p → ties_before p marks d ≡ false → (c : Candidate)
     → Contains (candidates_at marks) c → is_eq (full_cmp d c) ≡ false
@@ -259,7 +259,7 @@ met-known d old new c e f = λ i. record { candidate = c; present = e i; ahead =
 
 module _ (marks : List Mark) (up : AreInOrder marks) (d : Candidate) (p : ℕ) (bound : p ≤ length marks)
     (here : IsPlace (candidates_at marks) d p) where
-  -- where no mark is the candidate's own it is counted at its place
+  -- if no mark is the candidate's own it is counted at its place
   pub meet-apart : ties_before p marks d ≡ false → Meets d marks (counted_at p marks)
   meet-apart none = record {
     same = counted-same p marks;
@@ -270,7 +270,7 @@ module _ (marks : List Mark) (up : AreInOrder marks) (d : Candidate) (p : ℕ) (
         (counted-passed marks up d p here c there);
   }
 
-  -- where one may be it is also taken into account at that one
+  -- if one may be it is also taken into account at that one
   pub meet-own : Meets d marks (counted_at p (map (shown_by d) marks))
   meet-own = record {
     same = counted-same p (map (shown_by d) marks) ∙ shown-same d marks;
@@ -292,7 +292,7 @@ rows-met d old new m (c ∷ rows) h =
     ap (λ (x : Met). x ∷ map (known new) rows) (m.met c h.0)
     ∙ ap (λ (l : List Met). met_by d (known old c) ∷ l) (rows-met d old new m rows h.1)
 
--- and so it is with a candidate that changes no mark where it comes after the last row
+-- and so it is with a candidate that changes no mark if it comes after the last row
 pub rows-offered : (last : Option Candidate) (d : Candidate) (old new : List Mark) (rows : List Candidate)
     → IsLast last rows → AllByRecursion (Contains (candidates_at old)) rows
     → (reaches last d ≡ true → Meets d old new) → (reaches last d ≡ false → new ≡ old)

@@ -56,7 +56,7 @@ module _ (candidates : CandidatesStay) (series : MorselsStay) (score : KthStays)
       certificates_tested rows z in
       λ i. or_accepted (first_failing (report i ++ certificate i))
 
--- on the texts of papers
+-- on the texts of a report and a certificate
 pub verdict_stays : CandidatesStay → MorselsStay → KthStays → VerdictStays
 verdict_stays candidates series score q c report certificate =
     judged-same candidates series score q c (read_report report) (read_certificate certificate)

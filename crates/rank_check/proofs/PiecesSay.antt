@@ -1,4 +1,4 @@
--- If all pieces are right, the papers say what is right.
+-- If all pieces are right, the report and the certificate say what is right.
 use Rattle.std.proofs.Common.{◌≡◌, ◌⊎◌, inl, inr, ℕ, zero, suc, ◌+◌, ◌-◌, ◌≤◌, ◌<◌, Bool, true, false, cond, not, List}
 use Rattle.std.proofs.Common.{[]}
 use Rattle.std.proofs.Common.{◌∷◌, length, map, take, filter, Option, Some, None, refl, sym, ap, ◌∙◌, subst, arith}
@@ -52,7 +52,7 @@ use Rattle.rank_check.proofs.SortedCandidates.{in_order, ordered-permutation, or
 pub row_in : (rows : List Named) (d : Candidate) → In (of_rows rows) d → (row : Named) × In rows row × (row.0 ≡ d)
 row_in rows d h = map_in (λ (r : Named). r.0) rows d h
 
--- how many rows are of a station
+-- how many rows belong to a station
 pub rows_counted : (id : StationId) (rows : List Named)
     → length (rows_with id rows) ≡ count_by (λ c. same_id c.id id) (of_rows rows)
 rows_counted id [] = refl
@@ -194,7 +194,7 @@ module _ (q : Asked) (c : Contents) (right : IsContents c) (rows : List Named) w
       abbrev xs : List Candidate
       xs = in_order (all_candidates q c)
 
-      -- the worst stands among the candidates of the rows
+      -- the worst is among the candidates of the rows
       worst_at : worst_of q.k rows ≡ slice_get (of_rows rows) (q.k - 1)
       worst_at = sym (slice_get-map (λ (r : Named). r.0) rows (q.k - 1))
 
@@ -328,7 +328,7 @@ counts_two z is e = by is.counts
     by (inl h) = absurd (let no : 1 ≡ 2 = sym h.0 ∙ e in omega (arith, no))
     by (inr h) = h.1
 
--- so papers whose pieces are right say what is right
+-- so a report and a certificate whose pieces are right say what is right
 pub pieces_say : (q : Asked) (c : Contents) (r : Reported) (z : Certified) → IsAsked q → IsContents c
     → AreApart (all_candidates q c) → IsReported r → IsCertified z → z.version ≡ 2 → AreRightPieces q c r z
     → SaysRightReport q c r × SaysRight q c z

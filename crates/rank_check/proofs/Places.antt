@@ -47,7 +47,7 @@ not_itself c = elim (precedes c c) as (λ t. precedes c c ≡ t → t ≡ false)
 ] refl
 
 module _ (ks : List Candidate) (up : IsSorted full_cmp ks) where
-  -- what stands later isn't before what stands earlier
+  -- what is later isn't before what is earlier
   pub not_before : (i j : ℕ) (d : Candidate) → i ≤ j → j < length ks
       → is_lt (full_cmp (get_or ks j d) (get_or ks i d)) ≡ false
   not_before i j d le lt =
@@ -85,7 +85,7 @@ at-mark marks i c = get_or-map (λ m. m.candidate) marks i (unmet c)
 
 -- ---- places
 
--- the marks that a candidate doesn't precede stand before the others
+-- the marks that a candidate doesn't precede come before the others
 pub parted : (marks : List Mark) → AreInOrder marks → (d : Candidate)
     → IsPartitionedBy (λ m. not (precedes d m.candidate)) marks
 parted marks up d i j m le lt e =

@@ -23,7 +23,7 @@ or_apart : (a b c : Bool) → ((a || b) || c) ≡ (a || (b || c))
 or_apart true b c = refl
 or_apart false b c = refl
 
--- it is found where it is among those that were offered
+-- it is found if it is among those that were offered
 pub wanted-found : (w : Wanted) (cs : List Candidate)
     → (fold wanted_by w cs).found ≡ (w.found || is_one_of cs w.candidate)
 wanted-found w [] = sym (or_false w.found)
@@ -71,7 +71,7 @@ missing_or true true m = refl
 missing_or true false m = refl
 missing_or false p m = refl
 
--- none is missing where the rows have all
+-- none is missing if the rows have all
 pub missing-all : (rows : List Row) (worst : Option Candidate) (cs : List Candidate)
     → list_any (is_missing rows worst) cs
     ≡ not (list_all (λ c. not (is_within_worst worst c) || is_one_of (candidates_of rows) c) cs)

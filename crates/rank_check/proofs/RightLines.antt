@@ -32,7 +32,7 @@ le_from a b e = grind (arith, ints)
 le_to : (a b : ℤ) → a ≤ℤ b → int_le a b ≡ true
 le_to a b h = grind (arith, ints)
 
--- no candidate is above a number where the test passes
+-- no candidate is above a number if the test passes
 pub above_from : (bound : ℤ) (cs : List Candidate) → list_all (λ c. int_le c.score bound) cs ≡ true
     → AllByRecursion (λ c. c.score ≤ℤ bound) cs
 above_from bound [] e = tt
@@ -62,7 +62,7 @@ score_to (Some a) = (Decides-int_eq a a).1 refl
 
 -- ---- entries
 
--- what is skipped where the test passes
+-- what is skipped if the test passes
 pub below_from : (skipped low : Bool) → (not skipped || low) ≡ true → skipped ≡ true → low ≡ true
 below_from true low e f = e
 below_from false low e f = absurd cc
@@ -72,7 +72,7 @@ pub below_to : (skipped low : Bool) → (skipped ≡ true → low ≡ true) → 
 below_to true low h = h refl
 below_to false low h = refl
 
--- a count is the number of rows where the test passes
+-- a count is the number of rows if the test passes
 counted_from : (rows : List Candidate) (e : Entry) (n : ℕ) → is_counted rows e (Some n) ≡ true → n ≡ count_of rows e
 counted_from rows e n h = eqb-true n (count_of rows e) h
 
@@ -162,7 +162,7 @@ module _ (q : Asked) (c : Contents) (kth : Option ℤ) (rows : List Candidate) (
       ∙ ap (λ (l : List ℕ). count_of rows e ∷ l)
       (counts_right (n + 1) es ns (places_behind n x ns counts there) (omega (arith, long)) h.1.1.1.1)
 
-  -- the test of a count passes where there is none
+  -- the test of a count passes if there is none
   none_counted : (n : ℕ) (e : Entry) → ((j : ℕ) → slice_get counts (n + j) ≡ slice_get no_counts j)
       → is_counted rows e (slice_get counts (n + 1 - 1)) ≡ true
   none_counted n e there = ap (is_counted rows e) (count_here n [] there)

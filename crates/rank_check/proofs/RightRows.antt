@@ -26,7 +26,7 @@ use Rattle.rank_check.proofs.SortedCandidates.{best_first, one_precedes}
 
 -- ---- names
 
--- a row has the name of its station where the test passes
+-- a row has the name of its station if the test passes
 named_as : (stations : List Station) (row : Named) → is_named stations row ≡ true
     → name_of stations row.0.id ≡ Some row.1
 named_as stations row e = by (find (is_station_of row.0.id) stations) e
@@ -36,7 +36,7 @@ named_as stations row e = by (find (is_station_of row.0.id) stations) e
     by None f = absurd cc
     by (Some s) f = ap (λ (n : List ℕ). Some n) ((bytes_decides (trimmed s.name) row.1).0 f)
 
--- and the test passes where it has
+-- and the test passes if it has
 has_name : (stations : List Station) (row : Named) → name_of stations row.0.id ≡ Some row.1
     → is_named stations row ≡ true
 has_name stations row e = by (find (is_station_of row.0.id) stations) e
@@ -48,19 +48,19 @@ has_name stations row e = by (find (is_station_of row.0.id) stations) e
 
 -- ---- places
 
--- one more is taken where something stands there
+-- one more is taken if something is there
 take-next : {X : Type 0} (xs : List X) (n m : ℕ) (x : X) → slice_get xs n ≡ Some x
     → take (suc m) (drop n xs) ≡ x ∷ take m (drop (suc n) xs)
 take-next [] n m x e = absurd cc
 take-next (y ∷ ys) zero m x e = let same : y ≡ x = cc in ap (λ z. z ∷ take m ys) same
 take-next (y ∷ ys) (suc n) m x e = take-next ys n m x e
 
--- what a list was made of stands where what was made does
+-- what was made of an element is at the element's place
 made_from : {X Y : Type 0} (f : X → Y) (xs : List X) (i : ℕ) (x : X) → slice_get xs i ≡ Some x
     → slice_get (map f xs) i ≡ Some (f x)
 made_from f xs i x e = slice_get-map f xs i ∙ ap (option_map f) e
 
--- what stands among the first of a list stands in the list
+-- what is among the first of a list is in the list
 from_first : {X : Type 0} (k : ℕ) (xs : List X) (i : ℕ) (x : X) → slice_get (take k xs) i ≡ Some x
     → slice_get xs i ≡ Some x
 from_first zero xs i x e = absurd cc
@@ -68,7 +68,7 @@ from_first (suc k) [] i x e = absurd cc
 from_first (suc k) (y ∷ ys) zero x e = e
 from_first (suc k) (y ∷ ys) (suc i) x e = from_first k ys i x e
 
--- as many are taken, or all
+-- the first n are the first k, if n is k or all were taken
 taken-enough : {X : Type 0} (k n : ℕ) (xs : List X) → n ≤ k → (nat_le k n || nat_le (length xs) n) ≡ true
     → take n xs ≡ take k xs
 taken-enough k n xs low e = by (nat_le k n) refl e
@@ -82,7 +82,7 @@ taken-enough k n xs low e = by (nat_le k n) refl e
         let short : length xs ≤ n = leb-true (length xs) n g in
         take_all n xs short ∙ sym (take_all k xs (omega arith))
 
--- and so it is where some are those that are taken
+-- and so it is if some are those that are taken
 enough-taken : {X : Type 0} (k n : ℕ) (xs : List X) → n ≡ length (take k xs)
     → (nat_le k n || nat_le (length xs) n) ≡ true
 enough-taken k n xs e =
@@ -144,7 +144,7 @@ module _ (q : Asked) (c : Contents) (apart : AreApart (all_candidates q c)) (row
   -- ---- and back
 
   module _ (best_are : candidates_of rows ≡ best_of_query q c) where
-    -- what stands among the rows stands there in order
+    -- what is among the rows is there in order
     row_at : (i : ℕ) (row : Named) → slice_get rows i ≡ Some row → slice_get (in_order all) i ≡ Some row.0
     row_at i row e =
         let made : slice_get (candidates_of rows) i ≡ Some row.0 = made_from (λ r. r.0) rows i row e in

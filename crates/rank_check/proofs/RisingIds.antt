@@ -19,7 +19,7 @@ ids_of es = map (λ e. e.id) es
 
 -- ---- the order of IDs
 
--- an ID stands before another
+-- an ID comes before another
 abbrev pub IsBefore : StationId → StationId → Type 0
 IsBefore a b = stands_before a b ≡ true
 
@@ -27,11 +27,11 @@ IsBefore a b = stands_before a b ≡ true
 ranks : IsStrictWeakOrder stands_before
 ranks = strictly_ranks (λ i. i)
 
--- of two at most one stands before the other
+-- of two at most one comes before the other
 pub one_way : (a b : StationId) → IsBefore a b → IsBefore b a → ⊥
 one_way = ordered.one_way stands_before ranks
 
--- each stands before all after it
+-- each comes before all after it
 abbrev pub RiseAll : List StationId → Type 0
 RiseAll is = ordered.Descend IsBefore is
 

@@ -121,7 +121,7 @@ kept_descends test (c ∷ cs) h = elim (test c) as (λ b. Descends (cond b (c �
   | false ↦ kept_descends test cs h.1
 ]
 
--- nothing is kept where nothing passes
+-- nothing is kept if nothing passes
 pub none_kept : (test : Candidate → Bool) (cs : List Candidate) → AllByRecursion (λ y. test y ≡ false) cs
     → filter test cs ≡ []
 none_kept test [] h = refl
@@ -151,7 +151,7 @@ within_front worst (c ∷ cs) h = by (within_front worst cs h.1) (is_within_wors
         let no : false ≡ true = sym e ∙ own in absurd cc))) in
         none ∙ ap (λ (l : List Candidate). take (length l) (c ∷ cs)) (sym none)
 
--- what is within the k-th, or all where there are fewer than k, are the first k
+-- what is within the k-th, or all if there are fewer than k, are the first k
 pub first_within : (cs : List Candidate) (n : ℕ) → Descends cs
     → filter (is_within_worst (slice_get cs n)) cs ≡ take (suc n) cs
 first_within [] n h = refl

@@ -1,4 +1,4 @@
--- If papers say what is right, all their pieces are right.
+-- If a report and a certificate say what is right, all their pieces are right.
 use Rattle.std.proofs.Common.{◌≡◌, inl, ℕ, suc, ◌-◌, ◌≤◌, Bool, true, false, cond, not, List, []}
 use Rattle.std.proofs.Common.{◌∷◌, length, map, take, filter, Option, Some, None, refl, sym, ap, ◌∙◌, subst, arith}
 use Rattle.std.proofs.Common.{◌||◌}
@@ -87,7 +87,7 @@ module _ (q : Asked) (c : Contents) (right : IsContents c) (apart : AreApart (al
   first_are : of_rows rows ≡ take q.k xs
   first_are = best_are ∙ best_first (all_candidates q c) apart q.k
 
-  -- the worst stands at its place in order
+  -- the worst is at its place in order
   worst_at : worst_of q.k rows ≡ slice_get xs (q.k - 1)
   worst_at =
       let next : q.k ≡ suc (q.k - 1) = omega (arith, some) in
@@ -137,7 +137,7 @@ module _ (q : Asked) (c : Contents) (right : IsContents c) (apart : AreApart (al
 
   module _ (names : AllByRecursion (λ row. name_of c.stations row.0.id ≡ Some row.1) rows) (kth : Option ℤ)
       (kth_is : kth ≡ score_of worst) where
-    -- no row is of a series that was skipped
+    -- no row belongs to a series that was skipped
     none_skipped : (e : Entry) (u : Usable) → In (morsels q c) u → IsRightEntry q kth e u → e.skipped ≡ true
         → (row : Named) → In rows row → row.0.id ≡ u.id → ⊥
     none_skipped e u h r s row k i =
@@ -244,7 +244,7 @@ module _ (q : Asked) (c : Contents) (right : IsContents c) (apart : AreApart (al
     lines_accepted (e ∷ es) (m ∷ ms) h k = (line_accepted e m k.0 h.0, lines_accepted es ms h.1 k.1)
 
     module _ (es : List Entry) (entries : AllZip (IsRightEntry q kth) es (morsels q c)) where
-      -- a station without a line is no morsel
+      -- a station without a line isn't a morsel
       pub absent_right : AllByRecursion (IsAbsent q c es) c.stations
       absent_right = for_each (IsAbsent q c es) c.stations (λ st h none. by st h none
           (is_morsel q st (own_series q c st)) refl)
@@ -260,7 +260,7 @@ module _ (q : Asked) (c : Contents) (right : IsContents c) (apart : AreApart (al
               let yes = in_any (λ x. same_id x.id st.id) es e.0 e.1 own in
               let no : false ≡ true = sym none ∙ yes in absurd cc
 
-      -- the entry of a row is no skip
+      -- the entry of a row isn't a skip
       scanned_row : (row : Named) → In rows row → is_scanned es row.0.id ≡ true
       scanned_row row h =
           let is = row_candidate row.0 (in_map (λ (r : Named). r.0) rows row h) in
@@ -277,7 +277,7 @@ module _ (q : Asked) (c : Contents) (right : IsContents c) (apart : AreApart (al
           by e own true s none = absurd (none s)
           by e own false s none = ap (λ (b : Bool). not b && same_id e.id row.0.id) s ∙ own
 
-      -- each row is of a series that was scanned
+      -- each row belongs to a series that was scanned
       pub rows_scanned : AllByRecursion (λ row. is_scanned es row.0.id ≡ true) rows
       rows_scanned = for_each (λ row. is_scanned es row.0.id ≡ true) rows scanned_row
 
@@ -285,7 +285,7 @@ module _ (q : Asked) (c : Contents) (right : IsContents c) (apart : AreApart (al
       pub ids_up : RiseAll (ids_of es)
       ids_up = subst RiseAll (sym (named_ids q kth es (morsels q c) entries)) (morsel_ids q c right)
 
--- so papers that say what is right have right pieces
+-- so a report and a certificate that say what is right have right pieces
 pub said_in_pieces : (q : Asked) (c : Contents) (r : Reported) (z : Certified) → IsAsked q → IsContents c
     → AreApart (all_candidates q c) → z.version ≡ 2 → SaysRightReport q c r × SaysRight q c z → AreRightPieces q c r z
 said_in_pieces q c r z asked right apart version h =

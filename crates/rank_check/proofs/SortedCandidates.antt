@@ -88,7 +88,7 @@ module _ (all : List Candidate) (apart : AreApart all) where
   rank_at i c e = (found_in (λ d. rank_in all d == i) all c
       (of_rank-is all (in_order all) (ordered-permutation all) (ordered-descends all apart) i ∙ e)).1
 
-  -- a candidate of a rank stands at that place in order
+  -- a candidate of a rank is at that place in order
   pub at_rank : (i : ℕ) (c : Candidate) → is_one_of all c ≡ true → (rank_in all c == i) ≡ true
       → slice_get (in_order all) i ≡ Some c
   at_rank i c among rank =
@@ -99,7 +99,7 @@ module _ (all : List Candidate) (apart : AreApart all) where
       let asked : rank_in all c ≡ i = eqb-true _ _ rank in
       ap (slice_get sorted) (sym asked ∙ own) ∙ there.1
 
-  -- what stands at a place in order is a candidate
+  -- what is at a place in order is a candidate
   pub among : (i : ℕ) (c : Candidate) → slice_get (in_order all) i ≡ Some c → is_one_of all c ≡ true
   among i c e =
       list_any-IsPermutation (λ d. is_eq (full_cmp d c)) all (in_order all) (ordered-permutation all)
@@ -109,7 +109,7 @@ module _ (all : List Candidate) (apart : AreApart all) where
   pub best_first : (k : ℕ) → best k all ≡ take k (in_order all)
   best_first k = best-is all (in_order all) (ordered-permutation all) (ordered-descends all apart) k
 
-  -- there are as many
+  -- there are as many in order as before
   pub ordered-length : length (in_order all) ≡ length all
   ordered-length = length_permutation all (in_order all) (ordered-permutation all)
 

@@ -151,7 +151,7 @@ top-behind q ss s highest e =
     ap (λ (h : Option ℤ). map (top q) ss ++ record { id = s.id; highest = h } ∷ []) e
     ∙ sym (map-append (top q) ss (s ∷ []))
 
--- ---- rows that a candidate can't be, nor stand before
+-- ---- rows that a candidate can't be, nor come before
 
 -- what doesn't come after another doesn't come after what that one doesn't come after
 reach_on : (a b c : Candidate) → is_le (full_cmp a b) ≡ true → is_le (full_cmp b c) ≡ true → is_le (full_cmp a c) ≡ true
@@ -197,7 +197,7 @@ behind (Some l) d c h e = elim (is_le (full_cmp d c)) as (λ b. is_le (full_cmp 
   | false ↦ λ f. refl
 ] refl
 
--- what comes after is no tie
+-- what comes after isn't a tie
 not_tied : (o : Ordering) → is_le o ≡ false → is_eq o ≡ false
 not_tied Less e = refl
 not_tied Equal e = absurd cc

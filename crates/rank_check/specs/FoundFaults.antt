@@ -33,7 +33,7 @@ IsFaultOfRow stations rows place found fault = (q : Asked) (c : Contents) → st
     → option_map (λ row. first_failing (row_tests q c (map named_in rows) (place + 1, named_in row)))
     (slice_get rows place) ≡ Some fault
 
--- ---- lines of morsels, if the certificate has this k-th score, and of the report's rows that many are of each line
+-- ---- lines of morsels, if the certificate has this k-th score, and that many of the report's rows belong to each line
 
 -- the error of all lines with these counts, if these are the greatest scores of the morsels
 abbrev pub IsFaultOfLines : Option ℤ → List ℕ → List ℕ → List Entry → List Top → Option Verdict → Type 0

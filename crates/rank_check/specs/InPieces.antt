@@ -1,4 +1,4 @@
--- Papers with a certificate of version 2, judged in pieces: the head, each line, and each station without a line.
+-- A report and a certificate of version 2, checked in pieces: the head, each line, and each station without a line.
 use Rattle.std.specs.Prelude.{◌≡◌, ◌↔◌, ℕ, ◌-◌, false, List, filter, Option}
 use Rattle.std.specs.Prelude.{None, Some, slice_get}
 use Rattle.std.specs.List.{list_any, find, AllByRecursion, AllZip}
@@ -52,13 +52,14 @@ pub record AreRightPieces (q : Asked) (c : Contents) (r : Reported) (z : Certifi
   pub lines : AllZip (IsAccepted q c r.rows) z.entries z.counts
   pub absent : AllByRecursion (IsAbsent q c z.entries) c.stations
 
--- papers of version 2 say what is right if and only if their pieces are right, in whatever order these are judged
+-- a report and a certificate of version 2 say what is right if and only if their pieces are right, in whatever order
+-- these are checked
 abbrev pub RightInPieces : Type 0
 RightInPieces = (q : Asked) (c : Contents) (r : Reported) (z : Certified) → IsAsked q → IsContents c → IsReported r
     → IsCertified z → z.version ≡ 2
     → (SaysRightReport q c r × SaysRight q c z) ↔ AreRightPieces q c r z
 
--- so the verdict on the texts of such papers accepts if and only if their pieces are right
+-- so the verdict on the texts of such a report and such a certificate accepts if and only if their pieces are right
 abbrev pub AcceptedInPieces : Type 0
 AcceptedInPieces = (q : Asked) (c : Contents) (report certificate : List ℕ) (r : Reported) (z : Certified)
     → IsAsked q → IsContents c → IsReportOf r report → IsCertificateOf z certificate → z.version ≡ 2

@@ -9,12 +9,13 @@ use Rattle.rank_papers.specs.Certificate.{IsCertificate}
 use Rattle.rank_check.specs.declared.verdict.Verdict.TheVariants.{Accepted}
 use Rattle.rank_check.specs.Tests.{verdict}
 
--- papers are accepted if and only if the report is the right one, and the certificate is a right one
+-- a report and a certificate are accepted if and only if the report is the right one, and the certificate is a right
+-- one
 abbrev pub AcceptedWhereRight : Type 0
 AcceptedWhereRight = (q : Asked) (c : Contents) (report certificate : List ℕ) → IsAsked q → IsContents c →
     (verdict q c report certificate ≡ Accepted) ↔ (IsReport q c report × IsCertificate q c certificate)
 
--- the verdict on papers is the same from what a query needs of the data as from all of them
+-- the verdict on a report and a certificate is the same from what a query needs of the data as from all of them
 abbrev pub VerdictStays : Type 0
 VerdictStays = (q : Asked) (c : Contents) (report certificate : List ℕ) →
     verdict q (data_for q c) report certificate ≡ verdict q c report certificate

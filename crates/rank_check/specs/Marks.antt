@@ -40,7 +40,7 @@ passed marks c = sum_by (passed_at c) marks
 abbrev pub known : List Mark → Candidate → Met
 known marks c = record { candidate = c; present = is_met marks c; ahead = in_64_bits (passed marks c) }
 
--- the marks stand in the order of candidates
+-- the marks are in the order of candidates
 abbrev pub AreInOrder : List Mark → Type 0
 AreInOrder marks = IsSorted full_cmp (candidates_at marks)
 

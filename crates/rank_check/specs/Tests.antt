@@ -128,7 +128,7 @@ abbrev pub or_accepted : Option Verdict → Verdict
 or_accepted None = Accepted
 or_accepted (Some v) = v
 
--- the verdict on what both papers say, once both have been read
+-- the verdict on what the report and the certificate say, once both have been read
 abbrev pub judged : Asked → Contents → Result Reported ℕ → Result Certified ℕ → Verdict
 judged q c (Err line) z = Refused Report line Form
 judged q c (Ok r) (Err line) = Refused Certificate line Form

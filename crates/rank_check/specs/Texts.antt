@@ -10,7 +10,7 @@ use Rattle.rank_check.specs.declared.verdict.Why.TheVariants.{OtherFloor}
 use Rattle.rank_check.specs.declared.verdict.Verdict.{Verdict}
 use Rattle.rank_check.specs.declared.verdict.Verdict.TheVariants.{Accepted, Refused}
 
--- the word for a paper
+-- the word for a report or a certificate
 abbrev pub paper_text : Paper → List ℕ
 paper_text Report = codes "report"
 paper_text Certificate = codes "certificate"

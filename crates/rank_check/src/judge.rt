@@ -23,8 +23,8 @@ use rank_query::Query;
 use rank_scores::candidates_of_queries;
 use std::alloc::Global;
 
-/// The verdict of the first test that fails, after one pass over the data, if the report is of this
-/// query.
+/// The verdict of the first test that fails, after one pass over the data, if the report belongs to
+/// this query.
 pub(crate) fn judge(
     alloc: Global,
     dataset: &Data,
@@ -36,7 +36,8 @@ pub(crate) fn judge(
     ensures { IfOk result (λ verdict. verdict ≡ tests.judged query.now dataset.now
         (Ok (reported_in report.now)) (Ok (certified_in certificate.now))) }
 {
-    // The k-th row has the k-th score, since no two candidates of right data are of one station and begin on one day.
+    // The k-th row has the k-th score, since no two candidates of right data belong to one station and begin on one
+    // day.
     candidates_of_queries();
     certificates_are_read();
     let _stations = dataset.stations();
@@ -117,7 +118,7 @@ fn certificate_fault(
     Ok(lines_fault(certificate.kth, wanted.as_slice(), counts, lines, tops).or(few))
 }
 
-/// How many rows of a report are of the station of each line.
+/// How many rows of a report belong to the station of each line.
 fn wanted_counts(alloc: Global, rows: &[Row], lines: &[Line]) -> Result<Vec<u64>, Memory>
     ensures { IfOk result (λ wanted. wanted.items ≡ map (count_of (candidates_of rows.now)) lines.now) }
 {

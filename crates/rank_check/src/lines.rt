@@ -11,7 +11,7 @@ use rank_papers::Line;
 use rank_scores::bound_is_below;
 
 /// The first test that a line fails, after the lines before it, if the certificate has this k-th
-/// score and these counts, and of the report's rows that many are of each line's station.
+/// score and these counts, and that many of the report's rows belong to each line's station.
 pub(crate) fn lines_fault(
     kth: Option<i64>,
     wanted: &[u64],

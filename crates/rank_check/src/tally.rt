@@ -334,7 +334,7 @@ fn is_met(marks: &[Mark], place: usize, candidate: &Candidate) -> bool
     requires { place ≤ length marks.now }
     ensures { result ≡ order.is_met marks.now candidate.now }
 {
-    // Nearly each row's own mark stands right before its place.
+    // Nearly each row's own mark comes right before its place.
     is_met_before(marks, place, candidate) || is_met_anywhere(marks, candidate)
 }
 

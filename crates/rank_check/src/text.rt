@@ -1,4 +1,5 @@
-//! The line that a verdict prints: `accepted`, or `refused PAPER line L WHY`.
+//! The line that a verdict prints: `accepted`, `refused report line L WHY` or `refused certificate
+//! line L WHY`.
 
 use crate::{Paper, Verdict, Why};
 use std::fmt;

@@ -1,4 +1,4 @@
--- The counts of lines whose IDs rise add up to the number of rows, if each row is of a line that was scanned.
+-- The counts of lines whose IDs rise add up to the number of rows, if each row belongs to a line that was scanned.
 use Rattle.std.proofs.Common.{◌≡◌, ℕ, ◌+◌, Bool, true, false, cond, not, List, [], ◌∷◌, length, map}
 use Rattle.std.proofs.Common.{refl, sym, ap, ◌∙◌, subst, arith, ◌||◌}
 use Rattle.std.specs.Prelude.{◌&&◌}
@@ -24,7 +24,7 @@ sum-cons n ns = sum_by-cons (λ (x : ℕ). x) n ns
 
 -- ---- one row
 
--- nothing is counted where no line hits
+-- nothing is counted if no line hits
 no_hits : (i : StationId) (es : List Entry) → AllByRecursion (λ e. hits i e ≡ false) es → sum (map (hit i) es) ≡ 0
 no_hits i [] h = refl
 no_hits i (e ∷ es) h =
@@ -102,7 +102,7 @@ counts-more d ds (e ∷ es) = omega (
   counts-more d ds es,
 )
 
--- no rows are none
+-- without rows the counts add up to 0
 no_rows : (es : List Entry) → sum (map (count_of []) es) ≡ 0
 no_rows [] = refl
 no_rows (e ∷ es) =

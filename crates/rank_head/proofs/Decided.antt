@@ -89,7 +89,7 @@ module _ (q : Asked) (r : Reported) (z : Certified) where
   other_certificate e f =
       first_fails of_certificate behind f ∙ sym (first_passes of_report (of_certificate ∷ behind) e)
 
-  -- papers of the query are left to the tests after
+  -- a report and a certificate of the query are left to the tests after
   pub behind_queries : same_query r.query q ≡ true → same_query z.query q ≡ true
       → head_fault q r z
       ≡ first_failing (place_tests q r.rows z.kth z.entries ++ count_tests r.rows z.entries z.counts)
@@ -109,7 +109,7 @@ module _ (q : Asked) (rows : List Named) (kth : Option ℤ) (es : List Entry) (o
       (first_failing (rising_tests es)) = cc in
       made ∙ early_tests q rows kth es
 
-  -- where none of them fails the IDs of lines rise
+  -- if none of them fails the IDs of lines rise
   pub lines_rise : t ≡ None → IdsRise es
   lines_rise e =
       let none : r ≡ None = none_behind s r (ap is_some (sym all ∙ e)) in
@@ -128,7 +128,7 @@ module _ (q : Asked) (r : Reported) (z : Certified) (report : same_query r.query
     (rows_are : map named_in rows ≡ r.rows) (lines_are : lines ≡ z.entries) (counts_are : counts ≡ z.counts)
     (seen : Option HeadFault) (places : seen ≡ first_failing (order_tests (map named_in rows)
     ++ floor_test q (map named_in rows) z.kth ∷ rising_tests lines)) where
-  -- the tests of order, of the k-th score and of lines, of these papers
+  -- the tests of order, of the k-th score and of lines, of this report and this certificate
   abbrev early : List HeadTest
   early = order_tests r.rows ++ floor_test q r.rows z.kth ∷ rising_tests z.entries
 
@@ -136,7 +136,7 @@ module _ (q : Asked) (r : Reported) (z : Certified) (report : same_query r.query
   abbrev late : List HeadTest
   late = scanned_tests z.entries r.rows ++ count_tests r.rows z.entries z.counts
 
-  -- the early ones are those of the papers
+  -- the early ones are those of the report and the certificate
   same_places : seen ≡ first_failing early
   same_places =
       places
@@ -155,7 +155,7 @@ module _ (q : Asked) (r : Reported) (z : Certified) (report : same_query r.query
   pub places_decide : is_some seen ≡ true → seen ≡ head_fault q r z
   places_decide e = some_decides early late seen same_places e ∙ all_decide
 
-  -- or else the series of rows and the counts do
+  -- or otherwise the series of rows and the counts do
   pub counts_decide : is_some seen ≡ false
       → first_failing (scanned_tests lines (map named_in rows) ++ count_tests (map named_in rows) lines counts)
       ≡ head_fault q r z

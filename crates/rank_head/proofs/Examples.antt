@@ -49,7 +49,7 @@ rows = row a (pos 311) ∷ row b (pos 305) ∷ []
 abbrev lines : List Entry
 lines = line false a (pos 311) ∷ line false b (pos 305) ∷ line true c (pos 300) ∷ []
 
--- no error: with counts, of version 1 without, and where there are fewer rows than were asked for
+-- no error: with counts, of version 1 without, and if there are fewer rows than were asked for
 right : (head_fault (ask 2) (report rows) (certificate (Some (pos 305)) lines (1 ∷ 1 ∷ 0 ∷ [])) ≡ None)
     × (head_fault (ask 2) (report rows)
     (record { version = 1; query = ask 2; kth = Some (pos 305); entries = lines; counts = [] }) ≡ None)
@@ -76,7 +76,7 @@ order : (head_fault (ask 2) (report (row b (pos 305) ∷ row a (pos 311) ∷ [])
 unfolding digits
 order = (refl, refl, refl)
 
--- a k-th score that isn't that of the second row, none at all, and one where there is none
+-- a k-th score that isn't that of the second row, none at all, and one if there should be none
 floors : (head_fault (ask 2) (report rows) (certificate (Some (pos 311)) [] []) ≡ Some OtherFloor)
     × (head_fault (ask 2) (report rows) (certificate None [] []) ≡ Some OtherFloor)
     × (head_fault (ask 2) (report (row a (pos 311) ∷ [])) (certificate (Some (pos 311)) [] []) ≡ Some OtherFloor)

@@ -19,7 +19,7 @@ module _ {A : Type 0} (passes : A → Bool) (why : ℕ → HeadFault) where
   front_passes n x xs e =
       ap (λ b. cond b (first_failing (on_lines passes why (suc n) xs)) (Some (why n))) e
 
-  -- where all pass none is refused
+  -- if all pass none is refused
   none_fails : (n : ℕ) (xs : List A) → AllWithin (λ x. passes x ≡ true) xs 0 (length xs)
       → first_failing (on_lines passes why n xs) ≡ None
   none_fails n [] h = refl
@@ -64,7 +64,7 @@ first_place-map f passes xs r h = λ why n. ap first_failing (on_lines-map f pas
 
 -- ---- neighbours
 
--- neighbours stand side by side
+-- neighbours are side by side
 pub neighbours-zip : {A : Type 0} (xs : List A) → neighbours xs ≡ zip xs (drop 1 xs)
 neighbours-zip [] = refl
 neighbours-zip (x ∷ []) = refl
@@ -98,7 +98,7 @@ first_failing-append (t ∷ ts) us = by t.0 (first_failing-append ts us)
     by true behind = behind
     by false behind = refl
 
--- where none is refused each passes
+-- if none is refused each passes
 pub all_pass : {A : Type 0} (passes : A → Bool) (why : ℕ → HeadFault) (n : ℕ) (xs : List A)
     → first_failing (on_lines passes why n xs) ≡ None → AllByRecursion (λ x. passes x ≡ true) xs
 all_pass passes why n [] e = tt
@@ -110,7 +110,7 @@ all_pass passes why n (x ∷ xs) e = by (passes x) refl e (all_pass passes why (
     by true t f behind = (t, behind f)
     by false t f behind = absurd cc
 
--- and where each passes none is refused
+-- and if each passes none is refused
 pub none_refused : {A : Type 0} (passes : A → Bool) (why : ℕ → HeadFault) (n : ℕ) (xs : List A)
     → AllByRecursion (λ x. passes x ≡ true) xs → first_failing (on_lines passes why n xs) ≡ None
 none_refused passes why n [] h = refl

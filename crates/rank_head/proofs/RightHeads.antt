@@ -33,7 +33,7 @@ both_none : (o p : Option HeadFault) → option_or o p ≡ None → (o ≡ None)
 both_none None p e = (refl, e)
 both_none (Some w) p e = absurd cc
 
--- none of the tests of two lists fails where none of either does
+-- none of the tests of two lists fails if none of either does
 pub none_of : (ts us : List HeadTest) → first_failing (ts ++ us) ≡ None
     → (first_failing ts ≡ None) × (first_failing us ≡ None)
 none_of ts us e = both_none (first_failing ts) (first_failing us) (sym (first_failing-append ts us) ∙ e)
@@ -82,7 +82,7 @@ module _ (certificates : CertificatesAreRead) where
   bare_read q asked = (certificates (certificate_text (bare q)) (bare q)).1
       (record { can_be = record { asked = asked; kth = tt; entries = tt; counts = inl (refl, refl) }; text = refl })
 
-  -- queries that can be asked are the same where their texts are
+  -- queries that can be asked are the same if their texts are
   pub one_query : OneQuery
   one_query a b can_a can_b e =
       let texts : query_text a ≡ query_text b = (bytes_decides (query_text a) (query_text b)).0 e in
@@ -159,7 +159,7 @@ module _ (certificates : CertificatesAreRead) (q : Asked) (r : Reported) (z : Ce
   abbrev of_lines : List HeadTest
   of_lines = floor_test q r.rows z.kth ∷ rising_tests z.entries
 
-  -- where no test fails the head is right
+  -- if no test fails the head is right
   right_from : head_fault q r z ≡ None → IsRightHead q r z
   right_from e =
       let one = front_none of_report (of_certificate ∷ behind) e in

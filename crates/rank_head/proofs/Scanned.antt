@@ -50,7 +50,7 @@ rise-behind e (f ∷ es) h = h.1
 abbrev pub AreBehind : StationId → List Entry → Type 0
 AreBehind id es = AllByRecursion (λ f. by_bytes id f.id ≡ Less) es
 
--- what stands before the first line of some that rise stands before all
+-- what comes before the first line of some that rise comes before all
 before_all : (id : StationId) (e : Entry) (es : List Entry) → by_bytes id e.id ≡ Less → IdsRise (e ∷ es)
     → AreBehind id (e ∷ es)
 before_all id e [] b h = (b, tt)
@@ -63,7 +63,7 @@ pub behind_first : (e : Entry) (es : List Entry) → IdsRise (e ∷ es) → AreB
 behind_first e [] h = tt
 behind_first e (f ∷ es) h = before_all e.id f es (less (by_bytes e.id f.id) h.0) h.1
 
--- so no line is of a station before all of them
+-- so no line belongs to a station before all of them
 none_scanned : (id : StationId) (es : List Entry) → AreBehind id es → is_scanned es id ≡ false
 none_scanned id [] h = refl
 none_scanned id (e ∷ es) h =
@@ -83,7 +83,7 @@ at_behind id [] i d h below = absurd (omega arith)
 at_behind id (e ∷ es) zero d h below = h.0
 at_behind id (e ∷ es) (suc i) d h below = at_behind id es i d h.1 (omega arith)
 
--- if the line at a place is of a station, it says whether the station was scanned
+-- if the line at a place belongs to a station, it says whether the station was scanned
 pub scanned_at : (id : StationId) (es : List Entry) (i : ℕ) (d : Entry) → IdsRise es → i < length es
     → by_bytes (get_or es i d).id id ≡ Equal → is_scanned es id ≡ not (get_or es i d).skipped
 scanned_at id [] i d h below e = absurd (omega arith)
@@ -109,9 +109,9 @@ scanned_at id (x ∷ es) (suc i) d h below e =
     by true f g = ap (λ s. s || is_scanned es id) f ∙ g
     by false f g = g
 
--- ---- where there is none
+-- ---- if there is none
 
--- no line of some is of a station
+-- no line of some belongs to a station
 abbrev AreOthers : StationId → List Entry → Type 0
 AreOthers id es = (k : ℕ) (d : Entry) → k < length es → same_id (get_or es k d).id id ≡ false
 

@@ -30,7 +30,7 @@ module _ (id : StationId) where
   hit-none : (e : Entry) → hits id e ≡ false → hit id e ≡ 0
   hit-none e h = ap (λ (b : Bool). cond b 1 0) h
 
-  -- where no line hits nothing is counted
+  -- if no line hits nothing is counted
   none_more : (count : Entry → ℕ) (es : List Entry) → AllByRecursion (λ e. hits id e ≡ false) es
       → map count es ≡ map (λ e. hit id e + count e) es
   none_more count [] h = refl
@@ -46,7 +46,7 @@ module _ (id : StationId) where
   miss_at (e ∷ es) zero d h below = h.0
   miss_at (e ∷ es) (suc i) d h below = miss_at es i d h.1 (omega arith)
 
-  -- the first line misses where one after it hits
+  -- the first line misses if one after it hits
   before_misses : (e : Entry) (es : List Entry) (i : ℕ) (d : Entry) → IdsRise (e ∷ es) → i < length es
       → hits id (get_or es i d) ≡ true → hits id e ≡ false
   before_misses e es i d up below h = by (hits id e) refl
@@ -141,7 +141,7 @@ next-counted rows es n row old new below at e more =
 
 -- ---- how many
 
--- no more rows are of a line's station than there are
+-- no more rows belong to a line's station than there are
 few_of : (ds : List Candidate) (e : Entry) → count_of ds e ≤ length ds
 few_of ds e = by e.skipped
   where

@@ -25,7 +25,7 @@ HeadTest = Bool × HeadFault
 
 -- ---- lines
 
--- a test of each of these, which stand on the lines from this one on
+-- a test of each of these, which are on the lines from this one on
 abbrev pub on_lines : {A : Type 0} → (A → Bool) → (ℕ → HeadFault) → ℕ → List A → List HeadTest
 on_lines passes why line [] = []
 on_lines passes why line (x ∷ xs) = (passes x, why line) ∷ on_lines passes why (suc line) xs
@@ -58,11 +58,11 @@ floor_test q rows kth = (same_score kth (kth_of_best q.k (of_rows rows)), OtherF
 
 -- ---- rows and lines of series
 
--- each row precedes the next; the second stands on line 4 of the report
+-- each row precedes the next; the second is line 4 of the report
 abbrev pub order_tests : List Named → List HeadTest
 order_tests rows = on_lines (λ two. precedes two.0.0 two.1.0) OutOfOrder 4 (neighbours rows)
 
--- an ID stands before another
+-- an ID comes before another
 abbrev pub stands_before : StationId → StationId → Bool
 stands_before a b = is_lt (slice_cmp nat_cmp a.0 b.0)
 
@@ -70,15 +70,15 @@ stands_before a b = is_lt (slice_cmp nat_cmp a.0 b.0)
 abbrev pub IdsRise : List Entry → Type 0
 IdsRise es = AllByRecursion (λ two. stands_before two.0.id two.1.id ≡ true) (neighbours es)
 
--- the test of that; the second stands on line 5 of the certificate
+-- the test of that; the second is line 5 of the certificate
 abbrev pub rising_tests : List Entry → List HeadTest
 rising_tests es = on_lines (λ two. stands_before two.0.id two.1.id) NotRising 5 (neighbours es)
 
--- a line is of this station, and the series wasn't skipped
+-- a line belongs to this station, and the series wasn't skipped
 abbrev pub is_scanned : List Entry → StationId → Bool
 is_scanned es id = list_any (λ e. not e.skipped && same_id e.id id) es
 
--- each row is of a series that was scanned; the first stands on line 3 of the report
+-- each row belongs to a series that was scanned; the first is line 3 of the report
 abbrev pub scanned_tests : List Entry → List Named → List HeadTest
 scanned_tests es rows = on_lines (λ row. is_scanned es row.0.id) NotScanned 3 rows
 
@@ -87,7 +87,7 @@ abbrev pub place_tests : Asked → List Named → Option ℤ → List Entry → 
 place_tests q rows kth es =
     order_tests rows ++ floor_test q rows kth ∷ rising_tests es ++ scanned_tests es rows
 
--- each count is the one that is wanted; the first stands on line 4 of the certificate
+-- each count is the one that is wanted; the first is on line 4 of the certificate
 abbrev pub matching_tests : List ℕ → List ℕ → List HeadTest
 matching_tests counts wanted = on_lines (λ two. two.0 == two.1) NotCounted 4 (zip counts wanted)
 
@@ -97,7 +97,7 @@ count_tests rows es counts = matching_tests counts (map (count_of (of_rows rows)
 
 -- ---- the head
 
--- the tests of a report and a certificate, as papers of this query
+-- the tests of a report and a certificate, as those of this query
 abbrev pub head_tests : Asked → Reported → Certified → List HeadTest
 head_tests q r z =
     (same_query r.query q, OtherReportQuery)

@@ -4,7 +4,7 @@ use Rattle.ghcn_files.specs.declared.station.StationId.{StationId}
 use Rattle.ghcn_files.specs.Ids.{same_id}
 use Rattle.rank_papers.specs.Certificate.{Entry}
 
--- a line is of this station, and its series wasn't skipped
+-- a line belongs to this station, and its series wasn't skipped
 abbrev pub hits : StationId → Entry → Bool
 hits i e = not e.skipped && same_id e.id i
 

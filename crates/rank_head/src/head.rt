@@ -1,5 +1,5 @@
 //! The head of a report and a certificate: query, order of rows, k-th score, order of lines, and
-//! that each row is of a series that was scanned and counted.
+//! that each row belongs to a series that was scanned and counted.
 
 ghost use Rattle.std.specs.Prelude.{◌≡◌, ◌++◌, ◌∷◌, None, IfOk, map};
 ghost use Rattle.ghcn_fields.specs.Faults.{first_failing};

@@ -13,8 +13,8 @@ use ghcn_fields::Memory;
 use rank_papers::{Line, Row};
 use std::alloc::Global;
 
-/// The refusal of the first line whose ID doesn't come after that of the line before it. The
-/// second line of a series stands on line 5.
+/// The refusal of the first line whose ID doesn't come after that of the line before it. The second
+/// line of a series is line 5 of the certificate.
 pub(crate) fn rise_fault(lines: &[Line]) -> Option<HeadFault>
     ensures { result ≡ first_failing (tests.rising_tests lines.now) }
 {
@@ -24,7 +24,7 @@ pub(crate) fn rise_fault(lines: &[Line]) -> Option<HeadFault>
     })
 }
 
-/// The place of the first line whose ID doesn't stand before that of the next.
+/// The place of the first line whose ID doesn't come before that of the next.
 fn first_not_rising(lines: &[Line]) -> Option<usize>
     ensures place { IsFirstPlace (λ two. tests.stands_before two.0.id two.1.id)
         (tests.neighbours lines.now) result }
@@ -37,9 +37,9 @@ fn first_not_rising(lines: &[Line]) -> Option<usize>
     pairs.position(|(line, next)| !line.id.cmp(&next.id).is_lt())
 }
 
-/// The refusal of the first row that is of no series that was scanned, or otherwise of the first count, if
-/// there are any, that isn't the number of rows of its line's station. The first line of a series stands on
-/// line 4.
+/// The refusal of the first row that belongs to no series that was scanned, or otherwise of the first
+/// count, if there are any, that isn't the number of rows of its line's station. The first line of a series
+/// is line 4 of the certificate.
 pub(crate) fn count_fault(
     alloc: Global,
     rows: &[Row],

@@ -1,4 +1,5 @@
-//! The rows of a report: their order, the k-th score, and the series that they are of and counted with.
+//! The rows of a report: their order, the k-th score, and the series that they belong to and are counted
+//! with.
 
 ghost use Rattle.std.specs.Prelude.{◌≡◌, ℕ, ◌+◌, ◌^◌, ◌<◌, true, [], ◌∷◌, map, length, replicate, slice_index};
 ghost use Rattle.std.specs.Prelude.{None, IfOk, IfSome};
@@ -35,7 +36,8 @@ pub fn kth_score(query: &Query, rows: &[Row]) -> Option<i64>
     Some(row.candidate.score)
 }
 
-/// The refusal of the first row that the one before it doesn't precede. The second stands on line 4.
+/// The refusal of the first row that the one before it doesn't precede. The second row is line 4 of the
+/// report.
 pub(crate) fn order_fault(rows: &[Row]) -> Option<HeadFault>
     ensures { result ≡ first_failing (tests.order_tests (map named_in rows.now)) }
 {
@@ -69,8 +71,8 @@ pub(crate) fn floor_fault(query: &Query, rows: &[Row], kth: Option<i64>) -> Opti
     }
 }
 
-/// The refusal of the first row that is of no series that was scanned. The first stands on line 3. If there
-/// is none, each row was counted with the line of its station.
+/// The refusal of the first row that belongs to no series that was scanned. The first row is line 3 of the
+/// report. If there is none, each row was counted with the line of its station.
 pub(crate) fn scanned_fault(lines: &[Line], rows: &[Row], counts: &mut [u64]) -> Option<HeadFault>
     requires rise { tests.IdsRise lines.now }
     requires none { counts.old ≡ replicate (length lines.now) 0 }
@@ -83,8 +85,8 @@ pub(crate) fn scanned_fault(lines: &[Line], rows: &[Row], counts: &mut [u64]) ->
     })
 }
 
-/// The place of the first row that is of no series that was scanned. Each row before it is counted with the
-/// line of its station.
+/// The place of the first row that belongs to no series that was scanned. Each row before it is counted
+/// with the line of its station.
 fn first_not_scanned(lines: &[Line], rows: &[Row], counts: &mut [u64]) -> Option<usize>
     requires rise { tests.IdsRise lines.now }
     requires none { counts.old ≡ replicate (length lines.now) 0 }
@@ -101,8 +103,8 @@ fn first_not_scanned(lines: &[Line], rows: &[Row], counts: &mut [u64]) -> Option
     None
 }
 
-/// Whether one of these lines, which rise by ID, is of the station and the series wasn't skipped.
-/// A row is counted with that line.
+/// Whether one of these lines, which rise by ID, belongs to the station and the series wasn't
+/// skipped. A row is counted with that line.
 fn count_row(lines: &[Line], id: &StationId, counts: &mut [u64]) -> bool
     requires rise { tests.IdsRise lines.now }
     requires all { length counts.old ≡ length lines.now }

@@ -1,4 +1,4 @@
--- What an intake of files to describe takes, and what it answers at its end.
+-- What an intake of files to describe takes, and what it returns at its end.
 use Rattle.std.proofs.Common.{◌≡◌, List, ℕ, refl, subst}
 use Rattle.std.specs.Prelude.{Result, Ok}
 use Rattle.ghcn_files.specs.declared.station.Station.{Station}

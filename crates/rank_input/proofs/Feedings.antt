@@ -114,7 +114,7 @@ module _ {T : Type 0} (has_taken : Taking T) where
         (append_assoc i.files.current was.bytes piece) (takes.holds (with_bytes i was.bytes) (was.taken i has));
   }
 
-  -- a read that gave nothing
+  -- a read that returned nothing
   pub fed-kept : (old new : T) (all left next : Option (List ℕ)) → IsFedTo has_taken old new all left
       → Keeps left next → IsFedTo has_taken old new all next
   fed-kept old new all left next was is = record {
@@ -132,7 +132,7 @@ module _ {T : Type 0} (has_taken : Taking T) where
     taken = λ i has. takes.holds (with_bytes i was.bytes) (was.taken i has);
   }
 
-  -- the same where a read gave nothing
+  -- the same if a read returned nothing
   pub fed-end : (old mid new : T) (all left next : Option (List ℕ)) (n : ℕ) (buffer : List ℕ)
       → IsFedTo has_taken old mid all left
       → n ≡ 0 → Consumes left next (take n buffer) × (n ≡ 0 → 0 < length buffer → IsAtEnd next) → 0 < length buffer
@@ -142,7 +142,7 @@ module _ {T : Type 0} (has_taken : Taking T) where
       (is.1 none some)
       takes
 
-  -- something was given where something was before
+  -- something was given if something was before
   pub fed-some : (old new : T) (all left : Option (List ℕ)) → HasTakenSome has_taken old
       → IsFedTo has_taken old new all left → HasTakenSome has_taken new
   fed-some old new all left some was = (with_bytes some.0 was.bytes, was.taken some.0 some.1)

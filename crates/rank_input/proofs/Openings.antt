@@ -27,7 +27,7 @@ module _ (opens : Opening) where
     tried = stops.tried;
   }
 
-  -- files behind it change nothing
+  -- files after it change nothing
   pub stops-before : (path : List ℕ) (paths more : List (List ℕ)) → StopsAt opens paths path
       → StopsAt opens (paths ++ more) path
   stops-before path paths more stops = record {
@@ -46,7 +46,7 @@ module _ (opens : Opening) where
   stops-behind path (p ∷ ps) paths opened stops =
       stops-later p path (ps ++ paths) opened.0 (stops-behind path ps paths opened.1 stops)
 
-  -- files were opened, and others behind them
+  -- files were opened, and others after them
   pub opened-both : (first paths : List (List ℕ)) → AreOpened opens first → AreOpened opens paths
       → AreOpened opens (first ++ paths)
   opened-both [] paths was is = is

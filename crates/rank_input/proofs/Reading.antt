@@ -1,4 +1,4 @@
--- What an intake takes, and what it answers at its end.
+-- What an intake takes, and what it returns at its end.
 use Rattle.std.proofs.Common.{◌≡◌, List, ℕ, true, refl, subst}
 use Rattle.std.specs.Prelude.{Result, Ok}
 use Rattle.ghcn_files.specs.declared.station.Station.{Station}

@@ -76,7 +76,7 @@ pub record IsReadOf (query stations : List ℕ) (files : List (List ℕ)) (asked
   pub lists : listed stations ≡ Ok list
   pub holds : data_of list files ≡ Ok dataset
 
--- the first error of the words of a run: of the number of workers, of the guess
+-- the first error of the arguments of a run: of the number of workers, of the guess
 abbrev pub words_fault : ℕ → Option ℤ → Option Fault
 words_fault workers guess =
     if is_crew workers then if is_guess guess then None else Some BadGuess else Some BadWorkers
@@ -86,7 +86,8 @@ abbrev pub read_unless : {A : Type 0} → Option Fault → Result A Fault → Re
 read_unless None read = read
 read_unless (Some fault) read = Err fault
 
--- what the input of a run of that many workers holds, under a guess or none, or the first error: the words come first
+-- what the input of a run of that many workers holds, under a guess or none, or the first error: the arguments come
+-- first
 abbrev pub read_run : ℕ → Option ℤ → List ℕ → List ℕ → List (List ℕ) → Result (Asked × Contents) Fault
 read_run workers guess query stations files =
     read_unless (words_fault workers guess) (read_input query stations files)

@@ -62,7 +62,7 @@ module _ (q : Asked) where
   each_can kth (x ∷ es) [] (u ∷ us) h k can = absurd k
   each_can kth (x ∷ es) (y ∷ fs) (u ∷ us) h k can = grind (arith, ints, each_can kth es fs us h.1 k.1 can.1)
 
-  -- of few candidates few are of one station, and none is counted if its series was skipped
+  -- of few candidates few belong to one station, and none is counted if its series was skipped
   one_count : (best : List Candidate) (x : Entry) → length best ≤ 1000 → IsCount x (count_of best x)
   one_count best x few = grind (arith, ints, count_by-le-length)
 

@@ -120,7 +120,7 @@ module _ (known : Known) (q : Asked) (asked : IsAsked q) (list : List ℕ) (stat
 abbrev ids_of : List Entry → List StationId
 ids_of es = map (λ (e : Entry). e.id) es
 
--- if the result is none, the test fails, and the other result is none
+-- if there is no result, the test fails, and there is no other result
 none_of : (b : Bool) (i : StationId) (o : Option StationId) → cond b (Some i) o ≡ None → (b ≡ false) × (o ≡ None)
 none_of b i o e = grind arith
 

@@ -54,13 +54,13 @@ named_total = on_total (λ (r : Named). r.0) full_cmp_total
 tie : (o p : Ordering) → o ≡ ordering_reverse p → is_le o ≡ true → is_le p ≡ true → is_eq o ≡ true
 tie o p e h k = grind arith
 
--- lines that each come first are of one station
+-- lines that each come first belong to one station
 one_station : (e f : Entry) → id_comes_first e.id f.id ≡ true → id_comes_first f.id e.id ≡ true
     → same_id e.id f.id ≡ true
 one_station e f h k =
     sym (is_eq-slice_cmp e.id.0 f.id.0) ∙ tie (id_cmp e f) (id_cmp f e) (id_total.antisymm e f) h k
 
--- after the line of another station no line is of the first one's
+-- after the line of another station no line belongs to the first one's
 none_behind : (e f : Entry) (es : List Entry) → id_comes_first e.id f.id ≡ true → same_id e.id f.id ≡ false
     → AllByRecursion (λ g. id_comes_first f.id g.id ≡ true) es → list_any (λ g. same_id e.id g.id) es ≡ false
 none_behind e f [] h other a = refl
@@ -70,7 +70,7 @@ none_behind e f (g ∷ es) h other a =
     let same = one_station e f h (ap (id_comes_first f.id) (same_id-is e.id g.id t) ∙ a.0) in cc) in
     grind arith
 
--- two neighbours are of one station
+-- two neighbours belong to one station
 abbrev pub IsTwice : Entry × Entry → Bool
 IsTwice two = same_id two.0.id two.1.id
 

@@ -134,7 +134,7 @@ empty [] e = refl
 empty (x ∷ xs) e = absurd (grind arith)
 
 module _ (q : Asked) (k : Option ℤ) (all : List Entry) where
-  -- a candidate is of a series that was scanned, or scores below the k-th
+  -- a candidate belongs to a series that was scanned, or scores below the k-th
   abbrev IsSeen : Candidate → Type 0
   IsSeen d = (is_scanned all d.id ≡ true) ⊎ (bound_is_below k d.score ≡ true)
 
@@ -181,7 +181,7 @@ module _ (q : Asked) (k : Option ℤ) (all : List Entry) where
             (subst (AllByRecursion IsSeen) (sym none) tt) (seen_all us k)
       ] refl h
 
-  -- a candidate that is seen and doesn't score below is of a series that was scanned
+  -- a candidate that is seen and doesn't score below belongs to a series that was scanned
   scanned_unless_below : (rows : List Named) → AllByRecursion (λ d. IsSeen d) (of_rows rows)
       → AllByRecursion (λ d. bound_is_below k d.score ≡ false) (of_rows rows)
       → AllByRecursion (λ row. is_scanned all row.0.id ≡ true) rows

@@ -1,8 +1,8 @@
--- What follows of an answer, if there is one.
+-- What follows of a result, if there is one.
 use Rattle.std.proofs.Common.{Result, Ok, Err}
 use Rattle.std.specs.Prelude.{IfOk}
 
--- what follows of any answer follows of this one
+-- what follows of any result follows of this one
 pub if_ok : {T E : Type 0} (P Q : T → Type 0) (r : Result T E) → ((x : T) → P x → Q x) → IfOk r P → IfOk r Q
 if_ok P Q (Ok x) f p = f x p
 if_ok P Q (Err e) f p = tt

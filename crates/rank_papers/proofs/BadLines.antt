@@ -1,4 +1,4 @@
--- Where the reading of a paper ends is its first bad line, whatever paper it is.
+-- Where the reading of a report or a certificate ends is its first bad line, whichever of the two it is.
 use Rattle.std.proofs.Common.{◌≡◌, ◌⊎◌, ◌↔◌, inl, inr, ℕ, suc, ◌+◌, Bool, true, false, List, [], ◌∷◌, ◌++◌, length, Option, Some, None, Result, Ok, Err, refl, sym, ap, ◌∙◌, subst, append_assoc, arith}
 use Rattle.std.specs.Option.{option_map_or}
 use Rattle.std.specs.Cmp.Lexicographic.{bytes_decides}
@@ -43,7 +43,7 @@ pub record Keeps {V W : Type 0} (onto : Result V ℕ → Result W ℕ) : Type 0 
   pub wrong : (n : ℕ) → onto (Err n) ≡ Err n
   pub right : (v : V) → (w : W) × (onto (Ok v) ≡ Ok w)
 
--- which number an answer names
+-- which number a result names
 same_err : {V : Type 0} (n m : ℕ) → ◌≡◌ {A = Result V ℕ} (Err n) (Err m) → m ≡ n
 same_err n m e = cc
 
@@ -114,7 +114,7 @@ module _ {A V W : Type 0} (in_line : List ℕ → Option A) (rest : A → Reader
       → read (l ∷ ls) ≡ option_map_or (λ a. onto a (rest a ls)) o (Err first)
   by_value l o e ls = is.some l ls ∙ ap (λ (x : Option A). option_map_or (λ a. onto a (rest a ls)) x (Err first)) e
 
-  -- so lines are read one after the other where those after the first are
+  -- so lines are read one after the other if those after the first are
   pub by_line : (l : List ℕ) (a : A) → in_line l ≡ Some a → ((x : A) → IsInOrder (rest x) (suc first))
       → IsInOrder read first
   by_line l a e each = record { begun = begun; ends = ends }
@@ -143,7 +143,7 @@ module _ {A : Type 0} (first : ℕ) (value_in : ℕ → List ℕ → Option A) (
   abbrev read : ℕ → Reader (List A)
   read n = up_to_end first value_in end n
 
-  -- a value more is read where the others are
+  -- a value more is read if the others are
   keeps_value : (x : A) → Keeps (and_then x)
   keeps_value x = record { wrong = λ n. refl; right = λ xs. (x ∷ xs, refl) }
 
@@ -212,13 +212,13 @@ pub record IsForm {V : Type 0} (IsText : List ℕ → Type 0) (read : Reader V) 
 
 module _ {V : Type 0} (IsText : List ℕ → Type 0) (read : Reader V) (form : IsForm IsText read)
     (order : IsInOrder read 1) where
-  -- a line with which the reading ends, whatever comes after it, is none with which a paper goes on
+  -- a line with which the reading ends, whatever comes after it, is one with which no report and no certificate goes on
   no_paper : (ls : Lines) (n : ℕ) → ((more : Lines) → read (ls ++ more) ≡ Err n) → Begin IsText ls → ⊥
   no_paper ls n bad b =
       let said = form.is_read b.text b.has_form in
       let no : Err n ≡ Ok said.0 = sym (bad b.more) ∙ ap read (sym b.lines) ∙ said.1 in absurd cc
 
-  -- a text whose reading ends has no paper's form
+  -- a text whose reading ends has the form of no report and no certificate
   not_read : (bytes : List ℕ) (n : ℕ) → read (paper_lines bytes) ≡ Err n → IsText bytes → ⊥
   not_read bytes n f is =
       let said = form.is_read bytes is in let no : Err n ≡ Ok said.0 = sym f ∙ said.1 in absurd cc

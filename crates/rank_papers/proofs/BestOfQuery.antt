@@ -54,7 +54,7 @@ one_before a b = by (full_cmp a b) (full_cmp b a) refl refl (full_cmp_total.anti
     by Greater Equal e f t = absurd (let back : Greater ≡ Equal = sym e ∙ t ∙ ap ordering_reverse f in cc)
     by Greater Greater e f t = absurd (let back : Greater ≡ Less = sym e ∙ t ∙ ap ordering_reverse f in cc)
 
--- the first answer stands
+-- the first comparison decides
 first_stands : (o l : Ordering) → is_lt o ≡ true → ordering_then o l ≡ Less
 first_stands Less l e = refl
 first_stands Equal l e = absurd cc
@@ -223,7 +223,7 @@ module _ (q : Asked) (c : Contents) (asked : IsAsked q) (right : IsContents c) w
       in_all (candidates q) (admitted_series q c) s x in_series
       (contains-in (candidates q s) x ((exactly q s series asked x).1 is))
 
-  -- the candidates of some of the query's series are of the query
+  -- the candidates of some of the query's series belong to the query
   each_of_query : (ss : List Usable) → AllByRecursion (In (admitted_series q c)) ss → AllByRecursion IsSeries ss
       → AllByRecursion (IsOfQuery q (IsHeldSeries q c)) (flat_map (candidates q) ss)
   each_of_query [] are series = tt

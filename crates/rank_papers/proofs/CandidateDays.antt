@@ -33,13 +33,13 @@ unfolding run_from
 run-more such n a here =
     ap (λ (b : Bool). elim b as (λ _. ℕ) [ true ↦ suc (run_from such n (a +ℤ pos 1)) | false ↦ 0 ]) here
 
--- where it doesn't there is none
+-- if it doesn't there is none
 run-none : (such : ℤ → Bool) (n : ℕ) (a : ℤ) → such a ≡ false → run_from such (suc n) a ≡ 0
 unfolding run_from
 run-none such n a other =
     ap (λ (b : Bool). elim b as (λ _. ℕ) [ true ↦ suc (run_from such n (a +ℤ pos 1)) | false ↦ 0 ]) other
 
--- a run of no numbers is none
+-- a run in no numbers has length 0
 run-zero : (such : ℤ → Bool) (a : ℤ) → run_from such zero a ≡ 0
 unfolding run_from
 run-zero such a = refl
@@ -179,7 +179,7 @@ module _ (q : Asked) (days : List DayValue) where
   asked_ends Wet right x day = spell_ends (test_of spells.Wet) x
   asked_ends (Hot t) right x day = spell_ends (test_of (spells.Hot t)) x
 
-  -- what begins on some days is of days
+  -- what begins on some days begins and ends on days of the calendar
   each_begun : (id : StationId) (sh : Shape) (xs : List DayValue) → AllByRecursion (λ x. is_day x.0 ≡ true) xs
       → ((x : DayValue) → is_day x.0 ≡ true → EndsOnDay sh x)
       → AllByRecursion IsOfDays (filter_map (λ x. option_map (candidate id x.0) (begun sh own x)) xs)
@@ -192,7 +192,7 @@ module _ (q : Asked) (days : List DayValue) where
         | Some found ↦ λ e. ((h.0, ends x h.0 found e), each_begun id sh xs h.1 ends)
       ] refl
 
--- the candidates of a series are of days
+-- the candidates of a series begin and end on days of the calendar
 pub candidates_of_days : (q : Asked) (s : Usable) → IsAsked q → AllByRecursion IsOfDays (candidates q s)
 candidates_of_days q s asked =
     each_begun q s.days s.id (shape q.score) (admitted_among q s.days) (own_days q s.days s.days)

@@ -57,7 +57,7 @@ count_printable : (has : Bool) (n : ℕ) → list_all is_printable (count_text h
 count_printable true n = decimal_printable n
 count_printable false n = refl
 
--- what stands in an entry's line can be printed
+-- what is in an entry's line can be printed
 entry_printable : (w : ℕ) (l : Counted) → IsCounted w l → list_all is_printable (join_with_byte 32
     (word_of l.entry.skipped ∷ l.entry.id.0
     ∷ (signed_decimal l.entry.bound ++ count_text (has_count w l.entry) l.count) ∷ [])) ≡ true
@@ -338,7 +338,7 @@ read-is bytes v h =
     let are = lines-are (paper_lines bytes) v h in
     record { can_be = are.0; text = same_text bytes (certificate_text v) (are.1 ∙ sym (lines-written v are.0)) }
 
--- so is what a call answered
+-- so is what a call returned
 pub if_read-is : {X E : Type 0} (said : X → Certified) (bytes : List ℕ) (r : Result X E)
     → IfOk r (λ c. read_certificate bytes ≡ Ok (said c)) → IfOk r (λ c. IsCertificateOf (said c) bytes)
 if_read-is said bytes (Ok c) h = read-is bytes (said c) h

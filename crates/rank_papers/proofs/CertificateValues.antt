@@ -75,7 +75,7 @@ up_to-low limit (Some m) n h = elim (nat_le m limit) as (λ b. nat_le m limit �
       | false ↦ λ t f. absurd cc
     ] refl h
 
--- a count that was read is at most a thousand, and 0 where there was none to read
+-- a count that was read is at most a thousand, and 0 if there was none to read
 count_in-is : (has : Bool) (field : List ℕ) (n : ℕ) → count_field has field ≡ Some n
     → (n ≤ 1000) × (has ≡ false → n ≡ 0)
 count_in-is false field n h = let same : n ≡ 0 = cc in (omega (arith, same), λ e. same)

@@ -7,7 +7,7 @@ use Rattle.rank_papers.specs.declared.counted.Counted.{Counted}
 use Rattle.rank_papers.specs.Certificate.{Entry, counted, has_count, IsEntry, IsCount, AreCounts}
 use Rattle.rank_papers.specs.CertificateLines.{entries_of, counts_in}
 
--- what a line of a version can say: an entry and a count that can be, and 0 where the line has no count
+-- what a line of a version can say: an entry and a count that can be, and 0 if the line has no count
 pub record IsCounted (version : ℕ) (l : Counted) : Type 0 where
   pub entry : IsEntry l.entry
   pub few : l.count ≤ 1000

@@ -46,7 +46,7 @@ three : certificate_text (record {
 unfolding digits
 three = refl
 
--- the same in version 2, if one row is of the first series and none of the second
+-- the same in version 2, if one row belongs to the first series and none to the second
 counted : certificate_text (record {
   version = 2;
   query = top 1 (Highest Tmax);

@@ -22,7 +22,7 @@ longer (f ∷ front) x rest (y ∷ ys) more e lt =
     (found.0, ap (λ (z : List ℕ). z ∷ ys) (sym same) ∙ ap (λ (l : Lines). f ∷ l) found.1)
 
 module _ (IsText : List ℕ → Type 0) where
-  -- the first of lines that begin a paper begin one
+  -- the first of lines that begin a report or a certificate begin one
   pub begin-first : (ls zs : Lines) → Begin IsText (ls ++ zs) → Begin IsText ls
   begin-first ls zs b = record {
     text = b.text;
@@ -31,7 +31,7 @@ module _ (IsText : List ℕ → Type 0) where
     lines = b.lines ∙ append_assoc ls zs b.more;
   }
 
-  -- the lines of a text that has the form begin a paper, wherever they are cut
+  -- the lines of a text that has the form begin a report or a certificate, wherever they are cut
   pub begin-whole : (bytes : List ℕ) (ls zs : Lines) → IsText bytes → paper_lines bytes ≡ ls ++ zs → Begin IsText ls
   begin-whole bytes ls zs is e = record { text = bytes; has_form = is; more = zs; lines = e }
 

@@ -1,4 +1,5 @@
--- Papers with what is found by rank are right by what they have, and those of what a query needs are those of all data.
+-- A report and a certificate with what is found by rank are right by what they have, and those of what a query needs
+-- are those of all data.
 use Rattle.std.proofs.Common.{◌≡◌, ◌⊎◌, inl, inr, ℕ, Bool, true, false, List, [], ◌∷◌, ◌++◌, map, filter, refl}
 use Rattle.std.proofs.Common.{sym, ap, ◌∙◌, arith, subst, Option, Some, None, ℤ, ◌<ℤ◌, not}
 use Rattle.std.specs.Prelude.{◌↔◌, ◌==◌, if◌then◌else◌, length, int_lt}
@@ -42,7 +43,7 @@ some_below : (kth : Option ℤ) (b : ℤ) → (score : ℤ) × (kth ≡ Some sco
 some_below kth b (score, is, low) =
     let yes : int_lt b score ≡ true = grind (arith, ints) in ap (λ (k : Option ℤ). bound_is_below k b) is ∙ yes
 
--- the lines of entries, with how many of the best are of each
+-- the lines of entries, with how many of the best belong to each
 abbrev lines_with : ℕ → List Candidate → List Entry → List ℕ
 lines_with version best es =
     flat_map (λ e. entry_line version (record { entry = e; count = count_by (λ x. same_id x.id e.id) best })) es

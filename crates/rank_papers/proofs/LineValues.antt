@@ -1,4 +1,4 @@
--- What is read of a line is what its text says, whatever paper it is a line of.
+-- What is read of a line is what its text says, whether it is a line of a report or of a certificate.
 use Rattle.std.proofs.Common.{◌≡◌, ℕ, ◌-◌, Bool, true, false, cond, List, [], ◌∷◌, length, Option, Some, None, Result, Ok, Err, refl, sym, ap, ◌∙◌, subst, arith, FitsSigned, w64}
 use Rattle.std.specs.Prelude.{◌==◌, ℤ, slice_range}
 use Rattle.std.specs.List.{flat_map, list_all}

@@ -72,7 +72,7 @@ module _ {A : Type 0} (first : ℕ) (value_in : ℕ → List ℕ → Option A) (
         ∙ ap (λ (xs : List A). and_values xs (read (suc n) behind)) push
         ∙ and_values-more found x (read (suc n) behind) ∙ sym (HasRead-line (Some x) is)
 
-    -- if no value stands and the line is the end line, those found are all
+    -- if there is no value and the line is the end line, those found are all
     pub HasRead-all : None ≡ value_in n line
         → ends_by {A = A} (n + first) (same_bytes line (end n)) (paper_lines behind) ≡ Ok [] → read 0 text ≡ Ok found
     HasRead-all is ends = HasRead-line None is ∙ ap (and_values found) ends ∙ ap Ok (append-nil found)

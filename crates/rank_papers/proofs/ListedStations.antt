@@ -43,7 +43,7 @@ station_fields s h =
       thirty = eqb-true (length s.name) 30 six.1;
     }
 
--- the station that is found by an ID has it, and is right where all are
+-- the station that is found by an ID has it, and is right if all are
 pub found_station : (id : StationId) (sts : List Station) (s : Station) → list_all is_station sts ≡ true
     → find (is_station_of id) sts ≡ Some s → (is_station s ≡ true) × (s.id ≡ id)
 found_station id [] s h e = absurd cc
@@ -78,7 +78,7 @@ left bytes = length bytes - suffix_len is_blank bytes
 length-trimmed : (bytes : List ℕ) → length (trimmed bytes) ≡ length bytes - suffix_len (λ b. b == 32) bytes
 length-trimmed bytes = length-take-le (length bytes - suffix_len (λ b. b == 32) bytes) bytes (omega arith)
 
--- the last of them is no blank
+-- the last of them isn't a blank
 last_no_blank : (bytes : List ℕ) → 0 < left bytes → is_blank (get_or bytes (left bytes - 1) 0) ≡ false
 last_no_blank bytes some =
     let inside : prefix_len is_blank (reverse bytes) < length bytes = omega (arith, some) in
@@ -89,7 +89,7 @@ last_no_blank bytes some =
     ∙ ap is_blank (sym (get_or-reverse bytes (prefix_len is_blank (reverse bytes)) 0 inside))
     ∙ prefix_len_stops is_blank (reverse bytes) 0 low
 
--- so such a text is empty, or its last byte is no blank
+-- so such a text is empty, or its last byte isn't a blank
 trimmed_ends : (bytes : List ℕ) → ends_in_print (trimmed bytes) ≡ true
 trimmed_ends bytes = by (left bytes) refl
   where

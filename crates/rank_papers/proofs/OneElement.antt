@@ -1,5 +1,5 @@
--- Papers of one element's data: of data with the same stations, the same best candidates, the same k-th score and the
--- same morsels the same papers are right.
+-- Reports and certificates of one element's data: of data with the same stations, the same best candidates, the same
+-- k-th score and the same morsels the same report and the same certificates are right.
 use Rattle.std.proofs.Common.{◌≡◌, ℕ, List, map, Option, refl, sym, ap, ◌∙◌, subst, ℤ}
 use Rattle.std.specs.List.{AllZip}
 use Rattle.ghcn_series.specs.Series.{Usable, Contents}

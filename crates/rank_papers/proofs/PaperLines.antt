@@ -1,11 +1,11 @@
--- The lines of a paper: where the first line ends.
+-- The lines of a report or a certificate: where the first line ends.
 use Rattle.std.proofs.Common.{◌≡◌, ℕ, zero, suc, ◌+◌, ◌<◌, Bool, true, false, cond, List, [], ◌∷◌, length, take, drop, get_or, Some, None, sym, ap, ◌∙◌, arith, length-drop}
 use Rattle.std.specs.Prelude.{◌==◌}
 use Rattle.std.proofs.lemmas.Bool.{false_from_ne_true}
 use Rattle.memchr.specs.Find.{IsFirstByte, is_byte}
 use Rattle.rank_papers.specs.Lines.{paper_lines, before_lines, onto_first, IsFirstLineCut}
 
--- a byte that is no line feed goes on with the first line
+-- a byte that isn't a line feed goes on with the first line
 other_byte : (b : ℕ) (ls : List (List ℕ)) → (b == 10) ≡ false → before_lines b ls ≡ onto_first b ls
 other_byte b ls e = ap (λ (t : Bool). cond t ((b ∷ []) ∷ ls) (onto_first b ls)) e
 
@@ -45,7 +45,7 @@ cut-at text rest end first e =
       less,
     )
 
--- and the whole text where there is none
+-- and the whole text if there is none
 pub cut-whole : (text rest : List ℕ) → 0 < length text → IsFirstByte (is_byte 10) text None → rest ≡ []
     → IsFirstLineCut text (Some (text, rest))
 cut-whole text rest some nowhere e = (

@@ -57,7 +57,7 @@ module _ {A B : Type 0} (R : A → B → Type 0) (f : A → A → Bool) (g : B �
 
 -- ---- the series of morsels
 
--- a series whose ID stands before another's, or is the same
+-- a series whose ID comes before another's, or is the same
 abbrev comes_first : Usable → Usable → Bool
 comes_first a b = id_comes_first a.id b.id
 
@@ -72,8 +72,8 @@ series-measured q (s ∷ ss) = ap (λ (l : List Usable). s ∷ l) (series-measur
 
 -- ---- lines and series
 
--- what the line of a series says: its ID and its bound, which is above its candidates, and a skip only where the bound
--- is strictly below the k-th score
+-- what the line of a series says: its ID and its bound, which is above its candidates, and a skip only if the bound is
+-- strictly below the k-th score
 pub record IsLineOf (q : Asked) (kth : Option ℤ) (l : Entry) (s : Usable) : Type 0 where
   pub named : l.id ≡ s.id
   pub bounded : l.bound ≡ bound q s

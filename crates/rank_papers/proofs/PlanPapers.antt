@@ -1,4 +1,4 @@
--- The papers of a plan's answer: its best candidates and lines are those of the query.
+-- The report and the certificate of a plan's answer: its best candidates and lines are those of the query.
 use Rattle.std.proofs.Common.{◌≡◌, inr, ℕ, zero, suc, ◌-◌, ◌<◌, List, [], ◌∷◌, ◌++◌, length, take, Option, Result, Ok, Err, refl, sym, ap, ◌∙◌, subst, arith, ℤ}
 use Rattle.std.specs.Prelude.{slice_get, IfOk}
 use Rattle.std.specs.List.{flat_map, AllZip}
@@ -31,7 +31,7 @@ pub best_is : (p : Planned) (a : Answer) (q : Asked) (c : Contents) → IsAnswer
     → p ≡ planned q c → a.best.items ≡ best_of_query q c
 best_is p a q c answer asked right is = answer.best_are ∙ ap best_of_plan is ∙ (plan_has_best q c asked right).0
 
--- they are of the plan's stations
+-- they belong to the plan's stations
 pub answer_listed : (p : Planned) (a : Answer) → IsPlan p → IsAnswerOfPlan p a → AreOfListed p.stations a.best.items
 answer_listed p a plan answer =
     let same : a.best.items ≡ best_of_query p.query plan.dataset =
@@ -54,7 +54,7 @@ report-of_plan items p a q stations best (Ok paper) answer query listed same h =
 
 -- ---- the k-th score
 
--- what stands at a place stands there among the first of a list
+-- what is at a place is there among the first of a list
 get-take : {X : Type 0} (ys : List X) (r : ℕ) → slice_get (take (suc r) ys) r ≡ slice_get ys r
 get-take [] r = refl
 get-take (y ∷ ys) zero = refl

@@ -1,4 +1,4 @@
--- What any paper writes in its lines is read of them.
+-- What any report or certificate writes in its lines is read of them.
 use Rattle.std.proofs.Common.{◌≡◌, ◌-◌, Bool, true, cond, List, length, Some, None, refl, ap, ◌∙◌, arith, FitsSigned, w64, ℕ}
 use Rattle.std.specs.Prelude.{ℤ, codes, slice_range}
 use Rattle.std.specs.List.{list_all}

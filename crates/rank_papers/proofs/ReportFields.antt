@@ -37,7 +37,7 @@ first_word-at text end first =
     ap (λ (n : ℕ). take n text) (sym (prefix_len_is is_inside text end 0 (omega arith)
     (λ k lt. ap not (false_from_ne_true _ (first.0.before k (omega arith) lt))) (λ lt. ap not first.1)))
 
--- and with the text where there is none
+-- and with the text if there is none
 pub first_word-whole : (text : List ℕ) → IsFirstByte (is_byte 32) text None → text ≡ first_word text
 first_word-whole text none =
     sym (take_all (length text) text (omega arith))
@@ -65,7 +65,7 @@ pub score_in-fits : (q : Asked) (field : List ℕ) (z : ℤ) → score_in q fiel
 score_in-fits q field z e =
     in_i64-some (option_map (value_of q.score) (signed_by natural (filter (λ b. not (b == 46)) field))) z e
 
--- with the value in its column, and the score behind it, that is the row in the columns
+-- with the value in its column, and the score of that value, that is the row in the columns
 pub row_at-is : (q : Asked) (digits : ℕ) (line value : List ℕ) (score : Option ℤ) → value ≡ value_at digits line
     → score ≡ score_in q value → row_at q digits line value score ≡ row_in_columns q digits line
 row_at-is q digits line value score v s =
@@ -127,7 +127,7 @@ parts_of_row id name (Some first) (Some last) (Some score) row e =
       | false ↦ λ t f. absurd cc
     ] refl e
 
--- the ID and the days of a row stand in their columns, and its name is short
+-- the ID and the days of a row are in their columns, and its name is short
 pub record IsCutOut (digits : ℕ) (line : List ℕ) (row : Named) : Type 0 where
   pub eleven : length row.0.id.0 ≡ 11
   pub id : row.0.id.0 ≡ slice_range line (digits + 1) (digits + 12)

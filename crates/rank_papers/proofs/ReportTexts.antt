@@ -44,7 +44,7 @@ named_printable : (unit name : List ℕ) → list_all is_printable unit ≡ true
 named_printable unit [] h k = h
 named_printable unit (b ∷ name) h k = printable-append unit (32 ∷ b ∷ name) h k
 
--- so can what stands in a row's line
+-- so can what is in a row's line
 row_printable : (q : Asked) (rank : ℕ) (row : Named) → IsRow row
     → list_all is_printable (join_with_byte 32 (row_fields q (rank, row))) ≡ true
 row_printable q rank row is =
@@ -106,7 +106,7 @@ lines-written v is =
     ∙ ap (λ (ls : List (List ℕ)). title ∷ query_line v.query ∷ ls)
     (lines-rows v.query v.rows 0 (length v.rows) is.rows)
 
--- ---- an end line is no row's
+-- ---- an end line isn't a row's
 
 -- the first byte of a text is a digit
 abbrev starts_by_digit : List ℕ → Bool
@@ -194,7 +194,7 @@ read_report-is bytes v h =
     let are = lines-are (paper_lines bytes) v h in
     record { can_be = are.0; text = same_text bytes (report_text v.query v.rows) (are.1 ∙ sym (lines-written v are.0)) }
 
--- so is what a call answered
+-- so is what a call returned
 pub if_read_report-is : {X E : Type 0} (said : X → Reported) (bytes : List ℕ) (r : Result X E)
     → IfOk r (λ c. read_report bytes ≡ Ok (said c)) → IfOk r (λ c. IsReportOf (said c) bytes)
 if_read_report-is said bytes (Ok c) h = read_report-is bytes (said c) h

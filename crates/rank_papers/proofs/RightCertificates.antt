@@ -144,7 +144,7 @@ few_best q c asked right =
     let high : q.k ≤ 1000 = leb-true q.k 1000 (and_parts (nat_le 1 q.k) (nat_le q.k 1000) asked.k).1 in
     omega (arith, first, taken, high)
 
--- so few are of one station
+-- so few belong to one station
 count_few : (best : List Candidate) (e : Entry) → length best ≤ 1000 → IsCount e (count_of best e)
 count_few best e few =
     let parts = by e.skipped (count_of best e) refl in record { few = parts.0; none = parts.1 }
@@ -172,7 +172,7 @@ right_counts w best es (inr e) few = inr (
 )
 
 module _ (q : Asked) (c : Contents) (bytes : List ℕ) (asked : IsAsked q) (right : IsContents c) where
-  -- a right certificate is of the form, and says what is right
+  -- a right certificate has the form, and says what is right
   says_right : IsCertificate q c bytes → (v : Certified) × IsCertificateOf v bytes × SaysRight q c v
   says_right h = (
     record {

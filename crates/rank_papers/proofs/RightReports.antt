@@ -38,7 +38,7 @@ use Rattle.rank_papers.proofs.RightCertificates.{series_hold, score_fits, candid
 best_few : (k : ℕ) (all : List Candidate) → length (best k all) ≤ k
 best_few k all = omega (arith, kept-length (of_rank all) (range_with_len 0 k), length-range_with_len 0 k)
 
--- the candidates of series are of days
+-- the candidates of series begin and end on days of the calendar
 series_of_days : (q : Asked) (ss : List Usable) → IsAsked q → AllByRecursion IsOfDays (flat_map (candidates q) ss)
 series_of_days q [] asked = tt
 series_of_days q (s ∷ ss) asked =
@@ -47,11 +47,11 @@ series_of_days q (s ∷ ss) asked =
 
 -- ---- the rows of a right report
 
--- each row is of a listed station
+-- each row belongs to a listed station
 abbrev AreListedRows : List Station → List (Candidate × Station) → Type 0
 AreListedRows stations rows = AllByRecursion (λ row. find (is_station_of row.0.id) stations ≡ Some row.1) rows
 
--- a row of a listed station can be, if its candidate is of days and has a score
+-- a row of a listed station can be, if its candidate begins and ends on days of the calendar and has a score
 row_can_be : (stations : List Station) (c : Candidate) (s : Station) → list_all is_station stations ≡ true
     → find (is_station_of c.id) stations ≡ Some s → IsOfDays c → IsScore c.score → IsRow (named (c, s))
 row_can_be stations c s right found days score =
@@ -94,7 +94,7 @@ module _ (stations : List Station) where
       by None e f = absurd cc
       by (Some s) e f = (s, e, cc)
 
-  -- rows that have such names are of listed stations
+  -- rows that have such names belong to listed stations
   names_listed : (rows : List Named) → AllByRecursion (λ row. name_of stations row.0.id ≡ Some row.1) rows
       → AreOfListed stations (map (λ row. row.0) rows)
   names_listed [] h = tt
@@ -137,7 +137,7 @@ module _ (q : Asked) (c : Contents) (bytes : List ℕ) (asked : IsAsked q) (righ
             (candidates_fit q (admitted_series q c) asked (series_hold IsSeries q c right.series.right)));
       }
 
-  -- a right report is of the form, and says what is right
+  -- a right report has the form, and says what is right
   says_right : IsReport q c bytes → (v : Reported) × IsReportOf v bytes × SaysRightReport q c v
   says_right h = (
     record { query = q; rows = map named h.rows },

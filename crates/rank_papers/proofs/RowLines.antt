@@ -19,15 +19,15 @@ use Rattle.rank_papers.proofs.WrittenLines.{pass-weaker, between, last_field}
 
 -- ---- words
 
--- a byte that is no blank
+-- a byte that isn't a blank
 abbrev pub no_blank : ℕ → Bool
 no_blank b = not (b == 32)
 
--- a visible byte is none
+-- a visible byte isn't a blank
 pub visible_no_blank : (b : ℕ) → is_visible b ≡ true → no_blank b ≡ true
 visible_no_blank b h = grind (arith, nat_tests)
 
--- bytes without a blank are the first word where a blank follows
+-- bytes without a blank are the first word if a blank follows
 pub word_first : (word behind : List ℕ) → list_all no_blank word ≡ true → take_while no_blank (word ++ 32 ∷ behind) ≡
     word
 word_first [] behind h = take_while-cons no_blank 32 behind
@@ -39,7 +39,7 @@ word_first (b ∷ word) behind h =
 
 -- ---- columns
 
--- a unit, and a name where there is one
+-- a unit, and a name if there is one
 abbrev unit_and_name : List ℕ → List ℕ → List ℕ
 unit_and_name unit name = join_with_byte 32 (unit ∷ field_unless_empty name)
 
@@ -48,7 +48,7 @@ abbrev line_of : List ℕ → List ℕ → List ℕ → List ℕ → List ℕ �
 line_of rank id first last value unit name =
     text_line (rank ∷ id ∷ first ∷ last ∷ value ∷ unit ∷ field_unless_empty name)
 
--- what stands before its value
+-- what comes before its value
 abbrev before_value : List ℕ → List ℕ → List ℕ → List ℕ → List ℕ
 before_value rank id first last = rank ++ 32 ∷ (id ++ 32 ∷ (first ++ 32 ∷ (last ++ 32 ∷ [])))
 
@@ -58,7 +58,7 @@ module _ (rank id first last value unit name : List ℕ) (eleven : length id ≡
   abbrev line : List ℕ
   line = line_of rank id first last value unit name
 
-  -- what stands before its value
+  -- what comes before its value
   abbrev front : List ℕ
   front = before_value rank id first last
 

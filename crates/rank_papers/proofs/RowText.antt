@@ -12,7 +12,7 @@ use Rattle.rank_papers.specs.Report.{Named, text_line, row_fields, after_blank}
 abbrev pub rows_text : Asked → List (ℕ × Named) → List ℕ
 rows_text q rows = flat_map (λ row. text_line (row_fields q row)) rows
 
--- the fields of a score: the value behind it as it is printed, and its unit
+-- the fields of a score: its value as it is printed, and its unit
 abbrev pub value_fields : Score → ℤ → List (List ℕ)
 value_fields score number =
     value_text (measure_of_score score) (value_of score number) ∷ unit_text (measure_of_score score) ∷ []

@@ -1,4 +1,4 @@
--- The papers that are right for the data of files are those of what the files say.
+-- The report and the certificate that are right for the data of files are those of what the files say.
 use Rattle.std.proofs.Common.{◌≡◌, ℕ, true, List, Option, Some, filter, Ok, sym, ap, ◌∙◌, subst}
 use Rattle.std.specs.Prelude.{◌↔◌}
 use Rattle.std.proofs.lemmas.Bool.{and_parts}
@@ -28,7 +28,7 @@ use Rattle.rank_papers.proofs.FoundPapers.{report-moved, certificate-moved, turn
 listed_is : (stations : List Station) (st : Station) → In stations st → is_listed stations st.id ≡ true
 listed_is stations st h = in_any (is_station_of st.id) stations st h (same_id-laws.refl st.id)
 
--- a series that is found is of the station and element
+-- a series that is found belongs to the station and element
 is_of_both : (c : Contents) (id : StationId) (e : Element) (s : Usable) → series_of c id e ≡ Some s
     → (s.id ≡ id) × (s.element ≡ e)
 is_of_both c id e s found =

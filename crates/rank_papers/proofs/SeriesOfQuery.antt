@@ -22,7 +22,7 @@ use Rattle.rank_papers.proofs.BestOfQuery.{sorted-descends, descends-sorted}
 
 -- ---- by increasing ID
 
--- a series stands before another by its ID
+-- a series comes before another by its ID
 abbrev IsBefore : Usable → Usable → Type 0
 IsBefore a b = strictly (λ (s : Usable). s.id) a b ≡ true
 

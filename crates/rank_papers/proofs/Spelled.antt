@@ -75,7 +75,7 @@ text_first text more line from to e =
     ∙ ap (λ (l : List ℕ). has_text text line from && same_bytes more l)
     (behind_both line from (length text) ∙ ap (λ (n : ℕ). drop n line) e)
 
--- a text that was cut out of the line stands there
+-- a text that was cut out of the line is there
 cut_first : (text more line : List ℕ) (from to : ℕ) → from + length text ≡ to → text ≡ slice_range line from to
     → same_bytes (text ++ more) (drop from line) ≡ same_bytes more (drop to line)
 cut_first text more line from to e cut =
@@ -169,7 +169,7 @@ row_spelled rank id first last value unit name line eleven ten ten_too id_is fir
     last_is
     ∙ ap (λ (t : Bool). has_front rank line && t) (back_first value unit name line (length rank + 35))
 
--- whose line it is that a row was cut out of, is told by what stands in its place
+-- whether a line is that of the row that was cut out of it follows from what is in each place
 pub line_spelled : (q : Asked) (rank line value unit : List ℕ) (row : Named)
     → Some row ≡ row_in_columns q (length rank) line
     → value ≡ value_text (measure_of_score q.score) (value_of q.score row.0.score)

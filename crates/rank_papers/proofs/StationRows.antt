@@ -1,4 +1,4 @@
--- IDs in order, counted by two searches, and the rows that they are of.
+-- IDs in order, counted by two searches, and the rows that they belong to.
 use Rattle.std.proofs.Common.{◌≡◌, ℕ, zero, suc, ◌+◌, ◌-◌, ◌≤◌, Bool, true, false, cond, List, [], ◌∷◌, length, take, map}
 use Rattle.std.proofs.Common.{refl, sym, ap, ◌∙◌, subst, arith, get_or, leb, ◌<◌, inl, inr, Option}
 use Rattle.std.specs.List.{count_by}
@@ -45,7 +45,7 @@ module _ {X : Type 0} (q : X → Bool) (xs : List X) (k : ℕ) (d : X) (within :
       (count_by_more_no q xs (k + m) d (omega arith) (here.1 (k + m) d (omega arith) (omega arith))
       ∙ counted-behind m (omega arith))
 
-  -- so as many pass as stand before the point
+  -- so as many pass as come before the point
   pub counted-point : count_by q xs ≡ k
   counted-point =
       subst (λ (l : List X). count_by q l ≡ k) (take_all (k + (length xs - k)) xs (omega arith))
@@ -53,7 +53,7 @@ module _ {X : Type 0} (q : X → Bool) (xs : List X) (k : ℕ) (d : X) (within :
 
 -- ---- IDs in order
 
--- an answer of a comparison says that the first is less
+-- a comparison's result says that the first is less
 less-index : (o : Ordering) → leb (ordering_index o) 0 ≡ is_lt o
 less-index Less = refl
 less-index Equal = refl
@@ -77,7 +77,7 @@ module _ (id : StationId) where
   beside i = slice_cmp nat_cmp i.0 id.0
 
   module _ (ids : List StationId) (up : AreInOrder ids) where
-    -- those before this ID stand in front
+    -- those before this ID come first
     pub less_first : IsPartitionedBy (λ i. is_lt (beside i)) ids
     less_first i j d le lt e =
         sym (less-index (beside (get_or ids i d)))
@@ -187,7 +187,7 @@ module _ (id : StationId) (ids : List StationId) (p : StationId → Bool) where
         let no : false ≡ true = subst (λ (o : Option StationId). option_map_or p o false ≡ true) past.1 h in absurd cc
   ]
 
--- an ID that would stand at a place among some in order, and is the same as neither neighbour, isn't among them
+-- an ID that would come at a place among some in order, and is the same as neither neighbour, isn't among them
 pub gap-none : (id : StationId) (ids : List StationId) → AreInOrder ids → (place : ℕ) → is_gap ids id place ≡ true
     → count_by (λ i. same_id i id) ids ≡ 0
 gap-none id ids up zero h =

@@ -33,15 +33,15 @@ use Rattle.rank_papers.proofs.WrittenLines.{pass-weaker}
 
 -- ---- points
 
--- a byte that is no point
+-- a byte that isn't a point
 abbrev no_point : ℕ → Bool
 no_point b = not (b == 46)
 
--- a digit is none
+-- a digit isn't a point
 digit_no_point : (d : ℕ) → is_ascii_digit d ≡ true → no_point d ≡ true
 digit_no_point d h = grind (arith, nat_tests)
 
--- digits stay where points are left out
+-- digits stay if points are left out
 digits_stay : (ds : List ℕ) → list_all is_ascii_digit ds ≡ true → filter no_point ds ≡ ds
 digits_stay [] h = refl
 digits_stay (d ∷ ds) h =
@@ -140,7 +140,7 @@ value_read m (negsuc n) fits =
 twice_negated : (z : ℤ) → neg_ℤ (neg_ℤ z) ≡ z
 twice_negated z = grind (arith, ints)
 
--- the value behind a score is of the score
+-- the value of a score's value is the score
 value_of-twice : (s : Score) (z : ℤ) → value_of s (value_of s z) ≡ z
 value_of-twice (Highest e) z = refl
 value_of-twice (Lowest e) z = twice_negated z
@@ -157,7 +157,7 @@ magnitude_fits z h = grind (arith, ints)
 negated_fits : (z : ℤ) → FitsSigned w64 z → unsigned_abs (neg_ℤ z) < 2 ^ 64
 negated_fits z h = grind (arith, ints)
 
--- the value behind a score has one
+-- the value of a score has a magnitude
 pub value_fits : (s : Score) (z : ℤ) → FitsSigned w64 z → unsigned_abs (value_of s z) < 2 ^ 64
 value_fits (Highest e) z h = magnitude_fits z h
 value_fits (Lowest e) z h = negated_fits z h

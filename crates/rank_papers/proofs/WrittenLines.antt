@@ -16,7 +16,7 @@ use Rattle.rank_papers.specs.Lines.{paper_lines, before_lines, onto_first}
 
 -- ---- a line of bytes that can be printed
 
--- a byte that can be printed is no line feed
+-- a byte that can be printed isn't a line feed
 no_feed : (b : ℕ) → is_printable b ≡ true → (b == 10) ≡ false
 no_feed b h = grind (arith, nat_tests)
 
@@ -117,7 +117,7 @@ take-past zero (x ∷ xs) ys e = absurd (omega (arith, e))
 take-past (suc n) [] ys e = absurd (omega (arith, e))
 take-past (suc n) (x ∷ xs) ys e = ap (λ (l : List ℕ). x ∷ l) (take-past n xs ys (omega (arith, e)))
 
--- a field between what stands before it and what follows it
+-- a field between what comes before it and what follows it
 pub between : (n m : ℕ) (front field behind : List ℕ) → n ≡ length front → m ≡ n + length field
     → slice_range (front ++ (field ++ behind)) n m ≡ field
 between n m front field behind begin end =

@@ -117,7 +117,7 @@ pub record IsRightEntry (q : Asked) (kth : Option ℤ) (e : Entry) (s : Usable) 
 abbrev pub AreRightEntries : Asked → Contents → List Entry → Type 0
 AreRightEntries q c es = AllZip (IsRightEntry q (kth_of_query q c)) es (morsels q c)
 
--- how many of these candidates are of the station of an entry; of one that was skipped none is counted
+-- how many of these candidates belong to the station of an entry; for one that was skipped none is counted
 abbrev pub count_of : List Candidate → Entry → ℕ
 count_of best e = if e.skipped then 0 else count_by (λ c. same_id c.id e.id) best
 
@@ -126,7 +126,7 @@ abbrev pub counts_of : ℕ → List Candidate → List Entry → List ℕ
 counts_of version best es = if version == 2 then map (count_of best) es else []
 
 -- a right certificate of a query and data, whatever its version, its bounds and skips: it has the query, the k-th
--- score, a right entry for each series, and in version 2 how many of the best candidates are of each
+-- score, a right entry for each series, and in version 2 how many of the best candidates belong to each
 pub record IsCertificate (q : Asked) (c : Contents) (bytes : List ℕ) : Type 0 where
   pub version : ℕ
   pub known : (version ≡ 1) ⊎ (version ≡ 2)
@@ -140,7 +140,7 @@ pub record IsCertificate (q : Asked) (c : Contents) (bytes : List ℕ) : Type 0 
     counts = counts_of version (best_of_query q c) entries;
   })
 
--- what a certificate says is right: it is of the query, has the k-th score, a right entry for each series, and the
+-- what a certificate says is right: it belongs to the query, has the k-th score, a right entry for each series, and the
 -- counts that its version has of the best candidates
 pub record SaysRight (q : Asked) (c : Contents) (v : Certified) : Type 0 where
   pub asked : v.query ≡ q

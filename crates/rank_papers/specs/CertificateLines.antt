@@ -109,7 +109,7 @@ abbrev pub certified_lines : List (List ℕ) → Result Certified ℕ
 certified_lines [] = Err 1
 certified_lines (l ∷ ls) = option_map_or (λ version. behind_title version ls) (version_in l) (Err 1)
 
--- what a certificate says, or the number of its first line that isn't in the format of its place
+-- what a certificate says, or the number of its first line that doesn't match the format there
 abbrev pub read_certificate : List ℕ → Result Certified ℕ
 read_certificate bytes = certified_lines (paper_lines bytes)
 

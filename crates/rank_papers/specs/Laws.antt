@@ -1,4 +1,4 @@
--- What the texts of papers are worth, as statements for the contract of a public function.
+-- What the texts of reports and certificates are worth, as statements for the contract of a public function.
 use Rattle.std.specs.Prelude.{◌≡◌, ◌↔◌, ℕ, List, Ok, Err}
 use Rattle.ghcn_series.specs.Series.{Contents}
 use Rattle.ghcn_series.specs.Held.{IsContents}
@@ -18,7 +18,7 @@ abbrev pub CertificatesGoWrong : Type 0
 CertificatesGoWrong = (bytes : List ℕ) (n : ℕ) →
     (read_certificate bytes ≡ Err n) ↔ IsFirstBadLine IsCertificateText bytes n
 
--- a certificate is right for a query and data if and only if it is of the form and says what is right
+-- a certificate is right for a query and data if and only if it has the form and says what is right
 abbrev pub RightCertificatesSayRight : Type 0
 RightCertificatesSayRight = (q : Asked) (c : Contents) (bytes : List ℕ) → IsAsked q → IsContents c →
     IsCertificate q c bytes ↔ ((v : Certified) × IsCertificateOf v bytes × SaysRight q c v)
@@ -31,7 +31,7 @@ ReportsAreRead = (bytes : List ℕ) (v : Reported) → (read_report bytes ≡ Ok
 abbrev pub ReportsGoWrong : Type 0
 ReportsGoWrong = (bytes : List ℕ) (n : ℕ) → (read_report bytes ≡ Err n) ↔ IsFirstBadLine IsReportText bytes n
 
--- a report is right for a query and data if and only if it is of the form and says what is right
+-- a report is right for a query and data if and only if it has the form and says what is right
 abbrev pub RightReportsSayRight : Type 0
 RightReportsSayRight = (q : Asked) (c : Contents) (bytes : List ℕ) → IsAsked q → IsContents c →
     IsReport q c bytes ↔ ((v : Reported) × IsReportOf v bytes × SaysRightReport q c v)

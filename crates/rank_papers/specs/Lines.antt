@@ -1,4 +1,4 @@
--- The lines of a paper with their line feeds, and the values that are read of a line.
+-- The lines of a report or a certificate with their line feeds, and the values that are read of a line.
 use Rattle.std.specs.Prelude.{◌≡◌, ◌<◌, ℕ, suc, ◌+◌, ◌-◌, ◌==◌, Bool, ◌&&◌, if◌then◌else◌, List, [], ◌∷◌, length, slice_range, Option, None, Some, Result, Ok, Err, ℤ, pos, neg_ℤ, int_le, ◌^◌}
 use Rattle.std.specs.List.{list_all}
 use Rattle.ghcn_fields.specs.Bytes.{same_bytes}
@@ -20,7 +20,8 @@ onto_first b (l ∷ ls) = (b ∷ l) ∷ ls
 abbrev pub before_lines : ℕ → List (List ℕ) → List (List ℕ)
 before_lines b ls = if b == 10 then (b ∷ []) ∷ ls else onto_first b ls
 
--- the lines of a paper, each with its line feed; what follows the last line feed is a line without one
+-- the lines of a report or a certificate, each with its line feed; what follows the last line feed is a line without
+-- one
 abbrev pub paper_lines : List ℕ → List (List ℕ)
 paper_lines [] = []
 paper_lines (b ∷ bytes) = before_lines b (paper_lines bytes)
@@ -52,7 +53,7 @@ value_or_end n (Some x) is_end behind rest = and_then x rest
 value_or_end n None is_end behind rest = ends_by n is_end behind
 
 -- the values of these lines, which come after that many others of their kind, up to an end line with the number of all;
--- the first of the kind is the line of this number, and each is read by how many stand before it
+-- the first of the kind is the line of this number, and each is read by how many come before it
 abbrev pub up_to_end : {A : Type 0} → ℕ → (ℕ → List ℕ → Option A) → (ℕ → List ℕ) → ℕ → List (List ℕ)
     → Result (List A) ℕ
 up_to_end first value_in end n [] = Err (n + first)

@@ -1,5 +1,5 @@
--- The papers of what a query needs of data are those of all these data, as statements for the contract of a public
--- function.
+-- The report and the certificate of what a query needs of data are those of all these data, as statements for the
+-- contract of a public function.
 use Rattle.std.specs.Prelude.{◌↔◌, ℕ, List}
 use Rattle.ghcn_series.specs.Series.{Contents}
 use Rattle.rank_query.specs.Asked.{Asked}

@@ -1,4 +1,4 @@
--- Where a text that isn't a paper goes wrong, whatever reads it.
+-- Where a text that doesn't have the form of a report, or of a certificate, goes wrong, whatever reads it.
 use Rattle.std.specs.Prelude.{◌≡◌, ◌⊎◌, ℕ, ◌+◌, List, [], ◌∷◌, ◌++◌, length}
 use Rattle.rank_papers.specs.ReportLines.{Reported, IsReportOf}
 use Rattle.rank_papers.specs.Certificate.{Certified, IsCertificateOf}
@@ -12,27 +12,27 @@ IsCertificateText bytes = (v : Certified) × IsCertificateOf v bytes
 abbrev pub IsReportText : List ℕ → Type 0
 IsReportText bytes = (v : Reported) × IsReportOf v bytes
 
--- lines begin a paper: with some lines after them they are the lines of a text of the form
+-- lines begin a text of the form: with some lines after them they are all of its lines
 pub record Begin (IsText : List ℕ → Type 0) (ls : List (List ℕ)) : Type 0 where
   pub text : List ℕ
   pub has_form : IsText text
   pub more : List (List ℕ)
   pub lines : paper_lines text ≡ ls ++ more
 
--- the line after these lines of a text is one with which no paper goes on
+-- the line after these lines of a text is one with which no text of the form goes on
 pub record IsWrongLine (IsText : List ℕ → Type 0) (bytes : List ℕ) (before : List (List ℕ)) : Type 0 where
   pub line : List ℕ
   pub behind : List (List ℕ)
   pub lines : paper_lines bytes ≡ before ++ line ∷ behind
   pub ended : Begin IsText (before ++ line ∷ []) → ⊥
 
--- the text stops too early: these are all its lines, and it isn't a paper
+-- the text stops too early: these are all its lines, and it doesn't have the form
 pub record StopsEarly (IsText : List ℕ → Type 0) (bytes : List ℕ) (before : List (List ℕ)) : Type 0 where
   pub lines : paper_lines bytes ≡ before
   pub no_paper : IsText bytes → ⊥
 
--- the number of the first line with which no paper goes on, or that of the line after the last if the text stops
--- too early: the lines before it begin a paper
+-- the number of the first line with which no text of the form goes on, or that of the line after the last if the text
+-- stops too early: the lines before it begin one
 pub record IsFirstBadLine (IsText : List ℕ → Type 0) (bytes : List ℕ) (n : ℕ) : Type 0 where
   pub before : List (List ℕ)
   pub begun : Begin IsText before

@@ -1,4 +1,4 @@
--- The papers of a plan: right ones, whatever the data of which it is the plan.
+-- The report and the certificate of a plan: right ones, whatever the data of which it is the plan.
 use Rattle.std.specs.Prelude.{◌≡◌, ℕ, List, map}
 use Rattle.ghcn_series.specs.Series.{Contents}
 use Rattle.ghcn_series.specs.Held.{IsContents}

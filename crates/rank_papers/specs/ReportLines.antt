@@ -35,7 +35,7 @@ pub record Reported : Type 0 where
 abbrev pub ends_in_print : List ℕ → Bool
 ends_in_print bytes = option_map_or (λ b. not (b == 32)) (slice_get bytes (length bytes - 1)) (nat_le (length bytes) 0)
 
--- a name that a row can have: at most thirty bytes that can be printed, the last of them no blank
+-- a name that a row can have: at most thirty bytes that can be printed, of which the last isn't a blank
 abbrev pub is_name : List ℕ → Bool
 is_name name = nat_le (length name) 30 && list_all is_printable name && ends_in_print name
 
@@ -62,7 +62,7 @@ pub record IsReportOf (v : Reported) (bytes : List ℕ) : Type 0 where
 abbrev pub name_of : List Station → StationId → Option (List ℕ)
 name_of stations id = option_map (λ station. trimmed station.name) (find (is_station_of id) stations)
 
--- what a report says is right: it is of the query, and its rows are the best candidates with their stations' names
+-- what a report says is right: it belongs to the query, and its rows are the best candidates with their stations' names
 pub record SaysRightReport (q : Asked) (c : Contents) (v : Reported) : Type 0 where
   pub asked : v.query ≡ q
   pub best : map (λ row. row.0) v.rows ≡ best_of_query q c
@@ -85,7 +85,7 @@ row_with id name (Some first) (Some last) (Some score) =
     then Some (record { id = record { 0 = id }; first = first; last = last; score = score }, name) else None
 row_with id name first last score = None
 
--- what stands in front of the first blank
+-- what comes before the first blank
 abbrev pub first_word : List ℕ → List ℕ
 first_word text = take_while (λ b. not (b == 32)) text
 
@@ -140,7 +140,7 @@ reported_lines [] = Err 1
 reported_lines (l ∷ ls) =
     if same_bytes l (text_line (codes "extremes report 1" ∷ [])) then behind_report_title ls else Err 1
 
--- what a report says, or the number of its first line that isn't in the format of its place
+-- what a report says, or the number of its first line that doesn't match the format there
 abbrev pub read_report : List ℕ → Result Reported ℕ
 read_report bytes = reported_lines (paper_lines bytes)
 

@@ -1,4 +1,5 @@
--- The right papers of a query and its series, by what a candidate is and what is best, and not by how these are found.
+-- The right report and the right certificates of a query and its series, by what a candidate is and what is best, and
+-- not by how these are found.
 use Rattle.std.specs.Prelude.{◌≡◌, ◌⊎◌, ◌↔◌, ◌≤◌, ◌<◌, ◌<ℤ◌, ℕ, ◌-◌, true, List, ◌++◌, length, map, Option, Some, ℤ}
 use Rattle.std.specs.Prelude.{FitsSigned, slice_get}
 use Rattle.std.specs.List.{Contains, AllByRecursion, AllZip, find, flat_map, count_by}
@@ -65,8 +66,8 @@ pub record IsTrueEntry (q : Asked) (kth : Option ℤ) (e : Entry) (s : Usable) :
   pub passed_over : e.skipped ≡ true → (score : ℤ) × (kth ≡ Some score) × (e.bound <ℤ score)
 
 -- a right certificate of a version, whatever its bounds and skips: it has the query, the score of the k-th of the best
--- or none, a true entry for each series of the query, and in version 2, if a series wasn't skipped, how many of
--- the best are of it
+-- or none, a true entry for each series of the query, and in version 2, if a series wasn't skipped, how many of the
+-- best belong to it
 pub record IsRightCertificate (version : ℕ) (q : Asked) (IsOne : Usable → Type 0) (bytes : List ℕ) : Type 0 where
   pub known : (version ≡ 1) ⊎ (version ≡ 2)
   pub best : List Candidate

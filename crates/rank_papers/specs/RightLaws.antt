@@ -1,5 +1,5 @@
--- That papers are right by what candidates are if they are by how these are found, and for what files say if they
--- are for the data of the files, as statements for the contracts of public functions.
+-- That a report and a certificate are right by what candidates are if they are by how these are found, and for what
+-- files say if they are for the data of the files, as statements for the contracts of public functions.
 use Rattle.std.specs.Prelude.{◌≡◌, ◌↔◌, ℕ, List, Ok}
 use Rattle.std.specs.List.{Contains}
 use Rattle.ghcn_files.specs.declared.station.Station.{Station}

@@ -22,7 +22,7 @@ abbrev pub is_behind : List StationId → StationId → ℕ → Bool
 is_behind ids id place =
     place == 0 || option_map_or (λ i. is_lt (slice_cmp nat_cmp i.0 id.0)) (slice_get ids (place - 1)) false
 
--- it would stand at that place, and is the same as neither neighbour
+-- it would come at that place, and is the same as neither neighbour
 abbrev pub is_gap : List StationId → StationId → ℕ → Bool
 is_gap ids id place =
     option_map_or (λ i. is_gt (slice_cmp nat_cmp i.0 id.0)) (slice_get ids place) true && is_behind ids id place

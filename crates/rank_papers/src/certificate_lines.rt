@@ -20,7 +20,7 @@ use std::alloc::Global;
 /// The greatest count, since a report has at most that many rows.
 const MOST_ROWS: u64 = 1000;
 
-/// What a certificate says, or its first line that isn't in the format of its place.
+/// What a certificate says, or its first line that doesn't match the format there.
 pub fn read_certificate(alloc: Global, bytes: &[u8]) -> Result<Certificate, PaperFault>
     ensures ok { IfOk result (λ c.
         certificate.read_certificate bytes.now ≡ Ok (certificate.certified_in c)) }
@@ -170,7 +170,7 @@ fn add(lines: &mut Vec<Counted>, line: Counted) -> Result<(), Memory>
     Ok(())
 }
 
-/// Reads the end line of that many lines, after which nothing stands.
+/// Reads the end line of that many lines, after which nothing may come.
 fn read_end(paper: &mut Vec<u8>, count: u64, line: &[u8], behind: &[u8]) -> Result<(), PaperFault>
     requires { count < 2 ^ 63 }
     ensures ok { OnOk result (certificate.ending count line.now behind.now ≡ Ok []) }

@@ -1,12 +1,12 @@
-//! A line of a certificate with its count: how many rows of the report are of its station.
+//! A line of a certificate with its count: how many rows of the report belong to its station.
 
 ghost use Rattle.std.specs.Prelude.{◌≡◌};
 ghost use Rattle.rank_papers.specs.Certificate as certificate;
 
 use rank_sched::Line;
 
-/// The line of a series, and how many rows of the report are of its station: 0 if it was skipped,
-/// and in version 1.
+/// The line of a series, and how many rows of the report belong to its station: 0 if it was
+/// skipped, and in version 1.
 #[derive(Clone, Copy, Debug)]
 pub(crate) struct Counted {
     pub(crate) entry: Line,

@@ -2,7 +2,7 @@
 
 use ghcn_fields::Memory;
 
-/// The first line that isn't in the format of its place, counted from 1, or out of memory.
+/// The first line that doesn't match the format there, counted from 1, or out of memory.
 #[derive(Clone, Copy, Debug, PartialEq, Eq)]
 pub enum PaperFault {
     BadReport { line: u64 },

@@ -1,4 +1,4 @@
-//! What the texts of papers are worth, as laws over their definitions.
+//! What the texts of reports and certificates are worth, as laws over their definitions.
 
 ghost use Rattle.rank_papers.specs.Laws as laws;
 ghost use Rattle.rank_papers.specs.OneElement as one_element;
@@ -38,8 +38,8 @@ pub fn papers_are_said()
     ensures certificate { right.CertificatesAreSaid }
 {}
 
-/// The papers of a query say nothing of the series of other elements: if these are left out of
-/// the data, the same report and the same certificates are right.
+/// The report and the certificate of a query say nothing of the series of other elements: if these
+/// are left out of the data, the same report and the same certificates are right.
 pub fn papers_of_one_element()
     ensures report { one_element.ReportStays }
     ensures certificate { one_element.CertificateStays }

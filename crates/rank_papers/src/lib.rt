@@ -1,5 +1,5 @@
-//! The papers of a ranking, as texts: the report of a query's best candidates, and the certificate
-//! that accounts for each of its series.
+//! The report and the certificate of a ranking, as texts: the report of a query's best candidates,
+//! and the certificate that accounts for each of its series.
 //!
 //! The program writes them. It is proved that the report of the best candidates of a query
 //! is the right one, that the certificate of a plan's answer is a right one, and that a text is read

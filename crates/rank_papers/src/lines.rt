@@ -1,4 +1,4 @@
-//! The lines of a paper, each with its line feed, and numbers in their fields.
+//! The lines of a report or a certificate, each with its line feed, and numbers in their fields.
 
 ghost use Rattle.std.specs.Prelude.{◌≡◌, ◌≤◌, ◌-◌, ◌^◌, length, slice_range, Some, pos, neg_ℤ};
 ghost use Rattle.std.specs.List.{list_all};
@@ -28,7 +28,7 @@ pub(crate) fn first_line(text: &[u8]) -> Option<(&[u8], &[u8])>
     }
 }
 
-/// What stands in a line from a byte on, before its last byte.
+/// What a line has from a byte on, before its last byte.
 pub(crate) fn field_from(line: &[u8], from: usize) -> &[u8]
     ensures { result.now ≡ slice_range line.now from (length line.now - 1) }
 {
@@ -39,7 +39,7 @@ pub(crate) fn field_from(line: &[u8], from: usize) -> &[u8]
     }
 }
 
-/// What stands in a line from a byte on, up to another.
+/// What a line has from a byte on, up to another.
 pub(crate) fn columns(line: &[u8], from: usize, to: usize) -> &[u8]
     ensures { result.now ≡ slice_range line.now from to }
 {

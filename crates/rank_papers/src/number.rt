@@ -1,4 +1,4 @@
-//! Numbers that are added to the end of a paper.
+//! Numbers that are added to the end of a report or a certificate.
 
 ghost use Rattle.std.specs.Prelude.{◌≡◌, ◌++◌, OnOk, decimal, int_lt, pos};
 ghost use Rattle.std.specs.Fmt.{signed_decimal};

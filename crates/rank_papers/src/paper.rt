@@ -27,7 +27,7 @@ pub struct Certificate {
     pub query: Query,
     pub kth: Option<i64>,
     pub lines: Vec<Line>,
-    /// In version 2, for each line how many rows of the report are of its station: 0 if the
+    /// In version 2, for each line how many rows of the report belong to its station: 0 if the
     /// series was skipped. In version 1 none at all.
     pub counts: Vec<u64>,
 }

@@ -1,4 +1,4 @@
-//! The line of a query, which both papers have.
+//! The line of a query, which a report and a certificate have.
 
 ghost use Rattle.std.specs.Prelude.{◌≡◌, IfOk};
 ghost use Rattle.rank_papers.specs.Lines as lines;

@@ -33,7 +33,7 @@ use std::alloc::Global;
 /// How many bytes a name has at most.
 const NAME_LENGTH: usize = 30;
 
-/// What a report says, or its first line that isn't in the format of its place.
+/// What a report says, or its first line that doesn't match the format there.
 pub fn read_report(alloc: Global, bytes: &[u8]) -> Result<Report, PaperFault>
     ensures ok { IfOk result (λ r. report.read_report bytes.now ≡ Ok (report.reported_in r)) }
     ensures says { IfOk result (λ r. report.IsReportOf (report.reported_in r) bytes.now) }
@@ -105,7 +105,7 @@ fn add(rows: &mut Vec<Row>, row: Row) -> Result<(), Memory>
     Ok(())
 }
 
-/// Reads the end line of that many rows, after which nothing stands.
+/// Reads the end line of that many rows, after which nothing may come.
 fn read_end(
     paper: &mut Vec<u8>,
     query: &Query,
@@ -230,7 +230,7 @@ fn id_of(bytes: &[u8]) -> Option<StationId>
     }
 }
 
-/// What stands in front of the first blank.
+/// What comes before the first blank.
 pub(crate) fn first_word(text: &[u8]) -> &[u8]
     ensures { result.now ≡ report.first_word text.now }
 {
@@ -240,7 +240,7 @@ pub(crate) fn first_word(text: &[u8]) -> &[u8]
     }
 }
 
-/// At most thirty bytes that can be printed, the last of them no blank.
+/// At most thirty bytes that can be printed, of which the last isn't a blank.
 fn is_name(name: &[u8]) -> bool
     ensures { result ≡ report.is_name name.now }
 {
@@ -265,7 +265,7 @@ fn score_in(paper: &mut Vec<u8>, query: &Query, field: &[u8]) -> Result<Option<i
     Ok(score_of_digits(query.score(), paper))
 }
 
-/// Makes the paper a field without its points.
+/// Copies a field without its points into `paper`.
 fn copy_without_point(paper: &mut Vec<u8>, field: &[u8]) -> Result<(), Memory>
     ensures { OnOk result (paper.new.items ≡ filter (λ b. not (b == 46)) field.now) }
 {

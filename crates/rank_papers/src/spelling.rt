@@ -35,7 +35,7 @@ pub(crate) fn is_line_of(
     Ok(has_back(paper.as_slice(), unit, &row.name, line, rank.len() + 35))
 }
 
-/// Whether a blank stands at a place of a line.
+/// Whether a blank is at a place of a line.
 fn has_blank(line: &[u8], at: usize) -> bool
     ensures { result ≡ spelled.has_blank line.now at }
 {
@@ -45,7 +45,7 @@ fn has_blank(line: &[u8], at: usize) -> bool
     }
 }
 
-/// Whether a text stands in a line from a place on.
+/// Whether a line has a text from a place on.
 fn has_text(text: &[u8], line: &[u8], from: usize) -> bool
     requires { from + length text.now < 2 ^ 64 }
     ensures { result ≡ spelled.has_text text.now line.now from }
@@ -53,7 +53,7 @@ fn has_text(text: &[u8], line: &[u8], from: usize) -> bool
     text == columns(line, from, from + text.len())
 }
 
-/// Whether a rank stands at the front of a line, and a blank after it, before both days and after the last.
+/// Whether a line begins with a rank, and has a blank after it, before both days and after the last.
 fn has_front(rank: &[u8], line: &[u8]) -> bool
     requires { length rank.now < 64 }
     ensures { result ≡ spelled.has_front rank.now line.now }
@@ -66,14 +66,14 @@ fn has_front(rank: &[u8], line: &[u8]) -> bool
         && has_blank(line, digits + 34)
 }
 
-/// Whether a line feed is what stands in a line from a place on.
+/// Whether a line feed is what a line has from a place on.
 fn ends_at(line: &[u8], from: usize) -> bool
     ensures { result ≡ spelled.ends_at line.now from }
 {
     from < line.len() && &line[from..] == b"\n".as_slice()
 }
 
-/// Whether a blank and a name, if it isn't empty, stand in a line from a place on, and then it ends.
+/// Whether a line has a blank and a name, if it isn't empty, from a place on, and then ends.
 fn ends_by_name(name: &[u8], line: &[u8], from: usize) -> bool
     requires { from + length name.now + 1 < 2 ^ 64 }
     ensures { result ≡ spelled.ends_by_name name.now line.now from }
@@ -88,7 +88,7 @@ fn ends_by_name(name: &[u8], line: &[u8], from: usize) -> bool
     }
 }
 
-/// Whether a value, a blank, a unit, and a name stand in a line from a place on, and then it ends.
+/// Whether a line has a value, a blank, a unit, and a name from a place on, and then ends.
 fn has_back(value: &[u8], unit: &[u8], name: &[u8], line: &[u8], from: usize) -> bool
     requires { from + length value.now + length unit.now + length name.now + 2 < 2 ^ 64 }
     ensures { result ≡ spelled.has_back value.now unit.now name.now line.now from }

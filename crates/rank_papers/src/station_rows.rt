@@ -1,4 +1,4 @@
-//! How many rows of a report are of the station of each line of its certificate.
+//! How many rows of a report belong to the station of each line of its certificate.
 
 ghost use Rattle.std.specs.Prelude.{◌≡◌, IfOk, map};
 ghost use Rattle.std.specs.List.{count_by};
@@ -13,10 +13,11 @@ use rank_sched::Line;
 use rank_scores::Candidate;
 use std::alloc::Global;
 
-/// How many rows are of the station of each line, in the order of the lines; 0 if it was skipped.
+/// How many rows belong to the station of each line, in the order of the lines; 0 if it was
+/// skipped.
 ///
 /// The rows are sorted by ID once, so a line costs at most the logarithm of their number; one that
-/// stands with the line before it between the same two rows costs two comparisons.
+/// falls between the same two rows as the line before it costs two comparisons.
 pub fn row_counts(alloc: Global, rows: &[Candidate], lines: &[Line]) -> Result<Vec<u64>, Memory>
     ensures { IfOk result (λ found. found.items ≡ map (certificate.count_of rows.now) lines.now) }
 {
@@ -70,7 +71,7 @@ fn count_of(ids: &[StationId], line: &Line, place: usize) -> (u64, usize)
 }
 
 /// How often an ID is among some in order, and the place after it. A place is looked at first, that
-/// after the line before: lines rise by ID, and most are of stations without rows.
+/// after the line before: lines rise by ID, and most belong to stations without rows.
 fn count(ids: &[StationId], id: &StationId, place: usize) -> (u64, usize)
     requires { counts.AreInOrder ids.now }
     ensures { result.0 ≡ count_by (λ i. same_id i id.now) ids.now }
@@ -83,7 +84,7 @@ fn count(ids: &[StationId], id: &StationId, place: usize) -> (u64, usize)
     ((through - before) as u64, through)
 }
 
-/// Whether an ID would stand at a place among some in order, and is the same as neither neighbour.
+/// Whether an ID would come at a place among some in order, and is the same as neither neighbour.
 fn is_gap(ids: &[StationId], id: &StationId, place: usize) -> bool
     ensures { result ≡ counts.is_gap ids.now id.now place }
 {

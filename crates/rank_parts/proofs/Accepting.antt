@@ -1,4 +1,4 @@
--- What a part says that accepts papers.
+-- What a part says that accepts a report and a certificate.
 use Rattle.std.proofs.Common.{◌≡◌, ℕ, suc, Bool, true, false, cond, List, [], ◌∷◌, length, Option, Some, None, refl}
 use Rattle.std.proofs.Common.{ap, ◌∙◌, ◌+◌}
 use Rattle.std.specs.List.{AllByRecursion}

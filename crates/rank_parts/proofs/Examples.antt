@@ -64,7 +64,7 @@ no_part = part []
 abbrev ask : ℕ → Asked
 ask k = top k (Highest Tmax)
 
--- ---- the papers
+-- ---- the report and the certificate
 
 -- lines, each with a line feed
 abbrev text : List (List ℕ) → List ℕ
@@ -211,7 +211,7 @@ unfolding digits year_and_rest month_and_day read_query read_words keyword says 
     region_at season_at period_at days_from_civil day_count days_of_years days_of_months
 rows_of_heads = refl
 
--- ---- what is told first
+-- ---- what is reported first
 
 -- the head before a line, a line before the next one, and a line before one that is missing
 in_turn : (of_certificate first_part (text (codes "extremes certificate 2" ∷ codes "query top 1 highest TMAX"

@@ -1,4 +1,4 @@
--- A right head, as the pieces of papers have it.
+-- A right head, as the pieces of a report and a certificate have it.
 use Rattle.std.proofs.Common.{◌≡◌, inr, ◌≤◌, Bool, true, false, cond, List, [], ◌∷◌, length, map, refl}
 use Rattle.std.proofs.Common.{ap, subst, arith}
 use Rattle.std.specs.Prelude.{nat_le}

@@ -74,7 +74,7 @@ module _ (q : Asked) (d : Contents) (rows : List Named) (e : Entry) where
   pub not_listed : find (is_station_of e.id) d.stations ≡ None → None ≡ why_of_line q d rows e
   not_listed f = sym (ap (option_and_then (why_at q d rows e)) f)
 
-  -- nor one whose series is no morsel
+  -- nor one whose series isn't a morsel
   pub not_own : (st : Station) (o : Option Usable) → series_of d e.id (score_element q.score) ≡ o
       → find (is_station_of e.id) d.stations ≡ Some st → is_morsel q st o ≡ false → None ≡ why_of_line q d rows e
   not_own st o s f none =
@@ -137,7 +137,7 @@ nothing_in : {X : Type 0} (xs : List X) → ((x : X) → In xs x → ⊥) → xs
 nothing_in [] f = refl
 nothing_in (x ∷ xs) f = absurd (f x (inl refl))
 
--- if no row is counted at a line, none is of its station
+-- if no row is counted at a line, none belongs to its station
 none_of : (rows : List Named) (es : List Entry) → RiseAll (ids_of es)
     → AllByRecursion (λ (row : Named). is_scanned es row.0.id ≡ true) rows → (e : Entry) → In es e
     → count_of (of_rows rows) e ≡ 0 → rows_with e.id rows ≡ []

@@ -49,7 +49,7 @@ module _ (series : MorselsStay) (q : Asked) (c : Contents) where
       (cond (list_all (λ st. not (is_morsel q st (own i st)) || has_line z.entries st.id) c.stations) None
       (Some (Refused Certificate (length z.entries + 4) OtherSeries)))))
 
--- on the texts of papers
+-- on the texts of a report and a certificate
 pub verdict_stays : MorselsStay → PartVerdictStays
 verdict_stays series q c report certificate =
     judged-same series q c (read_report report) (read_certificate certificate)

@@ -54,7 +54,7 @@ in_zip {Y = Y} R (w ∷ xs) (z ∷ ys) h x k = elim k [
   | inr l ↦ let rest = in_zip R xs ys h.1 x l in (rest.0, inr rest.1, rest.2)
 ]
 
--- they are as many
+-- both lists have the same length
 pub zip_long : {X Y : Type 0} (R : X → Y → Type 0) (xs : List X) (ys : List Y) → AllZip R xs ys → length xs ≡ length ys
 zip_long R [] [] h = refl
 zip_long R [] (y ∷ ys) h = absurd h
@@ -159,7 +159,7 @@ module _ (q : Asked) (c : Contents) (ds : List Contents) (right : IsContents c) 
     sum_by-cons (λ (x : ℕ). x) k ks,
   )
 
-  -- so there are as many morsels of all data
+  -- so all data have as many morsels as all parts say together
   all_counted : length (morsels q c) ≡ sum ns
   all_counted =
       let sorted : List Usable = sorted_by series_first (flat_map (morsels q) ds) in
@@ -173,7 +173,7 @@ module _ (q : Asked) (c : Contents) (ds : List Contents) (right : IsContents c) 
     abbrev ids : List StationId
     ids = map (λ (s : Usable). s.id) (morsels q c)
 
-    -- there are as many lines
+    -- there are at most as many lines as morsels
     as_many : length (ids_of z.entries) ≤ length (map (λ (s : Usable). s.id) (morsels q c))
     as_many = omega (
       arith,
@@ -184,7 +184,7 @@ module _ (q : Asked) (c : Contents) (ds : List Contents) (right : IsContents c) 
       adds,
     )
 
-    -- so each line is of a morsel
+    -- so each line belongs to a morsel
     morsel_for : (e : Entry) → In z.entries e → (v : Usable) × In (morsels q c) v × (v.id ≡ e.id)
     morsel_for e h =
         map_in (λ (s : Usable). s.id) (morsels q c) e.id
@@ -254,7 +254,7 @@ module _ (q : Asked) (c : Contents) (ds : List Contents) (right : IsContents c) 
         each [] f = tt
         each (e ∷ es) f = (line_accepted e (f e (inl refl)), each es (λ x h. f x (inr h)))
 
-    -- and a station without a line is no morsel
+    -- and a station without a line isn't a morsel
     pub none_missing : AllByRecursion (IsAbsent q c z.entries) c.stations
     none_missing = for_each (IsAbsent q c z.entries) c.stations (λ st h none. by st h none
         (is_morsel q st (own_series q c st)) refl)

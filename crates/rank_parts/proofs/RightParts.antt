@@ -1,4 +1,4 @@
--- Papers that are right for the whole are accepted by all parts.
+-- A report and a certificate that are right for the whole are accepted by all parts.
 use Rattle.std.proofs.Common.{◌≡◌, inl, inr, ℕ, suc, ◌+◌, Bool, true, false, cond, not, List, [], ◌∷◌, length}
 use Rattle.std.proofs.Common.{map, Option, Some, None, refl, sym, ap, ◌∙◌, subst, arith, ◌||◌}
 use Rattle.std.specs.List.{find, list_any, sum, flat_map, AllByRecursion, AllZip}

@@ -6,7 +6,7 @@ use Rattle.rank_papers.specs.Certificate.{Entry}
 use Rattle.ghcn_series.proofs.Members.{In, of_one, in_map}
 use Rattle.rank_check.proofs.RisingIds.{IsBefore, one_way, RiseAll, ids_of}
 
--- an ID doesn't stand before itself
+-- an ID doesn't come before itself
 not_before : (i : StationId) → IsBefore i i → ⊥
 not_before i h = one_way i i h h
 

@@ -14,7 +14,7 @@ use Rattle.rank_head.specs.HeadTests.{IdsRise}
 use Rattle.rank_head.proofs.Scanned.{by_bytes, same_by, searchable}
 use Rattle.rank_parts.specs.Parts.{has_line}
 
--- no line is of a station where none is at any place
+-- no line belongs to a station if none is at any place
 no_line : (id : StationId) (es : List Entry)
     → ((k : ℕ) (d : Entry) → k < length es → same_id (get_or es k d).id id ≡ false) → has_line es id ≡ false
 no_line id [] h = refl
@@ -22,7 +22,7 @@ no_line id (e ∷ es) h =
     ap (λ (b : Bool). b || has_line es id) (h zero e (omega arith))
     ∙ no_line id es (λ k d below. h (suc k) d (omega (arith, below)))
 
--- a search says whether a line is of the station
+-- a search says whether a line belongs to the station
 pub searched : (id : StationId) (es : List Entry) → IdsRise es → (r : Result ℕ ℕ)
     → IsSearchInRange r (length es) → IsBinarySearchResult (λ e. by_bytes e.id id) es r → is_ok r ≡ has_line es id
 searched id [] up (Ok i) within found = absurd (omega (arith, within))

@@ -21,7 +21,7 @@ use Rattle.rank_parts.specs.Parts.{is_own, has_line, have_lines}
 -- ---- one element more
 
 module _ {X : Type 0} (test : X → Bool) where
-  -- the answer for all so far, with one more
+  -- the result for all so far, with one more
   all-more : (xs : List X) (i : ℕ) (x : X) → slice_get xs i ≡ Some x
       → list_all test (take (suc i) xs) ≡ (list_all test (take i xs) && test x)
   all-more [] i x e = absurd cc
@@ -59,7 +59,7 @@ module _ {X : Type 0} (test : X → Bool) where
   none-more (y ∷ ys) zero e = absurd cc
   none-more (y ∷ ys) (suc i) e = ap (λ (l : List X). y ∷ l) (none-more ys i e)
 
-  -- not all pass where one doesn't
+  -- not all pass if one doesn't
   one_fails : (xs : List X) (i : ℕ) (x : X) → slice_get xs i ≡ Some x → test x ≡ false → list_all test xs ≡ false
   one_fails [] i x e f = absurd cc
   one_fails (y ∷ ys) zero x e f =
@@ -178,7 +178,7 @@ module _ (q : Asked) (d : Contents) where
     not_listed place st e own line =
         one_fails is_listed d.stations place st e (ap (λ (b : Bool). not b || has_line es st.id) own ∙ line)
 
--- a station has a morsel where its series, which was looked up, is one
+-- a station has a morsel if its series, which was looked up, is one
 pub own_is : (q : Asked) (d : Contents) (st : Station) (el : Element) (o : Option Usable) (b : Bool)
     → el ≡ score_element q.score → o ≡ series_of d st.id el → b ≡ is_morsel q st o → is_own q d st ≡ b
 own_is q d st el o b e f g =

@@ -1,4 +1,4 @@
--- Papers that all parts accept are right for the whole.
+-- A report and a certificate that all parts accept are right for the whole.
 use Rattle.std.proofs.Common.{◌≡◌, ℕ, ◌<◌, List, [], ◌∷◌, ◌++◌, length, map, Result, Ok, Err, refl, sym, ap, ◌∙◌}
 use Rattle.std.proofs.Common.{subst, arith, inl, inr}
 use Rattle.std.specs.List.{flat_map, sum, AllZip}
@@ -30,12 +30,12 @@ use Rattle.rank_parts.proofs.Heads.{recounted, recounted_head, recounted_can, fe
 use Rattle.rank_parts.proofs.OwnLines.{zip_long, lines_accepted, none_missing}
 use Rattle.rank_parts.proofs.RightParts.{nothing_refused, add_up}
 
--- ---- papers that were read
+-- ---- a report and a certificate that were read
 
 module _ (heads : HeadsAreRight) (pieces : RightInPieces) (q : Asked) (c : Contents) (ds : List Contents) (r : Reported)
     (z : Certified) (asked : IsAsked q) (dataset : IsContents c) (cut : IsCut q c ds) (report : IsReported r)
     (certificate : IsCertified z) where
-  -- papers whose head is right, and in which no part sees anything to refuse, say what is right
+  -- a report and a certificate whose head is right, and in which no part sees anything to refuse, say what is right
   say : right.IsRightHead q r z → (ns : List ℕ) → AllZip (λ d n. SeesNothing q d r z n (length z.entries)) ds ns
       → sum ns ≡ length z.entries → SaysRightReport q c r × SaysRight q c z
   say head ns seen adds =
@@ -73,7 +73,7 @@ module _ (heads : HeadsAreRight) (pieces : RightInPieces) (q : Asked) (c : Conte
   first_sees m (d ∷ es) [] some h = absurd h
   first_sees m (d ∷ es) (n ∷ ns) some h = ((heads q r z asked report certificate).0 h.0.head, h.0.long)
 
-  -- papers that all parts accept say what is right
+  -- a report and a certificate that all parts accept say what is right
   accepted_say : (m : ℕ) (ns : List ℕ) → 0 < length ds
       → AllZip (λ d n. part_judged q d (Ok r) (Ok z) ≡ Accepted n m) ds ns → sum ns ≡ m
       → SaysRightReport q c r × SaysRight q c z
@@ -85,7 +85,7 @@ module _ (heads : HeadsAreRight) (pieces : RightInPieces) (q : Asked) (c : Conte
 
   -- ---- and back
 
-  -- papers that say what is right have a right head
+  -- a report and a certificate that say what is right have a right head
   head_of : SaysRightReport q c r → SaysRight q c z → AreRightPieces q c r (recounted r.rows z)
       → right.IsRightHead q r z
   head_of said told h = record {
@@ -140,7 +140,7 @@ module _ (heads : HeadsAreRight) (pieces : RightInPieces) (q : Asked) (c : Conte
 
 -- ---- texts
 
--- something stands in a list that isn't empty
+-- something is in a list that isn't empty
 none : (R : Contents → ℕ → Type 0) → ((d : Contents) (n : ℕ) → R d n → ⊥) → (es : List Contents) (ns : List ℕ)
     → 0 < length es → AllZip R es ns → ⊥
 none R f [] ns some h = omega (arith, some)
@@ -150,7 +150,7 @@ none R f (d ∷ es) (n ∷ ns) some h = f d n h.0
 module _ (certificates : CertificatesAreRead) (right_certificates : RightCertificatesSayRight)
     (reports : ReportsAreRead)
     (right_reports : RightReportsSayRight) (heads : HeadsAreRight) (pieces : RightInPieces) where
-  -- papers that all parts accept are right for all data
+  -- a report and a certificate that all parts accept are right for all data
   right_whole : (q : Asked) (c : Contents) (ds : List Contents) (report certificate : List ℕ) → IsAsked q → IsContents c
       → IsCut q c ds → 0 < length ds → AllAccept q report certificate ds
       → IsReport q c report × IsCertificate q c certificate
@@ -173,7 +173,7 @@ module _ (certificates : CertificatesAreRead) (right_certificates : RightCertifi
       by (Ok r) (Err n) e f h = absurd (none (λ d k. part_judged q d (Ok r) (Err n) ≡ Accepted k all.lines)
           (λ d k g. cc) ds all.series some h)
 
-  -- and right papers are accepted by all parts
+  -- and a right report and a right certificate are accepted by all parts
   all_accept : (q : Asked) (c : Contents) (ds : List Contents) (report certificate : List ℕ) → IsAsked q → IsContents c
       → IsCut q c ds → IsReport q c report → IsCertificate q c certificate → AllAccept q report certificate ds
   all_accept q c ds report certificate asked dataset cut is_report is_certificate =
@@ -202,7 +202,7 @@ module _ (certificates : CertificatesAreRead) (right_certificates : RightCertifi
 
 -- ---- files
 
--- files without papers, as parts that have some
+-- files without a report and a certificate, as parts that have them
 abbrev without_papers : List (List ℕ) → Filed
 without_papers files = (files, ([], []))
 
@@ -220,7 +220,7 @@ files_filed : (parts : List (List (List ℕ)))
 files_filed [] = refl
 files_filed (p ∷ parts) = ap (λ (l : List (List ℕ)). p ++ l) (files_filed parts)
 
--- papers are right for all files if and only if all parts accept them
+-- a report and a certificate are right for all files if and only if all parts accept them
 pub of_files : PartsMakeTheWhole → CutByFiles → DataAreRight → FilesMakeTheWhole
 of_files whole cut are_right q list stations parts ds c report certificate asked lists are some =
     whole q c ds report certificate asked

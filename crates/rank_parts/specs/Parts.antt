@@ -1,5 +1,5 @@
--- What a part of an archive says of papers of the whole: of their head, of the lines of its own series, and of its own
--- series without a line.
+-- What a part of an archive says of a report and a certificate of the whole: of their head, of the lines of its own
+-- series, and of its own series without a line.
 use Rattle.std.specs.Prelude.{ℕ, suc, ◌+◌, Bool, ◌||◌, not, if◌then◌else◌, List, [], ◌∷◌, length, Option, None, Some}
 use Rattle.std.specs.Prelude.{Result, Ok, Err}
 use Rattle.std.specs.List.{list_all, list_any, find}
@@ -67,7 +67,7 @@ first_refused reason n (e ∷ es) =
 
 -- ---- series without a line
 
--- a line is of this station
+-- a line belongs to this station
 abbrev pub has_line : List Entry → StationId → Bool
 has_line es id = list_any (λ e. same_id e.id id) es
 
@@ -82,7 +82,7 @@ missing_refused q d es =
 
 -- ---- the verdict
 
--- the refusal of papers that were read: of the head, of the first line, or of a missing one
+-- the refusal of a report and a certificate that were read: of the head, of the first line, or of a missing one
 abbrev pub refused : Asked → Contents → Reported → Certified → Option PartVerdict
 refused q d r z =
     option_or (option_map refusal_of (head_fault q r z))
@@ -93,7 +93,7 @@ abbrev pub or_accepted : ℕ → ℕ → Option PartVerdict → PartVerdict
 or_accepted series lines None = Accepted series lines
 or_accepted series lines (Some v) = v
 
--- the verdict on what both papers say, once both have been read
+-- the verdict on what the report and the certificate say, once both have been read
 abbrev pub part_judged : Asked → Contents → Result Reported ℕ → Result Certified ℕ → PartVerdict
 part_judged q d (Err line) z = Refused Report line why.Form
 part_judged q d (Ok r) (Err line) = Refused Certificate line why.Form

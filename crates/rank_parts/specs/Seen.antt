@@ -1,4 +1,4 @@
--- What the head has shown of rows and lines, for whoever goes through the lines.
+-- What the head has shown of rows and lines, for the tests that go through the lines.
 use Rattle.std.specs.Prelude.{◌≡◌, ◌≤◌, List, [], length}
 use Rattle.std.specs.List.{AllByRecursion}
 use Rattle.rank_query.specs.Asked.{Asked}
@@ -9,7 +9,7 @@ use Rattle.rank_check.specs.Pieces.{AreInOrder}
 use Rattle.rank_check.specs.InPieces.{rows_with}
 
 -- each row precedes the next, there are at most as many as were asked for, and if none of them is counted at a line,
--- none is of its station
+-- none belongs to its station
 pub record IsSeen (q : Asked) (rows : List Named) (e : Entry) : Type 0 where
   pub order : AreInOrder (of_rows rows)
   pub few : length rows ≤ q.k

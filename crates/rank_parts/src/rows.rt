@@ -9,7 +9,7 @@ use ghcn_files::StationId;
 use rank_papers::Row;
 use std::alloc::Global;
 
-/// The rows of a station, in their order, if that many are of it.
+/// The rows of a station, in their order, if that many belong to it.
 ///
 /// Most stations have none, and then the rows aren't looked at.
 pub(crate) fn own_rows(

@@ -41,7 +41,7 @@ pub(crate) fn is_own(query: &Query, station: &Station, series: Option<&Series>) 
     !check_absent(query, station, series)
 }
 
-/// Whether one of these lines, which rise by ID, is of a station.
+/// Whether one of these lines, which rise by ID, belongs to a station.
 fn has_line(lines: &[Line], id: &StationId) -> bool
     requires { IdsRise lines.now }
     ensures { result ≡ parts.has_line lines.now id.now }

@@ -1,4 +1,5 @@
-//! The line that a part prints: `accepted N of M`, or `refused PAPER line L WHY`.
+//! The line that a part prints: `accepted N of M`, `refused report line L WHY` or `refused
+//! certificate line L WHY`.
 
 use crate::PartVerdict;
 use std::fmt;

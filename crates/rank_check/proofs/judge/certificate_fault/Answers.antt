@@ -12,7 +12,7 @@ use Rattle.rank_check.specs.Tests.{length_test, tests_of_lines}
 use Rattle.rank_check.proofs.Judging.{certificate_decided}
 use Rattle.rank_check.proofs.judge.certificate_fault.Goals as goal
 
--- the lines decide, or else their number
+-- the lines decide, or otherwise their number
 pub returns : goal.returns
 returns c = λ dataset kth tops.
     let q = c.args.query.now in

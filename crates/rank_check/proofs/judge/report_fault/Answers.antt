@@ -3,7 +3,7 @@ use Rattle.rank_papers.specs.ReportLines.{reported_in}
 use Rattle.rank_check.proofs.Judging.{few_rows, number_decided, rows_decided, report_decided}
 use Rattle.rank_check.proofs.judge.report_fault.Goals as goal
 
--- the rows decide, or else their number
+-- the rows decide, or otherwise their number
 pub returns : goal.returns
 returns c =
     let q = c.args.query.now in

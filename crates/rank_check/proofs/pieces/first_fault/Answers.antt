@@ -14,7 +14,7 @@ use Rattle.rank_check.proofs.KthScores.{candidates_named}
 use Rattle.rank_check.proofs.Piecing.{piece-by}
 use Rattle.rank_check.proofs.pieces.first_fault.Goals as goal
 
--- a row is no candidate of the series
+-- a row isn't a candidate of the series
 pub returns-then-not-are_candidates : goal.returns-then-not-are_candidates
 returns-then-not-are_candidates c =
     let q = c.args.query.now in

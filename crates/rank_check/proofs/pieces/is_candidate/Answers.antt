@@ -3,7 +3,7 @@ use Rattle.rank_scores.specs.Candidates.{candidates}
 use Rattle.rank_check.proofs.Reaching.{wanted-found}
 use Rattle.rank_check.proofs.pieces.is_candidate.Goals as goal
 
--- it was found where it is among the candidates
+-- it was found if it is among the candidates
 pub returns : goal.returns
 returns c =
     ap (λ w. w.found) c.scan.ensures

@@ -5,7 +5,7 @@ use Rattle.rank_check.specs.declared.pieces.Reached.{Reached}
 use Rattle.rank_check.proofs.Reaching.{reached-all, missing-all}
 use Rattle.rank_check.proofs.pieces.reach.Goals as goal
 
--- a candidate is left out where the rows haven't all that are within
+-- a candidate is left out if the rows haven't all that are within
 pub returns-clause-left_out : goal.returns-clause-left_out
 returns-clause-left_out c =
     let start : Reached = record { rows = c.args.rows; worst = c.args.worst; left_out = false; highest = None } in

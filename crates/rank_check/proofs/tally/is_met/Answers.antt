@@ -3,7 +3,7 @@ use Rattle.rank_check.specs.Marks.{is_met, is_met_before}
 use Rattle.rank_check.proofs.Marks.{met-before}
 use Rattle.rank_check.proofs.tally.is_met.Goals as goal
 
--- where its mark stands before its place it has one
+-- if its mark comes before its place it has one
 pub returns-then-is_met_before : goal.returns-then-is_met_before
 returns-then-is_met_before c =
     let marks = c.args.marks.now in

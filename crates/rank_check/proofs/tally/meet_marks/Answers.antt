@@ -5,7 +5,7 @@ use Rattle.rank_check.proofs.Marks.{meet-apart, meet-own}
 use Rattle.rank_check.proofs.tally.meet_marks.Goals as goal
 use Rattle.rank_check.proofs.tally.meet_marks.Goals.{then-may_be_marked, else-may_be_marked}
 
--- it is counted at its place, and taken into account where a mark may be its own
+-- it is counted at its place, and taken into account if a mark may be its own
 pub returns : goal.returns
 returns c =
     let marks : List Mark = c.args.marks.now in

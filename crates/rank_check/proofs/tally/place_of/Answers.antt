@@ -9,7 +9,7 @@ pub returns-then-precedes_all-clause-place : goal.returns-then-precedes_all-clau
 returns-then-precedes_all-clause-place c =
     place-first c.args.marks.now c.requires c.args.candidate.now (sym c.precedes_all.ensures ∙ c.if-precedes_all.true)
 
--- the marks that the candidate doesn't precede stand before the place
+-- the marks that the candidate doesn't precede come before the place
 pub returns-clause-place : goal.returns-clause-place
 returns-clause-place c =
     let marks = c.args.marks.now in

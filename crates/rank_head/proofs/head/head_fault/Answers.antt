@@ -21,7 +21,7 @@ returns-then-is_some c =
     (ap (map named_in) c.as_slice-rows.ensures.value) c.as_slice-lines.ensures.value refl
     c.place_fault-seen.result c.place_fault-seen.ensures.first (sym c.is_some.ensures ∙ c.if-is_some.true)
 
--- where none fails the lines rise
+-- if none fails the lines rise
 pub count_fault-requires : goal.count_fault-requires
 count_fault-requires c =
     c.place_fault-seen.ensures.rise

@@ -10,7 +10,7 @@ returns-clause-first c =
     c.order_fault.result c.floor_fault.result c.rise_fault-rise.result c.or.result c.or-2.result
     c.order_fault.ensures c.floor_fault.ensures c.rise_fault-rise.ensures c.or.ensures c.or-2.ensures
 
--- where none fails the lines rise
+-- if none fails the lines rise
 pub returns-clause-rise : goal.returns-clause-rise
 returns-clause-rise c =
     lines_rise c.args.query.now (map named_in c.args.rows.now) c.args.kth c.args.lines.now

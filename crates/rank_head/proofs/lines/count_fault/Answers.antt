@@ -13,7 +13,7 @@ returns-then-is_some c =
     (count_tests (map named_in c.args.rows.now) c.args.lines.now c.args.counts.now)
     c.scanned_fault-fault.result c.scanned_fault-fault.ensures.fault (sym c.is_some.ensures ∙ c.if-is_some.true)
 
--- or else the counts do
+-- or otherwise the counts do
 pub returns : goal.returns
 returns c =
     let none : c.scanned_fault-fault.result ≡ None =

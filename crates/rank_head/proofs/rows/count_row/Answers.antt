@@ -6,7 +6,7 @@ use Rattle.rank_head.proofs.Scanned.{scanned_at, not_scanned, searchable}
 use Rattle.rank_head.proofs.Tallies.{line-counted}
 use Rattle.rank_head.proofs.rows.count_row.Goals as goal
 
--- where none was found no line is of the station
+-- if none was found no line belongs to the station
 pub returns-in_default-clause-scanned : goal.returns-in_default-clause-scanned
 returns-in_default-clause-scanned c =
     sym (not_scanned c.args.id.now c.args.lines.now c.in_default.field-0

@@ -25,7 +25,7 @@ count_row-requires-clause-few c = λ k.
           c.loop-place.invariant.counted k,
     )
 
--- the first row that isn't of a series that was scanned
+-- the first row that doesn't belong to a series that was scanned
 pub returns-then-not-count_row-clause-place : goal.returns-then-not-count_row-clause-place
 returns-then-not-count_row-clause-place c =
     let rows : List Row = c.args.rows.now in
@@ -53,7 +53,7 @@ loop-place-preserved c =
           (c.count_row.ensures.counted c.if-not-count_row.false);
     }
 
--- all rows are of such series
+-- all rows belong to such series
 pub returns-clause-place : goal.returns-clause-place
 returns-clause-place c =
     let rows : List Row = c.args.rows.now in

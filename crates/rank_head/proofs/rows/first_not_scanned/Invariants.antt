@@ -6,7 +6,7 @@ use Rattle.rank_head.specs.HeadTests.{is_scanned}
 use Rattle.rank_head.proofs.Tallies.{first_candidates}
 use Rattle.rank_head.proofs.rows.first_not_scanned.Given as goal
 
--- the rows so far are of series that were scanned, and are counted
+-- the rows so far belong to series that were scanned, and are counted
 abbrev pub invariant-loop-place : goal.invariant-loop-place
 invariant-loop-place l = record {
   scanned : AllWithin (λ (row : Row). is_scanned l.lines row.candidate.id ≡ true) l.rows 0 l.place;

@@ -5,7 +5,7 @@ use Rattle.rank_scores.specs.QueryCandidates.{AreOfListed}
 use Rattle.rank_papers.proofs.PlanPapers.{answer_listed, report-of_plan}
 use Rattle.rank_papers.proofs.report_text.report.Goals as goal
 
--- the best of an answer are of listed stations
+-- the best of an answer belong to listed stations
 pub report_of_best-requires : goal.report_of_best-requires
 report_of_best-requires c =
     subst (λ (sts : List Station). AreOfListed sts c.deref.result.now) (sym c.stations.ensures)

@@ -7,7 +7,7 @@ use Rattle.ghcn_files.specs.Ids.{same_id}
 use Rattle.rank_papers.proofs.StationRows.{beside, less_first, most_first, counted-between, gap-none}
 use Rattle.rank_papers.proofs.station_rows.count.Goals as goal
 
--- no more stand before the ID than aren't after it
+-- no more come before the ID than aren't after it
 pub overflow_sub-result : goal.overflow_sub-result
 overflow_sub-result c =
     let ids : List StationId = c.args.ids.now in

@@ -27,7 +27,7 @@ returns-in_default c =
     (ap (λ (x : Element). series_of d e.id x) (sym c.element.ensures.element) ∙ sym c.series.ensures
     ∙ ap (λ o. option_copied o) c.in_default.is)
 
--- its series is no morsel
+-- its series isn't a morsel
 pub returns-then-not-is_own : goal.returns-then-not-is_own
 returns-then-not-is_own c =
     let d = c.args.dataset.now in
