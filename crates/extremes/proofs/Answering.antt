@@ -1,4 +1,4 @@
--- What is answered for the query and the data of an intake, as an answer to its input.
+-- What is returned for the query and the data of an intake, as an answer to its input.
 use Rattle.std.proofs.Common.{◌≡◌, ℕ, List, refl, sym, ap, ◌∙◌, subst, map, Option, ℤ}
 use Rattle.std.specs.Prelude.{◌↔◌, Ok}
 use Rattle.ghcn_fields.specs.Sorting.{sorted_by}
@@ -44,7 +44,7 @@ abbrev AreRightTextsFor : Asked → Contents → List ℕ → List ℕ → Type 
 AreRightTextsFor q c report certificate =
     IsRightReportFor q c report × (version : ℕ) × IsRightCertificateFor version q c certificate
 
--- papers with what is found are the right ones
+-- a report and a certificate with what is found are the right ones
 pub right_texts : (q : Asked) (c : Contents) (report certificate : List ℕ) → ReportsAreFound → CertificatesAreFound
     → IsAsked q → IsContents c
     → (IsReport q c report × IsCertificate q c certificate) ↔ AreRightTextsFor q c report certificate
@@ -60,7 +60,7 @@ right_texts q c report certificate reports certificates asked right = (
   ),
 )
 
--- if papers with what is found are accepted, the right ones are
+-- if a report and a certificate with what is found are accepted, the right ones are
 pub accepted_right : (q : Asked) (c : Contents) (report certificate : List ℕ) (v : Verdict) → ReportsAreFound
     → CertificatesAreFound → IsAsked q → IsContents c
     → (v ≡ Accepted) ↔ (IsReport q c report × IsCertificate q c certificate)
@@ -69,7 +69,8 @@ accepted_right q c report certificate v reports certificates asked right accepte
     let are = right_texts q c report certificate reports certificates asked right in
     (λ is. are.0 (accepted.0 is), λ is. accepted.1 (are.1 is))
 
--- papers that are right for what a query needs of some data are right for these data, and the other way round
+-- a report and a certificate that are right for what a query needs of some data are right for these data, and the other
+-- way round
 right_for : (query : Asked) (dataset whole : Contents) (report certificate : List ℕ) → RightReportStays
     → RightCertificateStays → dataset ≡ data_for query whole
     → AreRightTextsFor query dataset report certificate ↔ AreRightTextsFor query whole report certificate
@@ -89,7 +90,8 @@ right_for query dataset whole report certificate reports certificates needed =
       ),
     )
 
--- papers that are right for the data of files are right for what the files say, and the other way round
+-- a report and a certificate that are right for the data of files are right for what the files say, and the other way
+-- round
 pub texts_said : ReportsAreSaid → CertificatesAreSaid → (query : Asked) (stations : List Station)
     (files : List (List ℕ)) (dataset : Contents) (report certificate : List ℕ) → data_of stations files ≡ Ok dataset
     → AreRightTextsFor query dataset report certificate ↔ AreRightTexts query stations files report certificate
@@ -146,7 +148,7 @@ judges_part t query dataset report certificate v verdicts holds is = record {
       };
 }
 
--- papers that are right for what a query needs of some data are right for these data
+-- a report and a certificate that are right for what a query needs of some data are right for these data
 papers_for : (query : Asked) (dataset whole : Contents) (papers : Papers) → RightReportStays → RightCertificateStays
     → dataset ≡ data_for query whole → AreRightFor query dataset papers → AreRightFor query whole papers
 papers_for query dataset whole papers reports certificates needed are =
@@ -158,7 +160,7 @@ papers_for query dataset whole papers reports certificates needed are =
       unlisted = of.unlisted;
     }
 
--- the papers of a query and data are right for them
+-- the report and the certificate of a query and data are right for them
 pub right_papers : (query : Asked) (dataset : Contents) (papers : Papers) → ReportsAreFound → CertificatesAreFound
     → IsAsked query → IsContents dataset → ArePapers query dataset papers → AreRightFor query dataset papers
 right_papers query dataset papers reports certificates asked right are = record {
@@ -175,7 +177,7 @@ measured_for : (query : Asked) (dataset whole : Contents) (bytes : List ℕ) →
 measured_for query dataset whole bytes certificates needed is =
     (certificates query whole bytes).0 (subst (λ (h : Contents). IsMeasuredCertificate query h bytes) needed is)
 
--- papers that are right for a query and the data of files are right for what the files say
+-- a report and a certificate that are right for a query and the data of files are right for what the files say
 right_said : ReportsAreSaid → CertificatesAreSaid → (query : Asked) (stations : List Station) (files : List (List ℕ))
     (dataset : Contents) (papers : Papers) → data_of stations files ≡ Ok dataset → AreRightFor query dataset papers
     → AreRight query stations files papers
@@ -185,7 +187,7 @@ right_said reports certificates query stations files dataset papers is are = rec
   unlisted = are.unlisted ∙ ap (λ (c : Contents). c.unlisted) (held-said stations files dataset is);
 }
 
--- papers that are right for the query and the data of an intake answer its input
+-- a report and a certificate that are right for the query and the data of an intake answer its input
 pub answers_input : (t : Intake) (query : Asked) (dataset : Contents) (papers : Papers) → RightReportStays
     → RightCertificateStays → ReportsAreSaid → CertificatesAreSaid → HoldsInput t query dataset
     → AreRightFor query dataset papers → AnswersInput t papers
@@ -223,7 +225,7 @@ plan_for : (q : Asked) (dataset whole : Contents) → MorselsStay → dataset �
 plan_for q dataset whole stay needed =
     ap (planned q) needed ∙ ap (plan_of q whole.stations) (stay q whole)
 
--- papers that are a crew's for the query and the data of an intake are so for its input
+-- a report and a certificate that are a crew's for the query and the data of an intake are so for its input
 pub crews_input : (t : Intake) (workers : ℕ) (guess : Option ℤ) (query : Asked) (dataset : Contents) (papers : Papers)
     → MorselsStay → MeasuredStays → HoldsInput t query dataset
     → IsMeasuredCertificate query dataset papers.certificate.items
@@ -241,7 +243,7 @@ crews_input t workers guess query dataset papers stay certificates holds measure
       };
 }
 
--- papers that are one worker's for the query and the data of an intake are so for its input
+-- a report and a certificate that are one worker's for the query and the data of an intake are so for its input
 pub serial_input : (t : Intake) (guess : Option ℤ) (query : Asked) (dataset : Contents) (papers : Papers)
     → MorselsStay → MeasuredStays → HoldsInput t query dataset
     → IsMeasuredCertificate query dataset papers.certificate.items

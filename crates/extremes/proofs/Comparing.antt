@@ -5,7 +5,7 @@ use Rattle.std.proofs.lemmas.List.Elements.{All-more}
 use Rattle.std.specs.List.{All, Any}
 
 module _ {X : Type 0} (P : X → Type 0) where
-  -- what holds of the first so many and of the next holds of one more
+  -- what holds of the first elements and of the next one holds of one more
   pub all-next : (xs : List X) (i : ℕ) (x : X) → i < length xs → get_or xs i x ≡ x → All P (take i xs) → P x
       → All P (take (i + 1) xs)
   all-next xs i x lt at was is = All-more P xs i x lt was (subst P (sym at) is)
@@ -21,6 +21,6 @@ module _ {X : Type 0} (P : X → Type 0) where
   take-whole (x ∷ xs) zero le = absurd (omega arith)
   take-whole (x ∷ xs) (suc i) le = ap (λ (l : List X). x ∷ l) (take-whole xs i (omega arith))
 
-  -- what holds of so many as there are holds of all
+  -- what holds of as many as there are holds of all
   pub all-whole : (xs : List X) (i : ℕ) → length xs ≤ i → All P (take i xs) → All P xs
   all-whole xs i le was = subst (λ l. All P l) (take-whole xs i le) was

@@ -1,4 +1,4 @@
--- A paper that is written bit by bit.
+-- A report or a certificate that is written bit by bit.
 use Rattle.std.proofs.Common.{◌≡◌, ℕ, ◌<◌, Bool, true, false, List, [], ◌++◌, Option, None, Some, length, ◌-◌, take}
 use Rattle.std.proofs.Common.{drop, refl, sym, ap, inl, inr, arith, length-append}
 use Rattle.std.proofs.Common.{◌∙◌, subst, append_assoc, append-nil, take-append-drop}
@@ -19,7 +19,7 @@ use Rattle.ghcn_series.specs.declared.counts.Warnings.{Warnings}
 use Rattle.rank_input.specs.declared.fault.Fault.{Fault}
 use Rattle.std.proofs.lemmas.Bool.{true≢false, false≢true}
 
--- of a paper all but the rest was given to a writer
+-- of a report or a certificate all but the rest was given to a writer
 pub record HasTaken (paper rest : List ℕ) (before after : Option (List ℕ)) : Type 0 where
   pub part : List ℕ
   pub split : paper ≡ part ++ rest
@@ -98,7 +98,7 @@ written-flushed text before between after true false was is kept = record {
 line-some : (j : Judgement) → 0 < length (judgement_line j)
 line-some j = omega (arith, length-append (text_of j) (codes "\n"))
 
--- the line of what is said of papers is written whole
+-- the line of a judgement is written whole
 pub told-whole : (answer : Result (Judgement × Warnings) Fault) (judged : Judgement × Warnings) (line : List ℕ)
     (before after : Option (List ℕ)) (ending : Ending) (done : Bool) → answer ≡ Ok judged
     → line ≡ judgement_line judged.0 → ending ≡ ending_of judged.0 → done ≡ true

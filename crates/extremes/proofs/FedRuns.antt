@@ -39,19 +39,19 @@ taken-all : {T : Type 0} (has_taken : Taking T) (old new : T) (known : List (Opt
 taken-all has_taken old new known query stations fed is =
     subst (has_taken new) (given-files query stations [] fed.files) (fed.taken (given query stations []) is)
 
--- an error of the words of a run is its first
+-- an error of the arguments of a run is its first
 pub words_refuse : (workers : ℕ) (guess : Option ℤ) (query stations : List ℕ) (files : List (List ℕ)) (fault : Fault)
     → words_fault workers guess ≡ Some fault
     → IsRefusal is_memory fault (read_unless (words_fault workers guess) (read_input query stations files))
 words_refuse workers guess query stations files fault is = OnFalse_from (is_memory fault) _ (λ e. rw is refl)
 
--- after words without an error the input's error is the first
+-- after arguments without an error the input's error is the first
 pub input_refuses : (workers : ℕ) (guess : Option ℤ) (query stations : List ℕ) (files : List (List ℕ)) (fault : Fault)
     → is_crew workers ≡ true → is_guess guess ≡ true → IsRefusal is_memory fault (read_input query stations files)
     → IsRefusal is_memory fault (read_unless (words_fault workers guess) (read_input query stations files))
 input_refuses workers guess query stations files fault crew might is = rw (crew, might) is
 
--- what some of the workers that were asked for answer for an intake is an answer to its input
+-- what some of the workers that were asked for return for an intake is an answer to its input
 pub ranks-input : (t : Intake) (workers ran : ℕ) (guess : Option ℤ) (answer : Result Papers Fault)
     → is_crew workers ≡ true → is_guess guess ≡ true → ran ≤ workers → IfOk answer (AnswersInput t)
     → IfOk answer (CrewsInput t ran guess) → IfErr answer (RefusesInput t) → RanksInput t workers guess answer
@@ -67,7 +67,7 @@ ranks-input t workers ran guess (Err fault) crew might few ok crews err = record
       input_refuses workers guess i.query i.stations (files_of i.files) fault crew might (err.is i taken);
 }
 
--- what one worker answers to texts, or their fault
+-- what one worker returns for texts, or their error
 pub ranks-alone : (guess : Option ℤ) (query stations : List ℕ) (files : List (List ℕ)) (answer : Result Papers Fault)
     → IfOk answer (Answers query stations files) → IfOk answer (IsSerial guess query stations files)
     → IfErr answer (λ fault. IsRefusal is_memory fault (read_run 1 guess query stations files))
@@ -75,7 +75,7 @@ pub ranks-alone : (guess : Option ℤ) (query stations : List ℕ) (files : List
 ranks-alone guess query stations files (Ok papers) ok serial err = (ok, serial)
 ranks-alone guess query stations files (Err fault) ok serial err = err
 
--- so is an error of the words
+-- so is an error of the arguments
 pub words-input : (t : Intake) (workers : ℕ) (guess : Option ℤ) (fault : Fault)
     → words_fault workers guess ≡ Some fault → RanksInput t workers guess (Err fault)
 words-input t workers guess fault is = record {
@@ -114,7 +114,7 @@ judged-is part t query stations files report certificate (Ok judged) taken ok to
 judged-is part t query stations files report certificate (Err fault) taken ok told err =
     err.is (given query stations files) taken
 
--- the judgement of papers by an intake that was fed all files that are named
+-- the judgement of a report and a certificate by an intake that was fed all files that are named
 pub judges-files : (bytes_of : Known) (opens : Opening) (j : Judging) (old new : Intake) (query list stations report certificate : List ℕ)
     (answer : Result (Judgement × Warnings) Fault) → query ≡ string_bytes j.query
     → list ≡ string_bytes j.stations → AreAllOf (bytes_of list) stations
@@ -142,7 +142,7 @@ judges-files bytes_of opens j old new query list stations report certificate ans
           (judged-is j.part new query stations fed.files report certificate answer given_all ok told err);
     }
 
--- what a describer answers, or its error, is that of its files
+-- what a describer returns, or its error, is that of its files
 described-is : (t : DescriptionIntake) (query stations : List ℕ) (files : List (List ℕ))
     (answer : Result DescriptionText Fault) → described.HasTaken t (given query stations files)
     → IfOk answer (DescribesIntake t) → IfErr answer (described.RefusesInput t)
@@ -175,7 +175,7 @@ some_files [] = ([], tt)
 some_files (None ∷ ks) = let rest = some_files ks in ([] ∷ rest.0, (tt, rest.1))
 some_files (Some bytes ∷ ks) = let rest = some_files ks in (bytes ∷ rest.0, (refl, rest.1))
 
--- out of memory may be answered to any files
+-- out of memory may be returned for any files
 pub ranks-memory : (bytes_of : Known) (opens : Opening) (r : Ranking) (list stations : List ℕ) (m : WantOfMemory)
     → list ≡ string_bytes r.stations → AreAllOf (bytes_of list) stations
     → (warnings : Warnings) → RanksFiles bytes_of opens r (Err (Memory m)) warnings
@@ -190,7 +190,7 @@ ranks-memory bytes_of opens r list stations m same whole warnings =
       told = tt;
     }
 
--- and to papers
+-- and to a report and a certificate
 pub judges-memory : (bytes_of : Known) (opens : Opening) (j : Judging) (list stations : List ℕ) (papers : Texts) (m : WantOfMemory)
     → list ≡ string_bytes j.stations → AreAllOf (bytes_of list) stations
     → AreBothOf (known_part bytes_of j.papers) papers → JudgesFiles bytes_of opens j (Err (Memory m))

@@ -28,7 +28,7 @@ length-said stations [] = refl
 length-said stations (p ∷ ps) = omega (arith, length-said stations ps)
 
 module _ (stations report certificate : List ℕ) (q : Asked) where
-  -- each part's verdict is about these papers
+  -- each part's verdict is about this report and this certificate
   abbrev All : List JudgedPart → Type 0
   All ps = AllByRecursion (IsJudgedFor q stations report certificate) ps
 
@@ -56,7 +56,7 @@ module _ (stations report certificate : List ℕ) (q : Asked) where
         each-holds list lists ps all.1,
       )
 
-  -- where the parts accept, their data do
+  -- if the parts accept, their data do
   data-accept : (lines : ℕ) (ps : List JudgedPart) (series : List ℕ) → All ps → AllZip (Accepts lines) ps series
       → AllZip (parts.Accepts q report certificate lines) (said_by_parts stations ps) series
   data-accept lines [] [] all accept = tt
@@ -75,7 +75,7 @@ module _ (stations report certificate : List ℕ) (q : Asked) where
   parts-accept lines (p ∷ ps) (n ∷ ns) all accept =
       (verdict-is p all.0 ∙ accept.0, parts-accept lines ps ns all.1 accept.1)
 
--- so the papers are right for all files exactly there
+-- so a report and a certificate are right for all files if and only if the parts accept them
 pub parts-judge-the-whole : DataAreRight → ReportsAreFound → CertificatesAreFound → ReportsAreSaid
     → CertificatesAreSaid → FilesMakeTheWhole → PartsJudgeTheWhole
 parts-judge-the-whole are_right found certified reports_said certificates_said whole query stations report certificate

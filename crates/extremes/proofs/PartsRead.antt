@@ -1,4 +1,4 @@
--- Papers of parts that are read one after the other.
+-- Reports and certificates of parts that are read one after the other.
 use Rattle.std.proofs.Common.{◌≡◌, ℕ, zero, suc, ◌+◌, ◌<◌, ◌≤◌, List, [], ◌∷◌, ◌++◌, length, map, take, get_or}
 use Rattle.std.proofs.Common.{refl, sym, ap, ◌∙◌, subst, add-one, arith}
 use Rattle.std.proofs.lemmas.List.{map-append}
@@ -48,7 +48,7 @@ some_texts : (known : Option (List ℕ)) → (text : List ℕ) × AreAllOf known
 some_texts None = ([], tt)
 some_texts (Some bytes) = (bytes, refl)
 
--- there are papers of parts whose bytes are all of those that are known
+-- there are reports and certificates of parts whose bytes are all of those that are known
 some_parts : (known : List KnownPart) → (texts : List Texts) × AllZip AreBothOf known texts
 some_parts [] = ([], tt)
 some_parts (k ∷ ks) =
@@ -57,7 +57,7 @@ some_parts (k ∷ ks) =
     let rest = some_parts ks in
     ((report.0, certificate.0) ∷ rest.0, ((report.1, certificate.1), rest.1))
 
--- out of memory may be answered to any papers
+-- out of memory may be returned for any reports and certificates
 pub merges-memory : (bytes_of : Known) (opens : Opening) (query : List ℕ) (parts : List Part) (m : WantOfMemory)
     → MergesFiles bytes_of opens query parts (Err (Parts (Memory m)))
 merges-memory bytes_of opens query parts m = record {
@@ -76,7 +76,7 @@ module _ (opens : Opening) where
   opened-more (p ∷ ps) (suc i) d lt was is =
       (was.0, (was.1.0, opened-more ps i d (omega arith) was.1.1 is))
 
-  -- the papers of one part more are opened
+  -- the report and the certificate of one part more are opened
   pub parts-opened : (parts : List Part) (i : ℕ) (part : Part) → i < length parts → get_or parts i part ≡ part
       → AreOpened opens (parts_paths (take i parts)) → AreOpened opens (part_paths part)
       → AreOpened opens (parts_paths (take (i + 1) parts))

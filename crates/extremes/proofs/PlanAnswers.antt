@@ -26,7 +26,7 @@ crew_is_plan p guess workers a of = record {
   lines_are = of.answer.lines_are;
 }
 
--- the papers of a plan are those of the query and the data of which it is the plan
+-- the report and the certificate of a plan are those of the query and the data of which it is the plan
 pub papers_are : (p : Planned) (q : Asked) (c : Contents) (passed_over : ℕ) (papers : Papers) → IsAsked q
     → IsContents c → p ≡ planned q c → passed_over ≡ c.unlisted
     → ArePapersOfPlan p passed_over papers → ArePapers q c papers

@@ -33,7 +33,7 @@ said_read query stations files list lists f =
     subst (λ (c : Contents). data_of list files ≡ Ok c) (held_is_said query stations files f.asked f.dataset f.read)
     (subst (λ (l : List Station). data_of l files ≡ Ok f.dataset) (one_value _ _ _ f.read.lists lists) f.read.holds)
 
--- so it is of the stations that the list says
+-- so it belongs to the stations that the list says
 said_held : (query stations : List ℕ) (files : List (List ℕ)) → IsFaultless query stations files
     → data_of (stations_said stations) files ≡ Ok (said_by (stations_said stations) files)
 said_held query stations files f =
@@ -87,7 +87,7 @@ of_version_two q c bytes other h begins = by h.known
 
 module _ (are_right : DataAreRight) (reports : ReportsAreFound) (certificates : CertificatesAreFound)
     (reports_said : ReportsAreSaid) (certificates_said : CertificatesAreSaid) where
-  -- papers that a ranking answers to a part's files are right for them
+  -- a report and a certificate that a ranking returns for a part's files are right for them
   ranked-right : (stations : List ℕ) (q : Asked) (list : List Station) (p : Filed) → listed stations ≡ Ok list
       → IsRankedPart q stations p → ArePapersOf q list p.0 p.1
   ranked-right stations q list p lists is =

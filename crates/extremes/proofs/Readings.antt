@@ -1,4 +1,4 @@
--- An input is read in one way, so what ranking answers is accepted.
+-- An input is read in one way, so what ranking returns is accepted.
 use Rattle.std.proofs.Common.{◌≡◌, ℕ, List, sym, ap, ◌∙◌, subst}
 use Rattle.std.specs.Prelude.{Result, Ok, Err}
 use Rattle.ghcn_files.specs.declared.station.Station.{Station}
@@ -12,7 +12,7 @@ use Rattle.rank_query.proofs.Asks.{asks_read}
 use Rattle.rank_input.specs.Input.{IsReadOf}
 use Rattle.extremes.specs.Judged.{AreRightTexts, AnswersAreAccepted}
 
--- a value where there is one
+-- a value if there is one
 abbrev value_or : {A E : Type 0} → Result A E → A → A
 value_or (Ok a) d = a
 value_or (Err e) d = d
@@ -31,7 +31,7 @@ one_reading query stations files x y a b =
     one_value _ _ _ (subst (λ (l : List Station). data_of l files ≡ Ok x.1) list a.holds) b.holds in
     λ i. (asked i, dataset i)
 
--- a text asks one query
+-- a text denotes one query
 pub one_query : (query : List ℕ) (a b : Asked) → Asks query a → Asks query b → a ≡ b
 one_query query a b x y = one_value _ _ _ (asks_read query a x) (asks_read query b y)
 
@@ -48,7 +48,7 @@ pub held_is_said : (query stations : List ℕ) (files : List (List ℕ)) (q : As
 held_is_said query stations files q dataset read =
     held-said (stations_said stations) files dataset (data_is_said query stations files q dataset read)
 
--- it asks what its text asks, and holds that
+-- it asks what its text denotes, and holds that
 pub one_saying : (query stations : List ℕ) (files : List (List ℕ)) (x : Asked × Contents) (q : Asked)
     → IsReadOf query stations files x.0 x.1 → Asks query q → x ≡ (q, said_by (stations_said stations) files)
 one_saying query stations files x q read asks =
@@ -56,7 +56,7 @@ one_saying query stations files x q read asks =
     let dataset = held_is_said query stations files x.0 x.1 read in
     λ i. (asked i, dataset i)
 
--- so the papers that answer an input are the right ones of what a verdict is about
+-- so the report and the certificate that answer an input are the right ones of what a verdict is about
 pub answers_accepted : AnswersAreAccepted
 answers_accepted query stations files papers v a j =
     j.accepted.1 (subst (λ (q : Asked). AreRightTexts q (stations_said stations) files papers.report.items

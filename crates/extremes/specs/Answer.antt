@@ -18,8 +18,8 @@ use Rattle.rank_papers.specs.PlanPapers.{IsMeasuredCertificate, IsReportOfPlan, 
 use Rattle.extremes.specs.declared.papers.Papers.{Papers}
 use Rattle.rank_input.specs.Input.{IsReadOf}
 
--- papers are right for a query, a station list and what daily files say: the report is the right one, the certificate
--- is a right one of version 2, and the lines of unlisted stations are counted
+-- a report and a certificate are right for a query, a station list and what daily files say: the report is the right
+-- one, the certificate is a right one of version 2, and the lines of unlisted stations are counted
 pub record AreRight (q : Asked) (stations : List Station) (files : List (List ℕ)) (papers : Papers) : Type 0 where
   pub report : IsRightReport q stations (IsAdmittedSeries q stations files) papers.report.items
   pub certificate : IsRightCertificate 2 q (IsAdmittedSeries q stations files) papers.certificate.items
@@ -31,20 +31,21 @@ pub record AreRightFor (q : Asked) (c : Contents) (papers : Papers) : Type 0 whe
   pub certificate : IsRightCertificateFor 2 q c papers.certificate.items
   pub unlisted : papers.unlisted ≡ c.unlisted
 
--- the papers of a query and data: the right report, a right certificate whose bounds are those of the series, and how
--- many lines are of unlisted stations
+-- the report and the certificate of a query and data: the right report, a right certificate whose bounds are those of
+-- the series, and how many lines belong to unlisted stations
 pub record ArePapers (q : Asked) (c : Contents) (papers : Papers) : Type 0 where
   pub report : IsReport q c papers.report.items
   pub certificate : IsMeasuredCertificate q c papers.certificate.items
   pub unlisted : papers.unlisted ≡ c.unlisted
 
--- the papers of a plan, whatever the data of which it is the plan
+-- the report and the certificate of a plan, whatever the data of which it is the plan
 pub record ArePapersOfPlan (p : Planned) (passed_over : ℕ) (papers : Papers) : Type 0 where
   pub report : IsReportOfPlan p papers.report.items
   pub certificate : IsCertificateOfPlan p papers.certificate.items
   pub unlisted : papers.unlisted ≡ passed_over
 
--- the papers answer the input: they are right for what its query asks, and its station list and daily files say
+-- the report and the certificate answer the input: they are right for what its query asks, and its station list and
+-- daily files say
 pub record Answers (query stations : List ℕ) (files : List (List ℕ)) (papers : Papers) : Type 0 where
   pub asked : Asked
   pub asks : Asks query asked
@@ -92,13 +93,13 @@ pub record IsSerial (guess : Option ℤ) (query stations : List ℕ) (files : Li
   pub bounds : IsMeasuredCertificate asked dataset papers.certificate.items
   pub alone : IsOfOneWorker (planned asked dataset) guess papers.certificate.items
 
--- these papers are the same, byte for byte
+-- two rankings have the same report and the same certificate, byte for byte, and count the same lines
 pub record AreSamePapers (a b : Papers) : Type 0 where
   pub report : a.report.items ≡ b.report.items
   pub certificate : a.certificate.items ≡ b.certificate.items
   pub unlisted : a.unlisted ≡ b.unlisted
 
--- what one worker returns for an input under a guess is one pair of papers
+-- what one worker returns for an input under a guess is one report and one certificate
 abbrev pub SerialPapersAreOne : Type 0
 SerialPapersAreOne = (guess : Option ℤ) (query stations : List ℕ) (files : List (List ℕ)) (a b : Papers)
     → Answers query stations files a → IsSerial guess query stations files a

@@ -36,7 +36,7 @@ pub record EndsAtOut {A : Type 0} (certificate : Option (String A)) (before afte
   pub ends : ending ≡ File
   pub unprinted : after ≡ before
 
--- what one worker answers to the texts that are built in
+-- what one worker returns for the texts that are built in
 abbrev pub IsSampleRanked : Result Papers Fault → Type 0
 IsSampleRanked answer = IsRankedAlone None QUERY.now STATIONS.now (DAILY.now ∷ []) answer
 
@@ -54,14 +54,14 @@ pub record PrintsRanking (bytes_of : Known) (opens : Opening) (r : Ranking) (bef
   pub ranked : RanksFiles bytes_of opens r answer warnings
   pub printed : IsPrinted answer before after ending
 
--- the merge of the papers of parts that are named is printed
+-- the merge of the reports and certificates of parts that are named is printed
 pub record PrintsMerge (bytes_of : Known) (opens : Opening) (query : List ℕ) (parts : List Part)
     (before after : Option (List ℕ)) (ending : Ending) : Type 0 where
   pub answer : Result Papers MergingFault
   pub merged : MergesFiles bytes_of opens query parts answer
   pub printed : IsPrinted answer before after ending
 
--- what is said of papers that are named is printed
+-- the judgement of a report and a certificate that are named is printed
 pub record PrintsJudgement (bytes_of : Known) (opens : Opening) (j : Judging) (before after : Option (List ℕ))
     (ending : Ending) : Type 0 where
   pub answer : Result (Judgement × Warnings) Fault
@@ -89,7 +89,7 @@ RunsMerge bytes_of opens query parts certificate before after ending = EndsAtOut
     ⊎ EndsAtAFile opens (parts_paths parts) before after ending
     ⊎ PrintsMerge bytes_of opens query parts before after ending
 
--- a judgement ends at a file that it reads, or is printed
+-- a check ends at a file that it reads, or its judgement is printed
 abbrev pub RunsJudging : Known → Opening → Judging → Option (List ℕ) → Option (List ℕ) → Ending → Type 0
 RunsJudging bytes_of opens j before after ending =
     EndsAtAFile opens (judging_paths j) before after ending ⊎ PrintsJudgement bytes_of opens j before after ending

@@ -1,11 +1,11 @@
--- How papers are written.
+-- How reports and certificates are written.
 use Rattle.std.specs.Prelude.{◌≡◌, ℕ, ◌<◌, Bool, true, false, List, ◌++◌, length, Option}
 use Rattle.std.specs.Io.KnownBytes.{Appends}
 use Rattle.extremes.specs.declared.papers.Papers.{Papers}
 use Rattle.extremes.specs.declared.delivery.Delivery.{Delivery}
 use Rattle.extremes.specs.declared.delivery.Delivery.TheVariants.{Done, CertificateFailed, ReportFailed}
 
--- a writer was given a beginning of a paper
+-- a writer was given a beginning of a report or a certificate
 pub record HasBeginning (paper : List ℕ) (before after : Option (List ℕ)) : Type 0 where
   pub part : List ℕ
   pub rest : List ℕ
@@ -25,12 +25,12 @@ abbrev pub IsWrittenToEnd : List ℕ → Option (List ℕ) → Option (List ℕ)
 IsWrittenToEnd text before after true = Appends before after text
 IsWrittenToEnd text before after false = IsCutOff text before after
 
--- a writer was given a paper whole, or otherwise a beginning of it
+-- a writer was given a report or a certificate whole, or otherwise a beginning of it
 abbrev pub IsWritten : List ℕ → Option (List ℕ) → Option (List ℕ) → Bool → Type 0
 IsWritten paper before after true = Appends before after paper
 IsWritten paper before after false = HasBeginning paper before after
 
--- a writer was given a paper whole if that is wanted, and nothing if it isn't
+-- a writer was given a report or a certificate whole if that is wanted, and nothing if it isn't
 abbrev pub IsGiven : Bool → List ℕ → Option (List ℕ) → Option (List ℕ) → Type 0
 IsGiven true paper before after = Appends before after paper
 IsGiven false paper before after = after ≡ before

@@ -15,7 +15,7 @@ use Rattle.extremes.specs.declared.files.Describing.{Describing}
 use Rattle.extremes.specs.Merges.{Known}
 use Rattle.extremes.specs.Runs.{bytes_named}
 
--- a text says what a station list and daily files without a fault hold, and beside it stand the foreign files and the
+-- a text says what a station list and daily files without an error hold, and beside it are the foreign files and the
 -- odd lines
 pub record IsTextOf (stations : List ℕ) (files : List (List ℕ)) (text : DescriptionText) : Type 0 where
   pub description : Description

@@ -1,4 +1,4 @@
--- What is returned for papers on an input without an error.
+-- What is returned for a report and a certificate on an input without an error.
 use Rattle.std.specs.Prelude.{◌≡◌, ◌↔◌, ℕ, List}
 use Rattle.ghcn_files.specs.declared.station.Station.{Station}
 use Rattle.ghcn_series.specs.Said.{stations_said}
@@ -21,8 +21,8 @@ AreRightTexts q stations files report certificate =
     IsRightReport q stations (IsAdmittedSeries q stations files) report
     × (version : ℕ) × IsRightCertificate version q (IsAdmittedSeries q stations files) certificate
 
--- the verdict is that on the papers for what the input asks and holds: accepted if and only if the report is the right
--- one and the certificate a right one
+-- the verdict is that on the report and the certificate for what the input asks and holds: accepted if and only if the
+-- report is the right one and the certificate a right one
 pub record IsJudged (query stations : List ℕ) (files : List (List ℕ)) (report certificate : List ℕ)
     (v : Verdict) : Type 0 where
   pub asked : Asked
@@ -31,7 +31,7 @@ pub record IsJudged (query stations : List ℕ) (files : List (List ℕ)) (repor
   pub verdict : v ≡ verdict asked dataset report certificate
   pub accepted : (v ≡ Accepted) ↔ AreRightTexts asked (stations_said stations) files report certificate
 
--- the verdict is that of a part on the papers, for what the input asks and holds
+-- the verdict is that of a part on the report and the certificate, for what the input asks and holds
 pub record IsJudgedByPart (query stations : List ℕ) (files : List (List ℕ)) (report certificate : List ℕ)
     (v : PartVerdict) : Type 0 where
   pub asked : Asked
@@ -39,7 +39,7 @@ pub record IsJudgedByPart (query stations : List ℕ) (files : List (List ℕ)) 
   pub read : IsReadOf query stations files asked dataset
   pub verdict : v ≡ part_verdict asked dataset report certificate
 
--- papers that answer an input are accepted on that input
+-- a report and a certificate that answer an input are accepted on that input
 abbrev pub AnswersAreAccepted : Type 0
 AnswersAreAccepted = (query stations : List ℕ) (files : List (List ℕ)) (papers : Papers)
     (v : Verdict)

@@ -12,13 +12,13 @@ use Rattle.rank_parts.specs.declared.verdict.PartVerdict.TheVariants.{Accepted}
 use Rattle.rank_input.specs.Input.{IsReadOf}
 use Rattle.extremes.specs.Judged.{AreRightTexts, IsJudgedByPart}
 
--- a part: a text of the query, its files, and its verdict on two papers
+-- a part: a text of the query, its files, and its verdict on a report and a certificate
 pub record JudgedPart : Type 0 where
   pub query : List ℕ
   pub files : List (List ℕ)
   pub verdict : PartVerdict
 
--- a part's text asks this query, in its own spelling, and its verdict is that on these papers
+-- a part's text denotes this query, in its own spelling, and its verdict is that on this report and this certificate
 pub record IsJudgedFor (asked : Asked) (stations report certificate : List ℕ) (p : JudgedPart) : Type 0 where
   pub asks : Asks p.query asked
   pub judged : IsJudgedByPart p.query stations p.files report certificate p.verdict
@@ -35,7 +35,7 @@ said_by_parts stations parts = map (λ p. said_by (stations_said stations) p.fil
 abbrev pub ArePartsApart : Asked → List ℕ → List JudgedPart → Type 0
 ArePartsApart asked stations parts = IsDistinct same_id (morsel_ids asked (said_by_parts stations parts))
 
--- a part accepts: it has so many series, of so many lines
+-- a part accepts: it has that many series, of that many lines
 abbrev pub Accepts : ℕ → JudgedPart → ℕ → Type 0
 Accepts lines p series = p.verdict ≡ Accepted series lines
 
@@ -47,7 +47,7 @@ pub record AllAccept (parts : List JudgedPart) : Type 0 where
   pub sum : sum series ≡ lines
 
 -- a report is the right one and a certificate a right one for the files of all parts, one part after the other, if and
--- only if all parts accept them: there is a part, all files have no fault together, and the parts are apart
+-- only if all parts accept them: there is a part, all files together have no error, and the parts are apart
 abbrev pub PartsJudgeTheWhole : Type 0
 PartsJudgeTheWhole = (query stations report certificate : List ℕ) (parts : List JudgedPart) (asked : Asked)
     (dataset : Contents) → IsReadOf query stations (files_of_parts parts) asked dataset → 0 < length parts

@@ -1,4 +1,4 @@
--- What merging answers for texts of papers, and for the papers that are named.
+-- What merging returns for texts of reports and certificates, and for the files of these that are named.
 use Rattle.std.specs.Prelude.{◌≡◌, ℕ, Bool, false, List, [], ◌∷◌, map, Option, Result, Ok, Err, string_bytes, ⊤}
 use Rattle.std.specs.List.{AllZip, flat_map}
 use Rattle.command_line.specs.declared.asked.Part.{Part}
@@ -39,9 +39,9 @@ abbrev pub is_memory : MergingFault → Bool
 is_memory (Query cause) = false
 is_memory (Parts why) = merging.is_memory why
 
--- papers are those that are merged of these texts for the query of a text; if each part's are right for its
--- files, they are right for all files, with the bounds of the series if no station has series in two parts, and no
--- station has morsels in two; they count no line as skipped
+-- a report and a certificate are those that are merged of these texts for the query of a text; if each part's are right
+-- for its files, they are right for all files, with the bounds of the series if no station has series in two parts, and
+-- no station has morsels in two; they count no line as skipped
 pub record AreMerged (query : List ℕ) (texts : List Texts) (papers : Papers) : Type 0 where
   pub asked : Asked
   pub read : read_query query ≡ Ok asked
@@ -51,14 +51,14 @@ pub record AreMerged (query : List ℕ) (texts : List Texts) (papers : Papers) :
   pub apart : IsOutcomeWhereRight asked texts (Ok (papers.report.items, papers.certificate.items))
   pub unlisted : papers.unlisted ≡ 0
 
--- papers that are right for the parts' files are refused only if a station has morsels in two parts, by an ID that
--- stands on two lines
+-- reports and certificates that are right for the parts' files are refused only if a station has morsels in two parts,
+-- by an ID that is on two lines
 abbrev pub IsRefusedWhereRight : List ℕ → List Texts → MergingFault → Type 0
 IsRefusedWhereRight query texts (Query cause) = ⊤
 IsRefusedWhereRight query texts (Parts why) = (asked : Asked) → read_query query ≡ Ok asked
     → OrMemory merging.is_memory (λ fault. IsOutcomeWhereRight asked texts (Err fault)) why
 
--- the papers that are merged of these texts, or the first error
+-- the report and the certificate that are merged of these texts, or the first error
 abbrev pub IsMergeOf : List ℕ → List Texts → Result Papers MergingFault → Type 0
 IsMergeOf query texts (Ok papers) = AreMerged query texts papers
 IsMergeOf query texts (Err fault) =
@@ -72,11 +72,11 @@ Known = List ℕ → Option (List ℕ)
 abbrev pub KnownPart : Type 0
 KnownPart = Option (List ℕ) × Option (List ℕ)
 
--- that of the papers that a command names for a part, by the bytes of files by their paths
+-- that of the report and the certificate that a command names for a part, by the bytes of files by their paths
 abbrev pub known_part : Known → Part → KnownPart
 known_part bytes_of part = (bytes_of (string_bytes part.report), bytes_of (string_bytes part.certificate))
 
--- the paths of the papers of a part, in the order in which they are read
+-- the paths of the report and the certificate of a part, in the order in which they are read
 abbrev pub part_paths : Part → List (List ℕ)
 part_paths part = string_bytes part.report ∷ string_bytes part.certificate ∷ []
 
@@ -84,11 +84,11 @@ part_paths part = string_bytes part.report ∷ string_bytes part.certificate ∷
 abbrev pub parts_paths : List Part → List (List ℕ)
 parts_paths parts = flat_map part_paths parts
 
--- these are all the bytes of both papers, if those are known
+-- these are all the bytes of the report and the certificate, if those are known
 abbrev pub AreBothOf : KnownPart → Texts → Type 0
 AreBothOf known texts = AreAllOf known.0 texts.0 × AreAllOf known.1 texts.1
 
--- the merge of all bytes of the papers of each part, in order
+-- the merge of all bytes of the report and the certificate of each part, in order
 pub record MergesFiles (bytes_of : Known) (opens : Opening) (query : List ℕ) (parts : List Part)
     (answer : Result Papers MergingFault) : Type 0 where
   pub opened : AreOpenedFor is_memory opens (parts_paths parts) answer

@@ -16,7 +16,7 @@ use Rattle.extremes.specs.declared.judgement.Judgement.TheVariants.{Whole, Part}
 use Rattle.extremes.specs.Delivered.{HasBeginning, IsCutOff}
 use Rattle.extremes.specs.Ending.{ending_of}
 
--- what is said of papers, without a line feed
+-- what a judgement says of a report and a certificate, without a line feed
 abbrev pub text_of : Judgement → List ℕ
 text_of (Whole v) = verdict_text v
 text_of (Part v) = parts.verdict_text v
@@ -39,7 +39,7 @@ IsShown text before after Refused = ⊥
 IsShown text before after Words = ⊥
 IsShown text before after File = HasBeginning text before after
 
--- of papers the report is shown; an error writes nothing
+-- of a report and a certificate the report is shown; an error writes nothing
 abbrev pub IsPrinted : {F : Type 0} → Result Papers F → Option (List ℕ) → Option (List ℕ) → Ending → Type 0
 IsPrinted (Ok papers) before after ending = IsShown papers.report.items before after ending
 IsPrinted (Err fault) before after ending = (ending ≡ Refused) × (after ≡ before)
@@ -49,8 +49,8 @@ abbrev pub IsTextShown : Result DescriptionText Fault → Option (List ℕ) → 
 IsTextShown (Ok text) before after ending = IsShown text.bytes.items before after ending
 IsTextShown (Err fault) before after ending = (ending ≡ Refused) × (after ≡ before)
 
--- what is said of papers is printed as its line and ends the run as it says, or its line is cut off and the run ends as
--- a file that couldn't be written; a fault prints nothing and is refused
+-- a judgement is printed as its line and ends the run as it says, or its line is cut off and the run ends as
+-- a file that couldn't be written; an error prints nothing and is refused
 abbrev pub IsTold : Result (Judgement × Warnings) Fault → Option (List ℕ) → Option (List ℕ) → Ending → Type 0
 IsTold (Ok judged) before after ending =
     ((ending ≡ ending_of judged.0) × Appends before after (judgement_line judged.0))

@@ -11,8 +11,8 @@ use Rattle.extremes.specs.declared.papers.Papers.{Papers}
 use Rattle.extremes.specs.Answer.{Answers, IsFaultless}
 use Rattle.extremes.specs.Merges.{AreMerged}
 
--- the papers of a part are those that a ranking answers to its files, and to a text that asks this query, in the part's
--- own spelling
+-- the report and the certificate of a part are those that a ranking returns for its files, and for a text that denotes
+-- this query, in the part's own spelling
 pub record IsRankedPart (asked : Asked) (stations : List ℕ) (p : Filed) : Type 0 where
   pub query : List ℕ
   pub asks : Asks query asked

@@ -26,7 +26,7 @@ use Rattle.extremes.specs.Judged.{IsJudged, IsJudgedByPart}
 abbrev pub bytes_named : {A : Type 0} → Known → String A → Option (List ℕ)
 bytes_named bytes_of path = bytes_of (string_bytes path)
 
--- papers answer an intake's input
+-- a report and a certificate answer an intake's input
 abbrev pub AnswersInput : Intake → Papers → Type 0
 AnswersInput t papers = IsTrueOf t (λ query stations files. Answers query stations files papers)
 
@@ -34,36 +34,37 @@ AnswersInput t papers = IsTrueOf t (λ query stations files. Answers query stati
 abbrev pub FaultlessInput : Intake → Type 0
 FaultlessInput t = IsTrueOf t IsFaultless
 
--- the papers are those of a crew of that many workers for an intake's input, under a guess or none
+-- the report and the certificate are those of a crew of that many workers for an intake's input, under a guess or none
 abbrev pub CrewsInput : Intake → ℕ → Option ℤ → Papers → Type 0
 CrewsInput t workers guess papers =
     IsTrueOf t (λ query stations files. IsCrewed workers guess query stations files papers)
 
--- a verdict is that on these papers for an intake's input
+-- a verdict is that on this report and this certificate for an intake's input
 abbrev pub JudgesInput : Intake → List ℕ → List ℕ → Verdict → Type 0
 JudgesInput t report certificate v =
     IsTrueOf t (λ query stations files. IsJudged query stations files report certificate v)
 
--- a part's verdict is that on these papers for an intake's input
+-- a part's verdict is that on this report and this certificate for an intake's input
 abbrev pub JudgesPart : Intake → List ℕ → List ℕ → PartVerdict → Type 0
 JudgesPart t report certificate v =
     IsTrueOf t (λ query stations files. IsJudgedByPart query stations files report certificate v)
 
--- the papers are those of a crew of at most that many workers
+-- the report and the certificate are those of a crew of at most that many workers
 pub record IsCrewedBySome (workers : ℕ) (guess : Option ℤ) (query stations : List ℕ) (files : List (List ℕ))
     (papers : Papers) : Type 0 where
   pub ran : ℕ
   pub few : ran ≤ workers
   pub crew : IsCrewed ran guess query stations files papers
 
--- papers that answer these texts, of at most so many workers within the limits of a run, or the first fault
+-- a report and a certificate that answer these texts, of at most that many workers within the limits of a run, or the
+-- first error
 abbrev pub IsRanked : ℕ → Option ℤ → List ℕ → List ℕ → List (List ℕ) → Result Papers Fault → Type 0
 IsRanked workers guess query stations files (Ok papers) = (words_fault workers guess ≡ None)
     × Answers query stations files papers × IsCrewedBySome workers guess query stations files papers
 IsRanked workers guess query stations files (Err fault) =
     IsRefusal is_memory fault (read_run workers guess query stations files)
 
--- papers of one worker that answer these texts, or their first fault
+-- a report and a certificate of one worker that answer these texts, or their first error
 abbrev pub IsRankedAlone : Option ℤ → List ℕ → List ℕ → List (List ℕ) → Result Papers Fault → Type 0
 IsRankedAlone guess query stations files (Ok papers) =
     Answers query stations files papers × IsSerial guess query stations files papers
@@ -91,8 +92,8 @@ pub record RanksFiles (bytes_of : Known) (opens : Opening) (r : Ranking) (answer
   pub ranked : IsRanked r.workers r.guess (string_bytes r.query) stations files answer
   pub told : IfOk answer (λ papers. warnings ≡ warnings_of files)
 
--- what is said for these texts is a part's verdict if they are a part of the files that the papers are of, and a
--- verdict if they aren't
+-- a judgement for these texts is a part's verdict if they are a part of the files that the report and the certificate
+-- cover, and a verdict if they aren't
 abbrev pub IsJudgedAs : Bool → List ℕ → List ℕ → List (List ℕ) → List ℕ → List ℕ → Judgement → Type 0
 IsJudgedAs false query stations files report certificate (Whole v) =
     IsJudged query stations files report certificate v
@@ -106,7 +107,8 @@ abbrev pub JudgesInputAs : Bool → Intake → List ℕ → List ℕ → Judgeme
 JudgesInputAs part t report certificate j =
     IsTrueOf t (λ query stations files. IsJudgedAs part query stations files report certificate j)
 
--- what is said of two papers for these texts, and the foreign files and the odd lines; or the first fault of these
+-- the judgement of a report and a certificate for these texts, and the foreign files and the odd lines; or the first
+-- error of these
 abbrev pub IsJudgement : Bool → List ℕ → List ℕ → List (List ℕ) → List ℕ → List ℕ
     → Result (Judgement × Warnings) Fault → Type 0
 IsJudgement part query stations files report certificate (Ok judged) =
@@ -114,12 +116,12 @@ IsJudgement part query stations files report certificate (Ok judged) =
 IsJudgement part query stations files report certificate (Err fault) =
     IsRefusal is_memory fault (read_input query stations files)
 
--- the paths of what is read to judge papers, in order
+-- the paths of what is read for a check, in order
 abbrev pub judging_paths : Judging → List (List ℕ)
 judging_paths j = string_bytes j.stations ∷ part_paths j.papers ++ map string_bytes j.files.items
 
--- the judgement of all bytes of two papers for those of the station list and of each daily file, as they are named, in
--- order
+-- the judgement of all bytes of a report and a certificate for those of the station list and of each daily file, as
+-- they are named, in order
 pub record JudgesFiles (bytes_of : Known) (opens : Opening) (j : Judging) (answer : Result (Judgement × Warnings) Fault)
     : Type 0 where
   pub opened : AreOpenedFor is_memory opens (judging_paths j) answer

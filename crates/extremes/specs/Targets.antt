@@ -17,7 +17,7 @@ abbrev pub IsTaken : Sharing → Holding → Bool → Type 0
 IsTaken shares holds true = shares (codes "/dev/stdout") true ⊎ shares (codes "/dev/stderr") true ⊎ holds true
 IsTaken shares holds false = shares (codes "/dev/stdout") false × shares (codes "/dev/stderr") false × holds false
 
--- it is found to be a paper of a part, or to be neither of the two
+-- it is found to be a report or a certificate of a part, or to be neither of the two
 abbrev pub IsPaper : Sharing → Part → Bool → Type 0
 IsPaper shares part true = shares (string_bytes part.report) true ⊎ shares (string_bytes part.certificate) true
 IsPaper shares part false = shares (string_bytes part.report) false × shares (string_bytes part.certificate) false
@@ -30,8 +30,8 @@ IsInUse shares holds stations files true =
 IsInUse shares holds stations files false =
     IsTaken shares holds false × shares stations false × All (λ file. shares (string_bytes file) false) files
 
--- it is taken, or found to be a paper of some part; or it isn't taken, and is compared with the papers of each part, and
--- found to be none of them
+-- it is taken, or found to be a report or a certificate of some part; or it isn't taken, and is compared with those of
+-- each part, and found to be none of them
 abbrev pub IsPaperOrOutput : Sharing → Holding → List Part → Bool → Type 0
 IsPaperOrOutput shares holds parts true = IsTaken shares holds true ⊎ Any (λ part. IsPaper shares part true) parts
 IsPaperOrOutput shares holds parts false =

@@ -16,7 +16,7 @@ pub struct DescriptionText {
     pub warnings: Warnings,
 }
 
-/// The text of what the files hold that were given, or the first error in the order: stations, number
+/// The text of what the given files hold, or the first error in the order: stations, number
 /// of files, files and lines in order.
 pub(crate) fn describe_intake(
     alloc: Global,

@@ -17,7 +17,7 @@ pub enum Ending {
 }
 
 impl Ending {
-    /// The exit status: 0 done, 1 refused, 2 words, 3 file.
+    /// The exit status: 0 done, 1 refused, 2 arguments, 3 file.
     pub fn status(&self) -> u8
         ensures { result ≡ status_of self.now }
     {

@@ -1,4 +1,4 @@
-//! Ranking, merging, judging and describing what the files of an archive hold.
+//! Ranking, merging, checking and describing what the files of an archive hold.
 
 ghost use Rattle.std.specs.Prelude.{◌≡◌, [], IfOk, IfErr, OnOk, map};
 ghost use Rattle.std.specs.List.{AllZip};
@@ -44,7 +44,7 @@ pub(crate) struct Judging {
     pub(crate) files: Vec<String>,
     pub(crate) query: String,
     pub(crate) papers: Part,
-    /// Whether the files are a part of those that the report and the certificate are of.
+    /// Whether the files are a part of those that the report and the certificate cover.
     pub(crate) part: bool,
 }
 

@@ -129,7 +129,8 @@ fn judge_dataset(
         ↔ (IsRightReportFor query.now dataset.now report.now
         × (version : ℕ) × IsRightCertificateFor version query.now dataset.now certificate.now)) }
 {
-    // `check` says of papers what they are over the data, and the law what these are by what is best.
+    // `check` says what a report and a certificate are over the data, and the law what they are by what is
+    // best.
     papers_are_found();
     let (_stations, _k) = (dataset.stations(), query.k());
     check(alloc, dataset, query, report, certificate)

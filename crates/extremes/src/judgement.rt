@@ -1,4 +1,5 @@
-//! What is said of a report and a certificate: by the files that they are of, or by a part of these.
+//! What a check says of a report and a certificate: by the files that they cover, or by a part of
+//! these.
 
 ghost use Rattle.std.specs.Prelude.{◌≡◌};
 ghost use Rattle.extremes.specs.Ending.{ending_of};
@@ -11,7 +12,7 @@ use std::fmt;
 /// What is said of a report and a certificate.
 #[derive(Clone, Copy, Debug, PartialEq, Eq)]
 pub enum Judgement {
-    /// By the files that both are of.
+    /// By the files that both cover.
     Whole(Verdict),
     /// By some of them.
     Part(PartVerdict),

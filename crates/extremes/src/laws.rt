@@ -1,4 +1,4 @@
-//! What ranking, judging and merging say of each other, as laws over their contracts.
+//! What ranking, checking and merging imply for each other, as laws over their contracts.
 
 ghost use Rattle.extremes.specs.Judged.{AnswersAreAccepted};
 ghost use Rattle.extremes.specs.JudgedInParts.{PartsJudgeTheWhole};
@@ -14,9 +14,9 @@ pub fn answers_are_accepted()
     ensures { AnswersAreAccepted }
 {}
 
-/// If each part has what a ranking returns for its files, with one station list and one
-/// query, which each may spell in its own way, what is merged of them has the report that a ranking
-/// answers to all files, byte for byte, and a certificate that is right for all files.
+/// If each part has what a ranking returns for its files, with one station list and one query,
+/// which each may spell in its own way, what is merged of them has the report that a ranking
+/// returns for all files, byte for byte, and a certificate that is right for all files.
 pub fn merged_is_ranked()
     ensures { MergedIsRanked }
 {

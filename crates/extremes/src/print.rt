@@ -194,7 +194,7 @@ pub(crate) fn print_judgement<R: Eprint, W: Write>(
     }
 }
 
-/// The line that says a judgement. It always fits.
+/// The line of a judgement. It always fits.
 fn line_of(judgement: &Judgement) -> Option<ArrayVec<u8, LONGEST_LINE>>
     ensures { IfSome result (λ line. line.items ≡ judgement_line judgement.now) }
 {

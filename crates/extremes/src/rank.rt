@@ -177,7 +177,7 @@ fn ranked_alone(
     ensures alone { IfOk result (λ papers.
         IsOfOneWorker (planned query.now dataset.now) guess papers.certificate.items) }
 {
-    // Papers of the best by the plan are right by what is best.
+    // A report and a certificate of the best by the plan are right by what is best.
     papers_are_found();
     let plan = Plan::new(alloc, dataset, query)?;
     let answer = run_alone(alloc, &plan, guess)?;
@@ -201,7 +201,8 @@ fn ranked_by_crew<R: Threads + Wait + AllocGlobal + Sync, G: Gate + Sync>(
         × IsOfCrew (planned query.now dataset.now) guess workers papers.certificate.items) }
     ensures err { IfErr result (λ fault. is_memory fault ≡ true) }
 {
-    // Every schedule ends soundly, and papers of the best by the plan are right by what is best.
+    // Every schedule ends soundly, and a report and a certificate of the best by the plan are right by
+    // what is best.
     ends_are_sound();
     papers_are_found();
     let plan = survey(rt, rt.alloc(), dataset, query, workers, gate)?;

@@ -56,8 +56,8 @@ pub(crate) fn is_in_use<T: Target>(target: &T, out: &str, stations: &str, files:
     false
 }
 
-/// Whether a certificate's file holds anything else, or is a paper of a part or the file of standard
-/// output or standard error.
+/// Whether a certificate's file holds anything else, or is a report or a certificate of a part, or
+/// the file of standard output or standard error.
 pub(crate) fn is_paper_or_output<T: Target>(target: &T, out: &str, parts: &[Part]) -> bool
     ensures { IsPaperOrOutput (T.one_file target.now out.now) (T.other_text target.now out.now) parts.now result }
 {
@@ -72,7 +72,7 @@ pub(crate) fn is_paper_or_output<T: Target>(target: &T, out: &str, parts: &[Part
     false
 }
 
-/// Whether a certificate's file is a paper of a part.
+/// Whether a certificate's file is a report or a certificate of a part.
 fn is_paper<T: Target>(target: &T, out: &str, part: &Part) -> bool
     ensures { IsPaper (T.one_file target.now out.now) part.now result }
 {

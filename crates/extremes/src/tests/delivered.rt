@@ -1,4 +1,4 @@
-//! Papers that are written whole, and writers that fail.
+//! Reports and certificates that are written whole, and writers that fail.
 
 use super::*;
 use crate::delivery::{Delivery, deliver};
@@ -81,7 +81,7 @@ fn full_once_behind(alloc: Global, room: usize) -> Narrow {
     }
 }
 
-/// A writer that takes both papers.
+/// A writer that takes the report and the certificate.
 fn wide(alloc: Global) -> Narrow {
     failing_behind(alloc, 999)
 }
@@ -94,7 +94,7 @@ fn by_bytes(alloc: Global) -> Narrow {
     }
 }
 
-/// A writer that takes both papers, and can't be flushed.
+/// A writer that takes the report and the certificate, and can't be flushed.
 fn unflushed(alloc: Global) -> Narrow {
     Narrow {
         flushes: false,
@@ -102,7 +102,7 @@ fn unflushed(alloc: Global) -> Narrow {
     }
 }
 
-/// The papers of the three greatest values.
+/// The report and the certificate of the three greatest values.
 fn papers_of_three(alloc: Global) -> Result<Papers, Fail> {
     match rank_serial(alloc, STATIONS, &[DAILY], "top 3 highest TMAX", None) {
         Ok(papers) => Ok(papers),

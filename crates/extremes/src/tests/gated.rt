@@ -1,4 +1,4 @@
-//! A ranking by two workers, each of whom is held until the other has come as far.
+//! A ranking by two workers, each of which is held until the other has come as far.
 
 use super::*;
 use rank_crew::Gate;
@@ -11,7 +11,7 @@ use std::thread::yield_now;
 const TURNS: u32 = 1_000_000;
 
 /// A gate of two workers over three morsels. Each is held until the other measures too, and until the
-/// other has claimed too, and whoever claims morsel 1 until morsel 2 is claimed.
+/// other has claimed too, and the worker that claims morsel 1 until morsel 2 is claimed.
 #[derive(Drop)]
 struct Meeting {
     measuring: [AtomicBool; 2],

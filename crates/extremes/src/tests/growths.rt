@@ -1,4 +1,4 @@
-//! Rankings and judgements of which `examples/grow` refuses one allocation after the other.
+//! Rankings and checks of which `examples/grow` refuses one allocation after the other.
 //!
 //! A test prints `memory` if the call that it is about met the refusal, and `answered` if it
 //! returned what it has to.
@@ -51,7 +51,8 @@ kth none
 end 0
 ";
 
-/// Prints what a call met: papers or a verdict, which were compared before, or out of memory.
+/// Prints what a call met: a report and a certificate or a verdict, which were compared before, or
+/// out of memory.
 fn print_met<R: Abort + Print>(rt: &R, fault: Option<Fault>) -> Result<(), Fail> {
     match fault {
         None => println!(rt; "answered")?,
@@ -76,7 +77,7 @@ fn a_ranking_by_four_workers(rt: HostRuntime) -> Result<(), Fail> {
     print_met(&rt, ranked.err())
 }
 
-/// Ranks on one thread under a guess that passes too much over.
+/// Ranks on one thread under a guess that skips too much.
 fn check_taken_back<R: Abort + Print + AllocGlobal>(
     rt: &R,
     query: &str,
@@ -119,7 +120,7 @@ fn a_judgement_of_right_papers(rt: HostRuntime) -> Result<(), Fail> {
     print_met(&rt, judged.err())
 }
 
-/// The papers of a part.
+/// The report and the certificate of a part.
 fn part(alloc: Global, report: &[u8], certificate: &[u8]) -> Result<PartTexts, AllocError> {
     Ok(PartTexts {
         report: Vec::from_slice(alloc, report)?,

@@ -1,4 +1,4 @@
-//! Judgements of the papers of a run, by all files and by a part of them.
+//! Checks of the report and the certificate of a run, by all files and by a part of them.
 
 use super::*;
 use crate::judge::{judge, judge_part};

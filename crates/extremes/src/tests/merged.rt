@@ -1,4 +1,4 @@
-//! Papers of parts that are merged.
+//! Reports and certificates of parts that are merged.
 
 use super::*;
 use crate::merge::{MergingFault, PartTexts, merge_texts};

@@ -40,7 +40,7 @@ fn with_returns(alloc: Global) -> Result<Vec<u8>, AllocError> {
     Ok(text)
 }
 
-/// Ranks files by pieces of several lengths, each of which gives the same report or error.
+/// Ranks files by pieces of several lengths, each of which returns the same report or error.
 fn check_pieces<R: Abort + AllocGlobal + Threads + Wait + Sync>(
     rt: &R,
     files: &[&[u8]],

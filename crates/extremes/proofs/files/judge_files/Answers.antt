@@ -19,7 +19,7 @@ returns-in_default-piece_room-clause-judges g c =
 pub feed_files-requires : goal.feed_files-requires
 feed_files-requires g c = (_, c.new-intake.ensures)
 
--- what was fed is judged
+-- what was fed is checked
 pub returns-clause-judges : goal.returns-clause-judges
 returns-clause-judges g c =
     let bytes_of = g.A.Archive.bytes_of c.args.archive.now in
@@ -48,7 +48,7 @@ returns-in_default-clause-stopped g c =
     (stops-first opens (string_bytes c.args.judging.now.stations) _
     (subst (λ (p : List ℕ). IsTried opens p) c.deref.ensures c.read_whole.ensures.tried))
 
--- or a paper can't be
+-- or a report or a certificate can't be
 pub returns-in_err-papers-clause-stopped : goal.returns-in_err-papers-clause-stopped
 returns-in_err-papers-clause-stopped g c =
     let opens = g.A.Archive.opens c.args.archive.now in

@@ -1,7 +1,7 @@
 use Rattle.extremes.proofs.FedRuns.{ranks-input, words-input}
 use Rattle.extremes.proofs.files.rank_fed.Goals as goal
 
--- the words have no error
+-- the arguments have no error
 pub returns-in-Ok-clause-ranks : goal.returns-in-Ok-clause-ranks
 returns-in-Ok-clause-ranks g c =
     ranks-input c.args.intake c.args.workers c.workers_for-started.result c.args.guess c.rank_intake.result.answer

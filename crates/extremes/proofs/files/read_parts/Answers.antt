@@ -23,7 +23,7 @@ loop-part-preserved g c =
           c.in_ok-read.ensures.opened;
     }
 
--- a paper can't be read
+-- a report or a certificate can't be read
 pub returns-in_err-read-clause-stopped : goal.returns-in_err-read-clause-stopped
 returns-in_err-read-clause-stopped g c =
     let opens = g.A.Archive.opens c.args.archive.now in
@@ -42,7 +42,7 @@ returns-in_default-clause-stopped g c =
     (stops-later opens (string_bytes part.report) (string_bytes part.certificate) _ c.in_ok-read.ensures.opened.0
     (stops-first opens (string_bytes part.certificate) [] (true, c.in_ok-read.ensures.opened.1.0))))
 
--- the papers of all parts are opened
+-- the reports and certificates of all parts are opened
 pub returns-clause-opened : goal.returns-clause-opened
 returns-clause-opened g c =
     parts-all (g.A.Archive.opens c.args.archive.now) c.args.parts.now c.loop-part.part-index

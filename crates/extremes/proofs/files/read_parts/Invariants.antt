@@ -4,7 +4,7 @@ use Rattle.rank_input.specs.Feeding.{AreOpened}
 use Rattle.extremes.specs.Merges.{AreBothOf, known_part, parts_paths, texts_of}
 use Rattle.extremes.proofs.files.read_parts.Given as goal
 
--- the papers of the parts so far are opened and read
+-- the reports and certificates of the parts so far are opened and read
 abbrev pub invariant-loop-part : goal.invariant-loop-part
 invariant-loop-part g l = record {
   read : AllZip AreBothOf (map (known_part (g.A.Archive.bytes_of l.archive)) (take l.part-index l.parts))

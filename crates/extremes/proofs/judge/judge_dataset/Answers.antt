@@ -2,7 +2,7 @@ use Rattle.std.proofs.lemmas.Result.{IfOk-weaker}
 use Rattle.extremes.proofs.Answering.{accepted_right}
 use Rattle.extremes.proofs.judge.judge_dataset.Goals as goal
 
--- papers with what is found are accepted, and these are the right ones
+-- a report and a certificate with what is found are accepted, and these are the right ones
 pub returns-clause-accepted : goal.returns-clause-accepted
 returns-clause-accepted c =
     IfOk-weaker c.check.result _ _ (λ v accepted.

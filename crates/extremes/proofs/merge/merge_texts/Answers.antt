@@ -14,7 +14,7 @@ use Rattle.extremes.specs.declared.merge.MergingFault.TheVariants.{Parts}
 use Rattle.extremes.specs.Merges.{IsRefusedWhereRight, texts_of}
 use Rattle.extremes.proofs.merge.merge_texts.Goals as goal
 
--- the papers are those that are merged of the parts' texts
+-- the report and the certificate are those that are merged of the parts' texts
 pub returns-clause-ok : goal.returns-clause-ok
 returns-clause-ok c =
     let q = c.in_ok-query.query in
@@ -36,7 +36,7 @@ abbrev read_or : Asked → Result Asked QueryFault → Asked
 read_or other (Ok asked) = asked
 read_or other (Err cause) = other
 
--- what is refused of the parts' texts for a query is refused for a text that asks it
+-- what is refused of the parts' texts for a query is refused for a text that denotes it
 refused-for : (query : List ℕ) (q : Asked) (lent texts : List Texts) (why : MergeFault) → read_query query ≡ Ok q
     → lent ≡ texts → OrMemory merging.is_memory (λ f. IsOutcomeWhereRight q lent (Err f)) why
     → IsRefusedWhereRight query texts (Parts why)

@@ -4,7 +4,7 @@ use Rattle.rank_input.specs.Takes.{given}
 use Rattle.extremes.proofs.FedRuns.{input_refuses}
 use Rattle.extremes.proofs.rank.rank.Goals as goal
 
--- the papers answer all that was given
+-- the report and the certificate answer all that was given
 pub returns-clause-ok : goal.returns-clause-ok
 returns-clause-ok g c =
     IfOk-weaker c.rank_intake.result.answer _ _ (λ papers are.

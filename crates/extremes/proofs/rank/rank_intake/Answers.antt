@@ -3,7 +3,7 @@ use Rattle.rank_input.proofs.Reading.{memory_refuses}
 use Rattle.extremes.proofs.rank.rank_intake.Goals as goal
 use Rattle.extremes.proofs.Answering.{answers_input, crews_input, faultless_input}
 
--- the papers of what the query needs answer all that was given
+-- the report and the certificate of what the query needs answer all that was given
 pub returns-in-Ok-clause-ok : goal.returns-in-Ok-clause-ok
 returns-in-Ok-clause-ok g c =
     IfOk-weaker c.ranked_by_crew-answer.result _ _ (λ papers are.

@@ -3,7 +3,7 @@ use Rattle.rank_input.specs.Takes.{given}
 use Rattle.extremes.proofs.rank.rank_serial.Goals as goal
 use Rattle.extremes.proofs.Answering.{answers_input, faultless_input, serial_input}
 
--- the papers of what the query needs answer all that was given
+-- the report and the certificate of what the query needs answer all that was given
 pub returns-clause-ok : goal.returns-clause-ok
 returns-clause-ok c =
     (answers_input c.of_files-intake.result c.in_ok-taken.taken.query c.in_ok-taken.taken.dataset

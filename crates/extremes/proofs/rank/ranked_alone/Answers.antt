@@ -15,7 +15,7 @@ run_alone-requires c = search (rules, guess_is_score)
 pub papers_of-requires : goal.papers_of-requires
 papers_of-requires c = crew_is_plan _ _ _ _ c.in_ok-answer.ensures.answer
 
--- the papers of the plan are those of the query and the data, and right for them
+-- the report and the certificate of the plan are those of the query and the data, and right for them
 pub returns-clause-right : goal.returns-clause-right
 returns-clause-right c =
     let asked = subst IsAsked (ap (λ (p : Planned). p.query) (c.plan.view_is ∙ c.in_ok-plan.ensures))

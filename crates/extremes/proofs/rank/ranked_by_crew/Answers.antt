@@ -15,7 +15,7 @@ survey-requires-clause-some g c κs within = some_workers c.args.workers c.requi
 pub survey-requires-clause-few : goal.survey-requires-clause-few
 survey-requires-clause-few g c κs within = few_workers c.args.workers c.requires.crew
 
--- so it is with those who draw
+-- so it is with the workers that draw
 pub crew-requires-clause-some : goal.crew-requires-clause-some
 crew-requires-clause-some g c κs within = some_workers c.args.workers c.requires.crew
 
@@ -31,7 +31,7 @@ crew-requires-clause-guess g c κs within = guess_is_score c.args.guess c.requir
 pub papers_of-requires : goal.papers_of-requires
 papers_of-requires g c = crew_is_plan _ _ _ _ c.in_ok-answer.ensures.answer
 
--- the papers of the plan are those of the query and the data, and right for them
+-- the report and the certificate of the plan are those of the query and the data, and right for them
 pub returns-clause-ok : goal.returns-clause-ok
 returns-clause-ok g c =
     let asked = subst IsAsked (ap (λ (p : Planned). p.query) (c.plan.view_is ∙ c.in_ok-plan.ensures))

@@ -23,7 +23,7 @@ returns-in-Rank g c =
     (g.A.Archive.opens c.args.archive.now) a (g.W.Write.contents c.args.out.now)
     (g.W.Write.contents c.run_ranking.new.out) c.run_ranking.result) (sym c.in-Rank.is) c.run_ranking.ensures
 
--- or the papers of the parts that are named are merged
+-- or the reports and certificates of the parts that are named are merged
 pub returns-in-Merge : goal.returns-in-Merge
 returns-in-Merge g c =
     let bytes_of = g.A.Archive.bytes_of c.args.archive.now in
@@ -38,7 +38,7 @@ returns-in-Merge g c =
     (subst (λ (q : List ℕ). RunsMerge bytes_of opens q c.deref-in-Merge.result.now out before after
     c.run_merge.result) c.deref.ensures c.run_merge.ensures))
 
--- or papers that are named are judged
+-- or a report and a certificate that are named are checked
 pub returns-in-Check : goal.returns-in-Check
 returns-in-Check g c =
     subst (λ (a : Command). IsCommandRun (g.A.Archive.bytes_of c.args.archive.now)
