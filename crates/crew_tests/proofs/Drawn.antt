@@ -1,4 +1,4 @@
--- The floor that is left where every number drawn was raised as a score.
+-- The floor that is left if every number drawn was raised as a score.
 use Rattle.std.proofs.Common.{◌≡◌, ℕ, ◌+◌, ◌-◌, ◌<◌, List, [], ◌∷◌, ◌++◌, length, map, ℤ, pos, negsuc, ◌≤ℤ◌, Option}
 use Rattle.std.proofs.Common.{Some, None, All, Contains, refl, sym, ap, ap₂, subst, ⊎_elim, ◌∙◌, arith, length-append}
 use Rattle.std.proofs.lemmas.Int.{ints}

@@ -23,7 +23,7 @@ ZZA00000002  11.0000   21.0000  100.0    BRAVO
 ZZA00000003  12.0000   22.0000  100.0    CHARLIE
 ";
 
-/// The greatest temperatures of the first days of July 2020, in tenths of a degree, of each station.
+/// The highest temperatures of the first days of July 2020, in tenths of a degree, of each station.
 pub(crate) type Values = [&'static [i32]; 3];
 
 pub(crate) const USUAL: Values = [&[311, 305], &[311], &[250]];
@@ -75,7 +75,7 @@ pub(crate) fn lines_of(answer: &Answer) -> Option<Lines> {
     }
 }
 
-/// The answer of that many workers, who measured the plan too.
+/// The answer of that many workers, which measured the plan too.
 pub(crate) fn answer_of<R: Threads + Wait + Sync, G: Gate + Sync>(
     rt: &R,
     alloc: Global,

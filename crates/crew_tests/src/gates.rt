@@ -13,8 +13,8 @@ use std::thread::{Threads, yield_now};
 const TURNS: u32 = 1_000_000;
 
 /// A gate of two workers over three morsels. The first worker to measure is held until the other
-/// measures too, the first to claim until the other has claimed, and whoever claims morsel 1 until
-/// morsel 2 is claimed.
+/// measures too, the first to claim until the other has claimed, and the worker that claims morsel
+/// 1 until morsel 2 is claimed.
 #[derive(Drop)]
 struct Meeting {
     measuring: [AtomicBool; 2],
@@ -82,8 +82,8 @@ impl Gate for Meeting {
     }
 }
 
-/// Whether each record is of a morsel that was claimed once, by the record's worker, and the best
-/// score was seen at each but the first.
+/// Whether each record belongs to a morsel that was claimed once, by the record's worker, and the
+/// best score was seen at each but the first.
 fn has_claims_of(gate: &Meeting, answer: &Answer) -> bool {
     for record in &answer.records {
         let Some((times, last)) = gate.claims.get(record.morsel as usize) else {
@@ -100,7 +100,7 @@ fn has_claims_of(gate: &Meeting, answer: &Answer) -> bool {
     answer.records.len() == 3
 }
 
-/// The lines of two workers' answer, and whether its records are of the claims at the gate.
+/// The lines of two workers' answer, and whether its records are those of the claims at the gate.
 fn gated_run<R: Threads + Wait + Sync>(
     rt: &R,
     alloc: Global,
@@ -123,7 +123,7 @@ fn gated_run_of_two_workers(rt: HostRuntime) {
     );
 }
 
-/// A gate of three workers, each of whom is held until all have claimed.
+/// A gate of three workers, each of which is held until all have claimed.
 #[derive(Drop)]
 struct Three {
     claiming: [AtomicBool; 3],
@@ -185,7 +185,7 @@ fn three_workers_at_once(rt: HostRuntime) {
     );
 }
 
-/// A gate that holds whoever claims morsel 0 until morsel 2 is claimed.
+/// A gate that holds the worker that claims morsel 0 until morsel 2 is claimed.
 #[derive(Drop)]
 struct FirstLast {
     last_claimed: AtomicBool,

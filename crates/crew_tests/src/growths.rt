@@ -101,7 +101,7 @@ struct Left {
     records: (Option<usize>, Option<usize>),
 }
 
-/// What two workers leave, of which the second comes when the first is home.
+/// What two workers leave, if the second starts after the first has ended.
 fn left_by_two<R: Wait>(rt: &R, alloc: Global, plan: &Plan<'_>) -> Option<Left> {
     if plan.len() != 3 {
         return None;

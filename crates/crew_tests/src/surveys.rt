@@ -10,7 +10,7 @@ use std::sync::Wait;
 use std::sync::atomic::{AtomicU64, Ordering};
 use std::thread::Threads;
 
-/// Stands for no worker, if there is no place.
+/// The number that means no worker, if there is no place.
 const NOBODY: u64 = 64;
 
 /// A gate that notes which worker measures each of up to four places.

@@ -1,4 +1,4 @@
-//! Lines of a certificate, and stations without one, judged by themselves.
+//! Lines of a certificate, and stations without one, checked by themselves.
 
 use crate::data::{A, B, C, usual_data};
 use ghcn_fields::Day;

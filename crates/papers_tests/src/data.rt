@@ -1,4 +1,4 @@
-//! Data of three stations, and the papers of the best one of these.
+//! Data of three stations, and the report and the certificate of the best one of these.
 
 use ghcn_files::{StationId, Stations};
 use ghcn_series::Data;
@@ -17,7 +17,7 @@ ZZA00000002  11.0000   21.0000  100.0    BRAVO
 ZZA00000003  12.0000   22.0000  100.0    CHARLIE
 ";
 
-/// Writes the line of a station's greatest temperatures of the first days of July 2020.
+/// Writes the line of a station's highest temperatures of the first days of July 2020.
 pub(crate) fn push_month(text: &mut String, id: &str, values: &[i32]) -> Result<(), AllocError> {
     write!(text, "{id}202007TMAX")?;
     for day in 0..31 {

@@ -1,7 +1,7 @@
-//! The tests of the crates of papers: what is written and read back, the checker of a whole archive
-//! and of a part, and merges.
+//! The tests of the crates of reports and certificates: what is written and read back, the checker
+//! of a whole archive and of a part, and merges.
 //!
-//! They know these crates as their callers do, by what they show.
+//! They use these crates as callers do, by what is public.
 #![tactic(auto)]
 
 #[cfg(test)]

@@ -8,7 +8,8 @@ use std::alloc::Global;
 use std::fmt::Write;
 use std::test::Fail;
 
-/// The papers of parts in their plain form: all rows are gathered, put in order, and cut.
+/// The merged report and certificate of parts, found the plain way: all rows are gathered, put in
+/// order, and cut.
 fn merge_plainly(alloc: Global, query: &Query, parts: &[(&[u8], &[u8])]) -> Result<Merged, Fail> {
     let mut rows: Vec<Row> = Vec::new(alloc);
     let mut lines: Vec<Line> = Vec::new(alloc);
@@ -26,8 +27,8 @@ fn merge_plainly(alloc: Global, query: &Query, parts: &[(&[u8], &[u8])]) -> Resu
     })
 }
 
-/// The papers of a part with one station of two digits, whose rows have these scores, on days that
-/// follow one another.
+/// The report and the certificate of a part with one station of two digits, whose rows have these
+/// scores, on days that follow one another.
 fn part_of(alloc: Global, k: u64, station: u64, scores: &[u64]) -> Result<(String, String), Fail> {
     let mut report = format!(in alloc; "extremes report 1\nquery top {k} highest TMAX\n")?;
     for (place, score) in scores.iter().enumerate() {
@@ -72,7 +73,7 @@ fn scores_of(alloc: Global, most: u32, seed: u64) -> Result<Vec<u64>, Fail> {
     Ok(scores)
 }
 
-/// Both merged papers, one after the other.
+/// The merged report and certificate, one after the other.
 fn text_of(alloc: Global, merged: &Merged) -> Result<Vec<u8>, Fail> {
     let mut text = Vec::from_slice(alloc, &merged.report)?;
     text.extend_from_slice(&merged.certificate)?;

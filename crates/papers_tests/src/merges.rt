@@ -5,7 +5,7 @@ use rank_query::Query;
 use std::alloc::{AllocError, Global};
 use std::test::Fail;
 
-/// Both merged papers, one after the other, or the line of the refusal.
+/// The merged report and certificate, one after the other, or the line of the refusal.
 fn outcome(alloc: Global, query: &str, parts: &[(&[u8], &[u8])]) -> Result<Vec<u8>, Fail> {
     let query = Query::parse(query)?;
     let mut text = Vec::new(alloc);
@@ -308,7 +308,7 @@ const FAULTS: [(&str, &str, &str, &str, &str); 17] = [
     ),
 ];
 
-/// A paper with this title, query and rest.
+/// A report or a certificate with this title, query and rest.
 fn paper(alloc: Global, title: &str, query: &str, rest: &str) -> Result<String, AllocError> {
     format!(in alloc; "{title}\n{query}{rest}")
 }
@@ -326,7 +326,7 @@ fn first_faults(rt: HostRuntime) -> Result<(), Fail> {
     Ok(())
 }
 
-/// A part with two empty papers.
+/// A part with an empty report and an empty certificate.
 const EMPTY: (&[u8], &[u8]) = (b"", b"");
 
 /// A part whose certificate is empty.

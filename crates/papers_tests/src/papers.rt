@@ -1,4 +1,5 @@
-//! Reports of one candidate, both papers of a run, and papers that are read.
+//! Reports of one candidate, the report and the certificate of a run, and reports and certificates
+//! that are read.
 
 use crate::data::{A, B, CERTIFICATE, REPORT, usual_data};
 use ghcn_fields::Day;

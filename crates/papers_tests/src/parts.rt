@@ -1,4 +1,4 @@
-//! Papers of a whole archive, judged in parts.
+//! The report and the certificate of a whole archive, checked in parts.
 
 use crate::data::{CERTIFICATE, REPORT, STATIONS, push_month, read};
 use ghcn_series::Data;
@@ -22,7 +22,7 @@ fn part(alloc: Global, first: bool) -> Result<Data, Fail> {
     Ok(read(alloc, STATIONS, text.as_bytes()).ok_or("no data")?)
 }
 
-/// What a part prints of two papers of the highest temperature.
+/// What a part prints for a report and a certificate of the highest temperature.
 fn line_of(alloc: Global, dataset: &Data, report: &str, certificate: &str) -> Result<String, Fail> {
     let query = Query::parse("top 1 highest TMAX")?;
     let verdict = check_part(

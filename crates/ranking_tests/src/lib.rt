@@ -1,7 +1,7 @@
 //! The tests of the crates that rank: scores, bounds, pools, runs, and what runs are given. A module
 //! has those of a crate; `days` makes their data.
 //!
-//! They know these crates as their callers do, by what they show.
+//! They use these crates as callers do, by what is public.
 #![tactic(auto)]
 
 #[cfg(test)]

@@ -23,7 +23,7 @@ ZZA00000002  11.0000   21.0000  100.0    BRAVO
 ZZA00000003  12.0000   22.0000  100.0    CHARLIE
 ";
 
-/// The greatest temperatures of each station on the first days of July 2020, in tenths of a degree.
+/// The highest temperatures of each station on the first days of July 2020, in tenths of a degree.
 type Values = [&'static [i32]; 3];
 
 const USUAL: Values = [&[311, 305], &[311], &[250]];
@@ -123,8 +123,8 @@ fn answer_of(
     finish(alloc, plan, machine.hauls()).ok()
 }
 
-/// The usual values ranked for the best one by these events: the lines, how many skips are taken
-/// back, and how many are the best.
+/// The usual values ranked for the best one by these events: the lines, how many skips are undone,
+/// and how many are the best.
 fn replayed(alloc: Global, workers: u64, events: &[Event]) -> Option<(Lines, u64, usize)>
     requires some { 0 < workers }
     requires few { workers ≤ 64 }

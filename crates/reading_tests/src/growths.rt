@@ -40,7 +40,7 @@ fn with_month(reader: DataReader, head: &[u8; 21]) -> DataReader
     fed(fed(reader, &month_of(head)), b"\r\n")
 }
 
-/// What two files hold: a month before the one that stands first, a month of another station and
+/// What two files hold: a month before the one that comes first, a month of another station and
 /// element, one of a station that isn't listed, and a last line without its line feed.
 fn read_pieces(alloc: Global, stations: Stations) -> Result<Data, DataFault> {
     let reader = DataReader::new(alloc, stations)?;
@@ -55,8 +55,8 @@ fn read_pieces(alloc: Global, stations: Stations) -> Result<Data, DataFault> {
     Ok(data)
 }
 
-/// Whether the data have a first value of each month from June to September, and one line was passed
-/// over.
+/// Whether the data have a first value of each month from June to September, and one line was
+/// skipped.
 fn is_whole(data: &Data) -> Option<bool> {
     let series = data.series(&StationId(*b"ZZA00000001"), Element::Tmax)?;
     for month in 6..10 {

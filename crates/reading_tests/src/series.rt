@@ -110,7 +110,7 @@ fn span_of(series: &Series) -> Span {
     (series.id(), series.element(), first.number(), last.number())
 }
 
-/// The first station's series of greatest temperatures, found by its place, and the numbers of
+/// The first station's series of highest temperatures, found by its place, and the numbers of
 /// stations and of unlisted lines.
 type Counts = (Span, u64, u64);
 

@@ -1,4 +1,4 @@
-//! Archives: the daily files of stations, made one after another and given to a taker.
+//! Archives: the daily files of stations, made one after another and passed to a taker.
 
 ghost use Rattle.std.specs.Prelude.{◌<◌, OnOk};
 ghost use Rattle.rank_input.specs.Takes.{HasTakenSome};
@@ -10,7 +10,7 @@ use ghcn_fields::Memory;
 use rank_input::Taker;
 use std::alloc::Global;
 
-/// How many bytes of a file are given at once.
+/// How many bytes of a file are passed at once.
 const PIECE: usize = 1 << 16;
 
 /// The elements of a line, by the kind of its station: rain alone, temperatures too, or all.
@@ -22,7 +22,7 @@ const WARMTH: [usize; 4] = [0, 1, 2, 5];
 
 const ALL: [usize; 7] = [0, 1, 2, 3, 4, 5, 6];
 
-/// Gives the daily files of that many stations, of which one in 64 isn't listed.
+/// Passes the daily files of that many stations, of which one in 64 isn't listed.
 pub(crate) fn give_archive<T: Taker>(
     alloc: Global,
     taker: &mut T,
@@ -45,7 +45,7 @@ pub(crate) fn give_archive<T: Taker>(
     Ok(())
 }
 
-/// Gives a daily file by pieces.
+/// Passes a daily file by pieces.
 pub(crate) fn give<T: Taker>(taker: &mut T, file: &[u8])
     requires { HasTakenSome T.has_taken taker.old }
     ensures { HasTakenSome T.has_taken taker.new }

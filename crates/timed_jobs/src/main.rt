@@ -1,6 +1,6 @@
 //! The jobs that users wait for, over inputs that follow from a seed, to be timed.
 //!
-//! Its words are a job, a seed, how many rounds, and a size. It prints a digest of all results.
+//! Its arguments are a job, a seed, how many rounds, and a size. It prints a digest of all results.
 #![tactic(auto)]
 
 mod archive;
@@ -42,7 +42,7 @@ fn main(rt: HostRuntime) -> ExitCode {
     }
 }
 
-/// Does the job that the process's words name, or each one.
+/// Does the job that the process's arguments name, or each one.
 fn run<R: Env + Threads + Wait + AllocGlobal + Sync>(rt: &R) -> Result<Digest, Fault> {
     let words: Vec<String> = match env::args(rt) {
         Ok(words) => words.collect(rt.alloc()).map_err(|_| Memory)?,
@@ -76,7 +76,7 @@ fn run<R: Env + Threads + Wait + AllocGlobal + Sync>(rt: &R) -> Result<Digest, F
     Ok(digest)
 }
 
-/// The number that a word writes, or 0.
+/// The number that an argument writes, or 0.
 fn number(word: &str) -> u32 {
     word.parse::<u32>().unwrap_or(0)
 }

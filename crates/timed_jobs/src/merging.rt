@@ -1,4 +1,4 @@
-//! Papers of parts, merged.
+//! Reports and certificates of parts, merged.
 
 ghost use Rattle.std.specs.Prelude.{◌<◌};
 
@@ -17,7 +17,8 @@ use std::alloc::Global;
 /// How many stations of a part have rows.
 const STATIONS: u32 = 48;
 
-/// Merges the papers of that many parts, over and over: alternately they have a thousand rows, or ten.
+/// Merges the reports and the certificates of that many parts, over and over: alternately they have a
+/// thousand rows, or ten.
 pub(crate) fn merge_parts(
     alloc: Global,
     random: &mut Random,
@@ -48,7 +49,7 @@ pub(crate) fn merge_parts(
     Ok(())
 }
 
-/// The papers of that many parts, each with that many rows.
+/// The reports and the certificates of that many parts, each with that many rows.
 fn papers_of_parts(
     alloc: Global,
     random: &mut Random,
@@ -150,7 +151,7 @@ fn station_of(row: u32) -> u32
     4 * (row / 4 * 7 % 12) + row % 4
 }
 
-/// How many of that many rows are of each station.
+/// How many of that many rows belong to each station.
 fn counts_of(rows: u32) -> [u32; 48]
     requires { rows < 2000 }
 {

@@ -1,4 +1,4 @@
-//! Questions over whole archives: ranked, and the papers judged.
+//! Questions over whole archives: ranked, and the reports and the certificates checked.
 ghost use Rattle.rank_input.specs.Taken.{HasTakenSome};
 
 use crate::archive::give_archive;
@@ -55,7 +55,7 @@ pub(crate) fn rank_archives<R: Threads + Wait + AllocGlobal + Sync>(
     Ok(())
 }
 
-/// Ranks that many archives of that many stations, and judges the papers over what was read.
+/// Ranks that many archives of that many stations, and checks the report and the certificate of each.
 pub(crate) fn check_archives<R: Threads + Wait + AllocGlobal + Sync>(
     rt: &R,
     random: &mut Random,
@@ -93,7 +93,8 @@ fn take_archive(
     intake.finish()
 }
 
-/// Adds how many files are foreign and which is the first of them, and how many lines are of unlisted stations.
+/// Adds how many files are foreign and which is the first of them, and how many lines belong to unlisted
+/// stations.
 pub(crate) fn add_counts(digest: &mut Digest, taken: &TakenInput) {
     digest.add_number(taken.warnings.foreign.count);
     digest.add_number(taken.warnings.foreign.first.unwrap_or(u64::MAX));
@@ -107,7 +108,7 @@ pub(crate) fn new_intake(alloc: Global, query: &str, list: &[u8]) -> Intake
     Intake::new(alloc, query, list)
 }
 
-/// The papers of a query, ranked by one worker.
+/// The report and the certificate of a query, ranked by one worker.
 pub(crate) fn papers_of<R: Threads + Wait + Sync>(
     rt: &R,
     alloc: Global,

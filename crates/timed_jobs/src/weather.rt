@@ -106,7 +106,7 @@ impl Weather {
     }
 }
 
-/// What stands before the element on the lines of a station, a year and a month, from 0.
+/// What comes before the element on the lines of a station, a year and a month, from 0.
 pub(crate) fn front_of(id: &[u8; 11], year: u16, month: usize) -> [u8; FRONT]
     requires { month < 12 }
 {

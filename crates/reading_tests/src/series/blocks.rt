@@ -46,7 +46,7 @@ fn first_wrong_next(series: &Series, cases: &[(i32, Option<i32>)]) -> Option<i32
     None
 }
 
-/// The first row of each table that the first station's greatest temperatures don't meet, and their span.
+/// The first row of each table that the first station's highest temperatures don't meet, and their span.
 fn wrong_blocks(
     alloc: Global,
     files: &[&[u8]],

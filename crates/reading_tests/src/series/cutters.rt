@@ -1,4 +1,4 @@
-//! Cutters of lines for a reader that is given line by line, beside readers of whole files.
+//! Cutters of lines for a reader that is given line by line, compared with readers of whole files.
 
 ghost use Rattle.std.specs.Prelude.{IfOk};
 ghost use Rattle.ghcn_series.specs.Cut as cut;
@@ -96,7 +96,8 @@ fn warnings_by_lines(alloc: Global, keep: Keep, files: &[&[u8]]) -> Result<Warni
     Ok(found_by_lines(alloc, keep, files)?.warnings)
 }
 
-/// Whether both have the same fault, and else find the same foreign files and odd lines, whichever elements they keep.
+/// Whether both have the same error, or otherwise find the same foreign files and odd lines, whichever elements they
+/// keep.
 pub(super) fn are_alike(alloc: Global, files: &[&[u8]]) -> bool {
     let keeps = [
         Keep::everything(),

@@ -38,7 +38,7 @@ fn value(data: &Data, id: &StationId, element: Element) -> Option<i32> {
     data.series(id, element)?.value(july)
 }
 
-/// The values of the first station and each element, the second's greatest temperature, and how many
+/// The values of the first station and each element, the second's highest temperature, and how many
 /// lines were skipped.
 type Values = ([Option<i32>; 5], Option<i32>, u64);
 

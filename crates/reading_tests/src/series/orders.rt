@@ -23,7 +23,7 @@ fn digits_of(number: usize) -> [u8; 4] {
     digits
 }
 
-/// Where the line at a place begins: stations and elements change with each line, and months with every fourth.
+/// The head of the line at a place: stations and elements change with each line, and months with every fourth.
 fn head_at(place: usize) -> [u8; 21]
     requires { place < 192 }
 {

@@ -76,7 +76,7 @@ const REPEATED: DataFault = DataFault::DailyLine {
     why: DailyWhy::DuplicateMonth,
 };
 
-/// Whether a text that is cut gives the days of July and August.
+/// Whether a text that is cut holds the days of July and August.
 fn gives_cut(alloc: Global, front: &[u8], behind: &[u8]) -> Result<bool, DataFault> {
     let data = read_cut(alloc, front, behind)?;
     Ok(has_series(&data, &A, Element::Tmax, &SUMMER))
@@ -88,7 +88,7 @@ fn gives_by_bytes(alloc: Global, text: &[u8]) -> Result<bool, DataFault> {
     Ok(has_series(&data, &A, Element::Tmax, &SUMMER))
 }
 
-/// The first place at which a text is cut and then doesn't give this.
+/// The first place at which a text is cut and then isn't read as this.
 fn first_wrong_cut(alloc: Global, text: &[u8], expected: Result<bool, DataFault>) -> Option<usize> {
     for end in 0..=text.len() {
         if gives_cut(alloc, &text[..end], &text[end..]) != expected {
@@ -201,8 +201,7 @@ fn shown(alloc: Global, files: &[&[u8]]) -> Result<Shown, DataFault> {
     Ok((warnings, found.warnings, counts))
 }
 
-/// So many foreign files, of which this is the first, and so many odd lines, of which this is the first, by both, and
-/// these counts.
+/// The numbers of foreign files and of odd lines, each with the first one, by both readers, and these counts.
 fn told(
     foreign: (u64, Option<u64>),
     odd: (u64, Option<(u64, u64)>),
