@@ -3,11 +3,11 @@
  *   corpus S|M|L FOLDER
  *
  * FOLDER/ghcnd-stations.txt has the stations, sorted by ID; FOLDER/dly/ID.dly the lines of one
- * station each, in order of month and element. As in NOAA's archive a third of the lines are of
+ * station each, in order of month and element. As in NOAA's archive a third of the lines belong to
  * elements that are not ranked, some values are missing or flagged, months and years are missing,
- * a few files are of stations that the list lacks, and a sixth of the list has no file. The columns
- * are those of the readme of GHCN-Daily. Only whole numbers are used, so the bytes depend on the
- * size alone. */
+ * a few files belong to stations that the list lacks, and a sixth of the list has no file. The
+ * columns are those of the readme of GHCN-Daily. Only whole numbers are used, so the bytes depend on
+ * the size alone. */
 #include <errno.h>
 #include <stdint.h>
 #include <stdio.h>
@@ -152,7 +152,7 @@ static int by_id(const void *a, const void *b) {
     return strcmp(((const Station *)a)->id, ((const Station *)b)->id);
 }
 
-/* So many stations, sorted, with distinct IDs; fewer if an ID was drawn twice. */
+/* `count` stations, sorted, with distinct IDs; fewer if an ID was drawn twice. */
 static int make_stations(Chance *chance, Station *stations, int count) {
     for (int i = 0; i < count; i++) {
         stations[i] = make_station(chance);
@@ -176,7 +176,7 @@ static void write_station(FILE *list, const Station *station) {
 /* ---- weather ---- */
 
 typedef struct {
-    int value; /* MISSING where there is none */
+    int value; /* MISSING if there is none */
     char quality;
 } Reading;
 

@@ -3,9 +3,9 @@
  *   hostile FOLDER
  *
  * FOLDER/ordered.txt has IDs in their order, as NOAA's list has them. FOLDER/scattered.txt has IDs
- * in no order. FOLDER/colliding.txt has the same, but in its last 32nd part IDs that collide in a
+ * that aren't sorted. FOLDER/colliding.txt has the same, but in its last 32nd part IDs that collide in a
  * hash table of the toolchain's `indexmap` under its default hasher, whose seed is fixed, so that
- * whoever writes a list can look for them as this program does. In such a table each of them begins
+ * the writer of a list can look for them as this program does. In such a table each of them begins
  * its search at one place, and finds it taken by those before. */
 #include <stdint.h>
 #include <stdio.h>
@@ -14,7 +14,7 @@
 
 enum { LINES = 1 << 20, COLLIDING = LINES / 32, FIRST_BYTE = '0', LAST_BYTE = 'z' };
 
-/* A table of 2^20 entries has 2^17 groups, and the last bits of a hash say where a search begins. */
+/* A table of 2^20 entries has 2^17 groups, and the last bits of a hash say at which one a search begins. */
 static const uint32_t GROUP_BITS = (1 << 17) - 1;
 
 /* ---- the default hasher ---- */
@@ -61,7 +61,7 @@ static void write_scattered(FILE *list, int first, int end) {
     }
 }
 
-/* The IDs that begin with so many digits, and end in two bytes by which the search begins at place 0. */
+/* The IDs that begin with these digits, and end in two bytes by which the search begins at place 0. */
 static int write_colliding_after(FILE *list, const char *digits, int most) {
     uint64_t state = first_state();
     for (int i = 0; i < 9; i++) {

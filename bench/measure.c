@@ -1,5 +1,5 @@
 /* measure OUTPUT COMMAND WORD..: runs a command with its standard output in a file, and prints its
- * wall seconds, its processor seconds (user and system), its greatest memory in KiB and its status.
+ * wall seconds, its processor seconds (user and system), its peak memory in KiB and its status.
  *
  * It is a program of its own since the memory of a process counts from the program that it was
  * before: a command started from here begins with next to none. */

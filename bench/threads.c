@@ -1,5 +1,5 @@
 /* threads ROUNDS: what four threads of this machine gain over one, if they share nothing. Prints
- * two lines: what was computed, and the least milliseconds with one, two, three and four threads.
+ * two lines: what was computed, and the shortest time in milliseconds with one, two, three and four threads.
  *
  * chain   one operation after the other, each of which waits for the one before
  * lanes   many operations at a time: the wet days of blocks that stay in the cache of a processor

@@ -21,7 +21,7 @@ LITERAL = re.compile(r"""//[^\n]*|'(?:[^'\\]|\\.)'|"((?:[^"\\]|\\.)*)\"""", re.S
 ATTRIBUTE = re.compile(r'#\[error\((?:(transparent)|"((?:[^"\\]|\\.)*)"[^\n]*)\)\]'
                        r"\s*(?:(?://|#\[)[^\n]*\n\s*)*(?:pub )?(?:(struct) )?(\w+)")
 DISPLAY = re.compile(r"^impl(?:<[^{]*?>)? (?:\w+::)*Display for (\w+)[^{]*\{$(.*?)^\}$", re.S | re.M)
-# What is printed as it stands here, and what is shown in place of the command line parser's own texts.
+# What is printed as it is here, and what is shown in place of the command line parser's own texts.
 MESSAGE = re.compile(r'\beprint(?:ln)?!\(\w+;\s*"((?:[^"\\]|\\.)*)"|"(error: [^"\n]*)')
 ITEM = re.compile(r"^(?=#\[test\]|(?:pub(?:\(crate\))? )?"
                   r"(?:const|static|fn|struct|enum|impl|type|trait|use|mod)\b)", re.M)
@@ -225,7 +225,7 @@ def printers_of(by_type):
 
 
 def hold_by_examples(printers, messages):
-    """Notes the examples that hold texts. Returns what is wrong: lines of examples that are no text."""
+    """Notes the examples that hold texts. Returns what is wrong: lines of examples that aren't a text."""
     unknown = []
     for folder in sorted(it for it in (ROOT / "examples/cases").iterdir() if (it / "command").exists()):
         roots = {it for one in commands((folder / "command").read_text()) for it in PRINTED[one]}

@@ -13,10 +13,10 @@ from contextlib import contextmanager, suppress
 from pathlib import Path
 
 PAGE = Path(__file__).resolve().parent.parent / "docs/PARTS.md"
-# Where programs may be that the PATH of a user lacks.
+# The folders of programs that the PATH of a user may lack.
 SBIN = "/usr/local/sbin", "/usr/sbin", "/sbin"
 SIGNALS = signal.SIGHUP, signal.SIGINT, signal.SIGTERM
-# The call of the system by which what descendants leave behind becomes a child of this process.
+# The call of the system by which what descendants leave becomes a child of this process.
 SET_CHILD_SUBREAPER = 36
 
 

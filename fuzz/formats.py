@@ -2,8 +2,8 @@
 docs/DEFINITIONS.md alone. Plain and slow: all candidates are listed and put in order. The daily files are named
 `1.dly`, `2.dly` and so on.
 
-An answer is what the program leaves: (status, standard output, standard error), for the command
-line words, the station list, the papers and the daily files as bytes.
+An answer is what the program leaves: (status, standard output, standard error), for the arguments
+and, as bytes, the station list, the report, the certificate and the daily files.
 """
 import re
 from collections import Counter, namedtuple

@@ -1,5 +1,5 @@
 """The report and the certificate of a run, both changed at random, the verdict of `extremes check` on them, and merged
-ones, by docs/FORMATS.md and docs/CERTIFICATE.md alone. A paper is a report or a certificate."""
+ones, by docs/FORMATS.md and docs/CERTIFICATE.md alone."""
 import random
 import re
 
@@ -15,7 +15,7 @@ KTH = re.compile(rb"kth (none|-?(?:0|[1-9][0-9]*))\n")
 
 
 class Unlike(Exception):
-    """A line of a paper that doesn't match the format there."""
+    """A line of a report or a certificate that doesn't match the format there."""
 
 
 def is_number(text):
@@ -24,7 +24,7 @@ def is_number(text):
 
 
 def head(pieces, titles):
-    """The query of a paper, whose first lines are its title and its query."""
+    """The query of a report or a certificate, whose first lines are its title and its query."""
     if not pieces or pieces[0] not in titles:
         raise Unlike(1)
     line = pieces[1] if len(pieces) > 1 else b""
@@ -38,7 +38,7 @@ def head(pieces, titles):
 
 
 def whole(pieces, at, end):
-    """Holds if the paper ends by the line `end` at index `at`."""
+    """Holds if the report or the certificate ends by the line `end` at index `at`."""
     if pieces[at:at + 1] != [end]:
         raise Unlike(at + 1)
     if len(pieces) > at + 1:
@@ -161,7 +161,7 @@ def check(query_text, stations, daily, report, certificate):
 
 
 def papers(query_text, stations, daily, version=2):
-    """A right report, and a certificate of a version with the least bounds."""
+    """A right report, and a certificate of a version with the smallest bounds."""
     query, found, _ = formats.read_all(query_text, stations, daily)
     everyone = sorted((it for its in found.values() for it in its), key=formats.in_order)
     kth = everyone[query.k - 1].score if len(everyone) >= query.k else None
@@ -177,7 +177,7 @@ def papers(query_text, stations, daily, version=2):
 
 
 def head_fault(query, asked, rows, other, kth, series):
-    """What is wrong with the papers of a part that can be seen without data, None if nothing is."""
+    """What is wrong with the report and the certificate of a part that can be seen without data, None if nothing is."""
     if not asked.text == other.text == query.text:
         return "OtherQuery"
     for i in range(1, len(rows)):
@@ -199,7 +199,7 @@ def head_fault(query, asked, rows, other, kth, series):
 
 
 def head_refusal(query, asked, rows, other, kth, series):
-    """The same as the verdict of a part reports it: the paper, its line and why."""
+    """The same as the verdict of a part reports it: `report` or `certificate`, its line and why."""
     fault = head_fault(query, asked, rows, other, kth, series)
     if fault is None:
         return None
@@ -224,8 +224,8 @@ def line_fault(its, rows, worst, kind, limit):
 
 
 def part_verdict(query, found, report, certificate):
-    """The verdict of files with these series on the papers of a whole archive: the numbers of series and of lines, or
-    the paper that is refused, the line and why."""
+    """The verdict of files with these series on the report and the certificate of a whole archive: the numbers of
+    series and of lines, or which of the two is refused, the line and why."""
     forms = []
     for name, read, text in (("report", read_report, report), ("certificate", read_certificate, certificate)):
         try:
@@ -248,7 +248,7 @@ def part_verdict(query, found, report, certificate):
 
 
 def read_part(query, number, report, certificate):
-    """The rows and the lines of the papers of a part."""
+    """The rows of the report of a part, and the lines of its certificate."""
     forms = []
     for paper, read, text in (("report", read_report, report), ("certificate", read_certificate, certificate)):
         try:
@@ -299,7 +299,7 @@ def changed_byte(rng, line):
 
 
 def changed(rng, paper):
-    """A paper with one change: of a line, a number, a word or a byte."""
+    """A report or a certificate with one change: of a line, a number, a word or a byte."""
     lines = paper.splitlines(keepends=True) or [b"\n"]
     at = rng.randrange(len(lines)) if rng.random() < 0.3 else rng.randrange(2, max(3, len(lines) - 1)) % len(lines)
     kind = rng.randrange(9)
@@ -328,7 +328,7 @@ def exchanged(line):
 
 
 def recounted(paper):
-    """A paper whose ranks and whose end line are those of its rows, or of its lines of series."""
+    """A report or a certificate whose ranks and whose end line are those of its rows, or of its lines of series."""
     head, lines = paper.splitlines(keepends=True)[:2], paper.splitlines(keepends=True)[2:]
     if not lines or not lines[-1].startswith(b"end "):
         return paper
@@ -341,7 +341,7 @@ def recounted(paper):
 
 
 def change(number, report, certificate):
-    """The papers, most of them with some changes. The number alone decides the changes."""
+    """The report and the certificate, most of them with some changes. The number alone decides the changes."""
     rng = random.Random(f"papers {number}")
     made = [report, certificate]
     for _ in range(rng.choice((0, 1, 1, 1, 2))):

@@ -27,14 +27,14 @@ GUESSES = (0, 1, 55, -100, 300, 2**31, -2**31)
 # A run starts threads from that many bytes of daily files on.
 WORTH_THREADS = 1 << 24
 
-# The least and greatest value of a month, and whether days are missing or flagged.
+# The smallest and the largest value of a month, and whether days are missing or flagged.
 SHAPES = ((-300, 400, True), (0, 30, True), (0, 30, False), (0, 12, False), (-5, 5, True), (0, 0, False),
           (9, 10, False), (-9999, 99999, True))
 OTHERS = b"TAVG", b"WT01", b"    ", b"W\x80\xff ", b"1AVG", b"TAV:", b"T[01"
 
 
 def padding():
-    """Blank lines, so many that a run which has them too starts its threads."""
+    """Enough blank lines that a run which has them too starts its threads."""
     line = b" " * 269 + b"\n"
     return line * (WORTH_THREADS // len(line) + 1)
 

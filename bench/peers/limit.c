@@ -1,4 +1,4 @@
-/* limit FILE..: the least that any program does for the job on one thread. It reads each file into
+/* limit FILE..: the least work that any program does for the job on one thread. It reads each file into
  * one buffer, finds the ends of the lines, and adds up all bytes, so that each was really read. */
 #include <fcntl.h>
 #include <stdint.h>

@@ -26,7 +26,7 @@ fn line_end(text: &[u8]) -> usize {
 }
 
 /// Reads 31 groups of five columns and three flags without a branch for each: one word holds a group.
-/// False where a value is no number.
+/// False if a value isn't a number.
 #[inline(always)]
 fn read_groups(groups: &[u8; 248], no_negative: bool, days: &mut [i32; 31]) -> bool {
     let mut malformed = 0;
@@ -34,13 +34,13 @@ fn read_groups(groups: &[u8; 248], no_negative: bool, days: &mut [i32; 31]) -> b
     for (group, day) in groups.as_chunks::<8>().0.iter().zip(days) {
         let word = u64::from_le_bytes(*group);
         let columns = (word ^ 0x30_3030_3030) & 0xFF_FFFF_FFFF;
-        // 0xFF in each of the five bytes that is no digit.
+        // 0xFF in each of the five bytes that isn't a digit.
         let above_nine = (((columns & 0x7F_7F7F_7F7F) + 0x76_7676_7676) | columns) & 0x80_8080_8080;
         let other = (above_nine >> 7) * 0xFF;
         let digits = columns & !other;
         let not_blank = (columns ^ 0x10_1010_1010) & other;
         let negative = not_blank != 0;
-        // Bytes that are no digits come first, not in all columns, and are blank but for a minus in the last of them.
+        // Bytes that aren't digits come first, not in all columns, and are blank but for a minus in the last of them.
         let minus = 0x0D_0D0D_0D0D & other & !(other >> 8);
         let sign_form = (not_blank ^ minus) & (negative as u64).wrapping_neg();
         let form = (other & (other + 1)) | (other >> 32) | sign_form;
@@ -112,7 +112,7 @@ struct Series {
 }
 
 impl Series {
-    /// Adds a month, or answers false where it has that month.
+    /// Adds a month, or returns false if it has that month.
     fn add(&mut self, year: i32, month: i32, values: &[i32; 31]) -> bool {
         let number = year * 12 + month - 1;
         let length = days_in_month(year, month);

@@ -1,7 +1,7 @@
 //! The fastest form that was found for each step, in plain Rust: packed columns over blocks of 32
 //! days, made while the lines are read; fields by tables; bounds from summaries of blocks; series by
-//! falling bound, passed over below the floor of the best. It makes the tests of a line that the
-//! program makes, and reports the first fault by file and line whatever the order of months and files.
+//! falling bound, skipped below the floor of the best. It makes the tests of a line that the
+//! program makes, and reports the first error by file and line whatever the order of months and files.
 //!
 //!   rustc --edition 2024 -C opt-level=3 -C panic=abort -o packed packed.rs
 //!   packed --stations FILE --query QUERY [--hold | --pieces] [--only] [--times] FILE..
@@ -36,7 +36,7 @@ enum Form {
 }
 
 /// Below this bit an entry has a digit times its column's weight; above it, two bits for each column
-/// tell the kind of its byte: a digit, a blank, a minus, or another. Entries of five columns are added up.
+/// say what kind its byte is: a digit, a blank, a minus, or another. Entries of five columns are added up.
 const KINDS: u32 = 20;
 
 struct FieldTable {
@@ -71,7 +71,7 @@ impl FieldTable {
         FieldTable { columns, forms }
     }
 
-    /// The values of 31 groups, `NONE` where there is none or a flag. False where a field is no number.
+    /// The values of 31 groups, `NONE` if there is none or a flag. False if a field isn't a number.
     #[inline(always)]
     fn read(&self, groups: &[u8; 248], days: &mut Block) -> bool {
         let [first, second, third, fourth, fifth] = &self.columns;
@@ -115,8 +115,8 @@ struct Series {
 }
 
 impl Series {
-    /// Adds days of a block, which stand in the last part with that number or make a new one. False
-    /// where the number is less than the one before.
+    /// Adds days of a block, which go into the last part with that number or make a new one. False if the number is
+    /// less than the one before.
     #[inline(always)]
     fn add_part(&mut self, number: i32, presence: u32, values: &Block) -> bool {
         if presence == 0 {
@@ -176,7 +176,7 @@ struct Months {
 }
 
 impl Months {
-    /// Adds a month, or answers false where it was added before.
+    /// Adds a month, or returns false if it was added before.
     #[inline(always)]
     fn add(&mut self, month: u32) -> bool {
         if self.all.is_none() && self.rising.last().is_none_or(|last| *last < month) {
@@ -238,7 +238,7 @@ impl Reader<'_> {
         self.line = 0;
     }
 
-    /// Reads the whole lines of a text, and what follows them where the file ends there. Answers how
+    /// Reads the whole lines of a text, and what follows them if the file ends there. Returns how
     /// many bytes that were.
     fn read(&mut self, text: &[u8], ends: bool) -> usize {
         let mut rest = text;
@@ -380,7 +380,7 @@ fn line_end(text: &[u8]) -> Option<usize> {
     }
 }
 
-/// Reads a file by pieces. What a piece has behind its last whole line goes before the next one.
+/// Reads a file by pieces. What a piece has after its last whole line goes before the next one.
 fn read_pieces(path: &str, buffer: &mut Vec<u8>, reader: &mut Reader) -> std::io::Result<()> {
     let mut file = std::fs::File::open(path)?;
     let mut held = 0;
@@ -449,7 +449,7 @@ fn scan_days(series: &Series, id: Id, pool: &mut Pool, score: impl Fn(i32) -> i6
 }
 
 /// Carries the number of days since the last absent one, and the sum of the last `length` of them. The
-/// value that leaves stands `length` places before, since blocks of one run are neighbours.
+/// value that leaves is `length` places before, since blocks of one run are neighbours.
 fn scan_windows(series: &Series, id: Id, length: usize, pool: &mut Pool) {
     let (mut run, mut sum, mut next) = (0, 0, 0);
     for (index, (number, presence)) in series.numbers.iter().zip(&series.presence).enumerate() {
@@ -567,7 +567,7 @@ fn of_temperature(presence: u32, values: &Block) -> Summary {
     Summary { greatest, least, total: 0, dry: 0 }
 }
 
-/// The longest run of bits through all words, where neighbours carry it on.
+/// The longest run of bits through all words, which goes on from one word into the next.
 #[derive(Default)]
 struct LongestRun {
     open: i64,

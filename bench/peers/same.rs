@@ -7,7 +7,7 @@
 //!   rustc --edition 2024 -C opt-level=3 -C panic=abort -o same same.rs
 //!   same --stations FILE --query QUERY [--times] FILE..
 //!
-//! With --times it tells the seconds of each step on standard error.
+//! With --times it prints the seconds of each step on standard error.
 
 mod shared;
 
@@ -96,7 +96,7 @@ struct Gathering {
 }
 
 impl Gathering {
-    /// Adds a month, or answers false where one of its time was added before.
+    /// Adds a month, or returns false if one of its time was added before.
     fn add(&mut self, month: &Month) -> bool {
         if !self.seen.insert((month.year, month.month)) {
             return false;

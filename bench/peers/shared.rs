@@ -274,7 +274,7 @@ pub fn int_field(field: &[u8]) -> Field {
     Field::Number(if negative { -(value as i32) } else { value as i32 })
 }
 
-/// The whole number of a field, where it has one from 1 to a limit.
+/// The whole number of a field, if it has one from 1 to a limit.
 pub fn number_up_to(limit: i32, field: &[u8]) -> Option<i32> {
     match int_field(field) {
         Field::Number(number) if 1 <= number && number <= limit => Some(number),

@@ -1,6 +1,6 @@
 # The texts of a run over 25000 stations, and the bounds of its certificate; text says which one is
 # wanted. Station i has i * 37 % 25013 tenths of a millimetre on 2020-07-01. 25013 is a prime number,
-# so no two stations have the same value. Two lines of other elements stand behind each: a run that
+# so no two stations have the same value. Two lines of other elements come after each: a run that
 # reads 16 MiB and more starts its threads.
 function id(i) {
     return sprintf("ZZA%08d", i)

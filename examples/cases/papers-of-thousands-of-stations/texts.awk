@@ -1,14 +1,14 @@
-# The texts of a run over 6000 stations, and the papers that it has to leave; text says which one is
-# wanted. Station i has i * 37 % 6007 tenths of a degree on 2020-07-01, and 500 less on the day after.
-# 6007 is a prime number, so no two stations have the same values. Half of the 1000 rows are ties of
-# two stations, and 250 stations have two rows.
+# The texts of a run over 6000 stations, and the report and the certificate that it has to leave; text
+# says which one is wanted. Station i has i * 37 % 6007 tenths of a degree on 2020-07-01, and 500 less
+# on the day after. 6007 is a prime number, so no two stations have the same values. Half of the 1000
+# rows are ties of two stations, and 250 stations have two rows.
 function id(i) {
     return sprintf("ZZA%08d", i)
 }
 function greatest(i) {
     return i * 37 % 6007
 }
-# Adds the row of a station, where there is one and fewer rows than asked for.
+# Adds the row of a station, if there is one and fewer rows than asked for.
 function row(i, day, tenths) {
     if (i == 0 || rows == 1000)
         return
@@ -47,7 +47,7 @@ BEGIN {
     if (text == "report")
         print "end 1000"
     if (text == "certificate") {
-        # One worker draws the stations by falling bound, so it passes over exactly those whose bound is
+        # One worker draws the stations by falling bound, so it skips exactly those whose bound is
         # below the last row.
         print "kth " kth
         for (i = 1; i <= 6000; i++)
