@@ -32,7 +32,7 @@ pub const MERGED_CERTIFICATE_HELP: &str =
 
 /// The help of `--part`.
 pub const PART_HELP: &str =
-    "The files are those of some stations, the report and the certificate of a whole archive";
+    "The files are those of some stations; the report and the certificate are those of a whole archive";
 
 /// The help of the daily files.
 pub const FILES_HELP: &str = "Daily files, .dly, uncompressed";
@@ -65,8 +65,9 @@ For more information, try '--help'.
 ";
 
 /// The help after the subcommands.
-pub const HELP: &str =
-    "'extremes rank --help' describes queries, elements, units and exit statuses, and lists
+pub const HELP: &str = "Without arguments, extremes prints the report of a built-in sample.
+
+'extremes rank --help' describes queries, elements, units and exit statuses, and lists
 what each refusal means; 'extremes merge --help' describes how to rank an archive in parts;
 'extremes check --help' lists the verdicts; 'extremes describe --help' lists what is counted
 in daily files.";
@@ -76,7 +77,7 @@ pub const RANK_HELP: &str = "Queries:
   top K SCORE [REGION] [SEASON] [PERIOD]    K is from 1 to 1000
 
   SCORE    highest ELEM            greatest values of PRCP, SNOW, SNWD, TMAX or TMIN
-           lowest TEMP             least values of TMAX or TMIN
+           lowest TEMP             lowest values of TMAX or TMIN
            sum N FALL              greatest sums of N days in a row, 1 to 366, of PRCP or SNOW
            dry, wet                longest spells of days below 1 mm, or of at least 1 mm
            hot T                   longest spells of days whose TMAX is at least T, -100 to 100 degrees
@@ -109,7 +110,13 @@ Exit statuses:
 All files are read to the end before an error is reported; an unreadable one is reported first. OUT
 is a file, even if its name is -. 'file not written -' means that standard output can't be written.
 
-Refusals (A counts the query's words, F the daily files, L the lines of a file, all from 1):
+Lines on standard error that end no run, in this order:
+  foreign N PATH        N daily files have lines, but none of the five elements; PATH is the first
+  odd N PATH:LINE       N lines aren't laid out as daily lines, and daily lines may be lost with them;
+                        PATH:LINE is the first
+  unlisted N            N lines of stations that aren't in the station list were left out
+
+Refusals (A is the number of a word of the query, F that of a daily file, L that of a line, all from 1):
   refused 1 StationLine line L WHY        line L of the station list fails the test WHY
   refused 2 TooManyStations               the station list has more than 1048576 stations
   refused 3 Memory                        out of memory: the system gave no more
@@ -133,14 +140,16 @@ BadValue DAY, DuplicateMonth.";
 pub const MERGE_HELP: &str =
     "Merges the reports and certificates of parts into those of the whole, and reads no data. An archive is
 cut into parts by stations: no station may be in two parts. Each part is ranked by a run of its own,
-with a certificate. All parts need the same station list, the same query and the same program. The
-merged report is the one of a single run over all files, byte for byte, and the merged certificate is
-right for all files, if the report and the certificate of each part are right for its files and all
-files together have no error. If no parts are named, the result is that of no data.
+with a certificate. All parts need the same station list and the same query. The merged report is the
+one of a single run over all files, byte for byte, and the merged certificate is right for all files,
+if the report and the certificate of each part are right for its files and all files together have no
+error. If no parts are named, the result is that of no data.
+
 A report and a certificate don't have the number that 'rank' prints as 'unlisted'. The numbers of all
 parts add up to that of the whole. 'merge' can't see whether the report and the certificate of a part
 are right for its files: 'extremes check' over all files checks the merged ones. These can be merged
 again.
+
 Example:
   extremes rank --stations ghcnd-stations.txt --query 'top 10 highest TMAX' \\
       --certificate 1.certificate GM*.dly > 1.report
@@ -148,8 +157,9 @@ Example:
       --certificate 2.certificate US*.dly > 2.report
   extremes merge --query 'top 10 highest TMAX' --certificate all.certificate \\
       1.report 1.certificate 2.report 2.certificate > all.report
-Refusals, of which the first is reported (P counts the parts, L the lines of a report or a certificate,
-all from 1):
+
+Refusals, of which the first is reported (P is the number of a part, L that of a line of a report or a
+certificate, all from 1):
   refused part P report line L BadReport            the line doesn't match the format there
   refused part P certificate line L BadCertificate  the line doesn't match the format there
   refused part P OtherQuery                         the part's report or certificate has another query
@@ -161,7 +171,9 @@ all from 1):
                                                     report's rows of the station
   refused twice ID                                  the station has lines in two certificates
   refused 3 Memory                                  out of memory: the system gave no more
+
 An error of the query is reported before any of these, as by 'rank'.
+
 Exit statuses:
   0        done: the report is on standard output
   1        refused: one line on standard error says why
