@@ -16,6 +16,7 @@ use Rattle.ghcn_series.specs.declared.counts.LineCounts.{LineCounts}
 use Rattle.ghcn_series.specs.declared.fault.DailyWhy.TheVariants.{DuplicateMonth}
 use Rattle.ghcn_series.specs.declared.fault.DataFault.{DataFault}
 use Rattle.ghcn_series.specs.declared.fault.DataFault.TheVariants.{DailyLine}
+use Rattle.ghcn_series.specs.Alike.{AreAlike}
 use Rattle.ghcn_series.specs.Counted.{HaveCounted}
 use Rattle.ghcn_series.specs.Cut as cut
 use Rattle.ghcn_series.specs.DailyFaults.{FileLine, daily_fault, daily_lines, is_memory, IsFirstRefusal}
@@ -68,11 +69,11 @@ pub record CountsAt (old new : Describer) (place : ℕ) (m : Month) : Type 0 whe
   pub elements : new.elements ≡ slice_set old.elements (element_index m.element) after
   pub counted : CountsMonth before after m (has_day m && not had)
 
--- a describer adds the month of a line, unless its station is listed and has that month
+-- a describer adds the month of a line, or of one that is like it, unless its station is listed and has that month
 pub record AddsMonth (old new : Describer) (line : List ℕ) (added : Bool) : Type 0 where
-  pub read : (stations : List Station) (keep : Keep) (before : List FileLine) (l : FileLine) → l.bytes ≡ line
+  pub read : (stations : List Station) (keep : Keep) (before : List FileLine) (l : FileLine) → AreAlike l.bytes line
       → HasDescribed old stations keep before → OnTrue added (HasDescribed new stations keep (before ++ l ∷ []))
-  pub refused : (stations : List Station) (keep : Keep) (before : List FileLine) (l : FileLine) → l.bytes ≡ line
+  pub refused : (stations : List Station) (keep : Keep) (before : List FileLine) (l : FileLine) → AreAlike l.bytes line
       → HasDescribed old stations keep before → added ≡ false
       → IsLineRefusal stations (before ++ l ∷ []) (DailyLine l.file l.line DuplicateMonth)
 

@@ -12,12 +12,14 @@ use Rattle.ghcn_files.proofs.LineLaws.{lines-append, lines-one, lines-unended}
 use Rattle.ghcn_series.specs.declared.cutter.Cutter.{Cutter}
 use Rattle.ghcn_series.specs.declared.fault.DataFault.{DataFault}
 use Rattle.ghcn_series.specs.declared.fault.DataFault.TheVariants.{DailyLine, TooManyFiles, Memory}
+use Rattle.ghcn_series.specs.Alike.{BeginAlike}
 use Rattle.ghcn_series.specs.Counted.{HaveCounted}
 use Rattle.ghcn_series.specs.Cut.{IsCutFile, lines_to, HasReadFed, HasLineFault, HasFault, AddsLine, RefusesLine}
 use Rattle.ghcn_series.specs.DailyFaults.{FileLine, not_blank, one_line, file_lines, daily_lines}
 use Rattle.ghcn_series.specs.Fed.{Files, Fed, IsOfMemory, more, with_end, with_files}
 use Rattle.ghcn_series.specs.Gathered.{IsLineRefusal}
 use Rattle.ghcn_series.specs.LinesRead.{Reading}
+use Rattle.ghcn_series.proofs.AlikeBeginnings.{begin-same, begin-alike, begin-more, begin-some, begin-none}
 use Rattle.ghcn_series.proofs.CountedLines.{counted-line}
 use Rattle.ghcn_series.proofs.ReadLines.{refused_among}
 use Rattle.ghcn_series.proofs.FedLines.{file_lines-append, file_lines-one, daily_lines-one}
@@ -112,42 +114,44 @@ module _ {L : Type 0} {has_read : Reading L} where
 
   -- the cutter's own number of a line is that in the files
   numbered : (c : Cutter L) (fed : Fed) (tail line : List ℕ) (read : HasReadFed has_read c fed)
-      → c.ended ≡ length fed.files.ended → lines tail ≡ strip_carriage_return (c.rest.items ++ line) ∷ []
-      → lines_to fed.files read.whole ++ one_line (c.ended + 1) (c.line + 1) (c.rest.items ++ line)
+      → c.ended ≡ length fed.files.ended → lines tail ≡ strip_carriage_return (read.rest ++ line) ∷ []
+      → lines_to fed.files read.whole ++ one_line (c.ended + 1) (c.line + 1) (read.rest ++ line)
       ≡ lines_to fed.files (read.whole ++ tail)
   numbered c fed tail line is at one =
       let file = length fed.files.ended + 1 in
-      let this = strip_carriage_return (c.rest.items ++ line) in
+      let this = strip_carriage_return (is.rest ++ line) in
       rw (at, is.numbered, file_lines-one file is.whole tail this is.cut.ends one)
       (append_assoc (daily_lines fed.files.ended) (file_lines (file, is.whole)) _)
 
   -- and its counts are those of the files
   counted : (old new : Cutter L) (fed : Fed) (tail line : List ℕ) (read : HasReadFed has_read old fed)
-      → old.ended ≡ length fed.files.ended → lines tail ≡ strip_carriage_return (old.rest.items ++ line) ∷ []
+      → old.ended ≡ length fed.files.ended → lines tail ≡ strip_carriage_return (read.rest ++ line) ∷ []
       → AddsLine has_read old new line → HaveCounted new.counts fed.files.ended (read.whole ++ tail)
   counted old new fed tail line is at one adds =
       counted-line old.counts new.counts fed.files.ended is.whole (is.whole ++ tail)
-      (strip_carriage_return (old.rest.items ++ line)) (record { file = old.ended; line = old.line + 1 })
+      (strip_carriage_return (is.rest ++ line)) (record { file = old.ended; line = old.line + 1 })
       (lines-append is.whole tail is.cut.ends ∙ ap (λ (ls : List (List ℕ)). lines is.whole ++ ls) one)
-      (numbered old fed tail line is at one) adds.counted is.counted
+      (numbered old fed tail line is at one) (adds.counted is.rest is.kept) is.counted
 
   -- a line and its line feed are read
   pub line-read : (old new : Cutter L) (line : List ℕ) (fed : Fed) → HasNoLineFeed line
       → old.ended ≡ length fed.files.ended → AddsLine has_read old new line → HasReadFed has_read old fed
       → HasReadFed has_read new (with_files fed (more fed.files (line ++ 10 ∷ [])))
   line-read old new line fed none at adds is =
-      let tail = (old.rest.items ++ line) ++ 10 ∷ [] in
-      let one : lines tail ≡ strip_carriage_return (old.rest.items ++ line) ∷ [] =
-      lines-one (old.rest.items ++ line) (no_line_feed-append old.rest.items line is.unended none) in
+      let tail = (is.rest ++ line) ++ 10 ∷ [] in
+      let one : lines tail ≡ strip_carriage_return (is.rest ++ line) ∷ [] =
+      lines-one (is.rest ++ line) (no_line_feed-append is.rest line is.unended none) in
       record {
         whole = is.whole ++ tail;
-        cut = rw adds.rest (cut_behind fed.files is.whole old.rest.items line [] is.cut);
-        unended = rw adds.rest tt;
+        rest = [];
+        cut = cut_behind fed.files is.whole is.rest line [] is.cut;
+        unended = tt;
+        kept = rw adds.rest (begin-same []);
         numbered = rw (lines-append is.whole tail is.cut.ends, one)
             (omega (arith, adds.numbered, is.numbered, length-append {A = List ℕ}));
         counted = counted old new fed tail line is at one adds;
         read = subst (has_read new.reader fed.stations fed.keep) (numbered old fed tail line is at one)
-            (adds.read.holds fed.stations fed.keep (lines_to fed.files is.whole) is.read);
+            ((adds.read is.rest is.kept).holds fed.stations fed.keep (lines_to fed.files is.whole) is.read);
       }
 
   -- the error of a line is found with its line feed
@@ -155,15 +159,15 @@ module _ {L : Type 0} {has_read : Reading L} where
       → old.ended ≡ length fed.files.ended → RefusesLine has_read old line f → HasReadFed has_read old fed
       → HasLineFault (with_files fed (more fed.files (line ++ 10 ∷ later))) f
   line-found old line later fed f none at refuses is =
-      let tail = (old.rest.items ++ line) ++ 10 ∷ [] in
-      let one : lines tail ≡ strip_carriage_return (old.rest.items ++ line) ∷ [] =
-      lines-one (old.rest.items ++ line) (no_line_feed-append old.rest.items line is.unended none) in
+      let tail = (is.rest ++ line) ++ 10 ∷ [] in
+      let one : lines tail ≡ strip_carriage_return (is.rest ++ line) ∷ [] =
+      lines-one (is.rest ++ line) (no_line_feed-append is.rest line is.unended none) in
       record {
         whole = is.whole ++ tail;
         rest = later;
-        cut = cut_behind fed.files is.whole old.rest.items line later is.cut;
+        cut = cut_behind fed.files is.whole is.rest line later is.cut;
         first = rw (← numbered old fed tail line is at one)
-            (refuses.first fed.stations fed.keep (lines_to fed.files is.whole) is.read);
+            ((refuses.found is.rest is.kept).first fed.stations fed.keep (lines_to fed.files is.whole) is.read);
       }
 
   -- ---- a piece
@@ -176,8 +180,10 @@ module _ {L : Type 0} {has_read : Reading L} where
     parts = refl;
     read = record {
       whole = is.whole;
+      rest = is.rest;
       cut = record { parts = append-nil fed.files.current ∙ is.cut.parts; ends = is.cut.ends };
       unended = is.unended;
+      kept = is.kept;
       numbered = is.numbered;
       counted = is.counted;
       read = is.read;
@@ -210,17 +216,20 @@ module _ {L : Type 0} {has_read : Reading L} where
   -- the last bytes of a piece, which no line feed ends
   pub piece-part : (old new : Cutter L) (left bytes : List ℕ) (fed : Fed) → HasNoLineFeed left
       → new.reader ≡ old.reader → new.counts ≡ old.counts → new.line ≡ old.line
-      → new.rest.items ≡ old.rest.items ++ left → IsWithinPiece has_read old fed left bytes
+      → BeginAlike (old.rest.items ++ left) new.rest.items → IsWithinPiece has_read old fed left bytes
       → HasReadFed has_read new (with_files fed (more fed.files bytes))
   piece-part old new left bytes fed none reader counts line kept within =
       let is = within.read in
       record {
         whole = is.whole;
+        rest = is.rest ++ left;
         cut = record {
-          parts = rw (kept, ← within.parts, ← append_assoc, is.cut.parts) (simp append_assoc);
+          parts = rw (← within.parts, ← append_assoc, is.cut.parts) (simp append_assoc);
           ends = is.cut.ends;
         };
-        unended = rw kept (no_line_feed-append old.rest.items left is.unended none);
+        unended = no_line_feed-append is.rest left is.unended none;
+        kept = begin-alike (is.rest ++ left) (old.rest.items ++ left) new.rest.items
+            (begin-more is.rest old.rest.items left is.kept) kept;
         numbered = line ∙ is.numbered;
         counted = rw counts is.counted;
         read = rw reader is.read;
@@ -235,8 +244,10 @@ module _ {L : Type 0} {has_read : Reading L} where
       → has_read new.reader fed.stations fed.keep ls → HasReadFed has_read new (with_files fed (with_end fed.files))
   file-read old new fed ls line empty all counts read = record {
     whole = [];
-    cut = record { parts = sym empty; ends = inl refl };
-    unended = rw empty tt;
+    rest = [];
+    cut = record { parts = refl; ends = inl refl };
+    unended = tt;
+    kept = rw empty (begin-same []);
     numbered = line;
     counted = counts;
     read = rw (append-nil (daily_lines (fed.files.ended ++ fed.files.current ∷ [])), ← all) read;
@@ -251,19 +262,20 @@ module _ {L : Type 0} {has_read : Reading L} where
       → HasReadFed has_read new (with_files fed (with_end fed.files))
   end-read old new fed at none reader counts line empty is =
       let all : fed.files.current ≡ is.whole =
-      is.cut.parts ∙ ap (λ (xs : List ℕ). is.whole ++ xs) none ∙ append-nil is.whole in
+      is.cut.parts ∙ ap (λ (xs : List ℕ). is.whole ++ xs) (begin-none is.rest old.rest.items is.kept none)
+      ∙ append-nil is.whole in
       file-read old new fed (lines_to fed.files is.whole) line empty
       (rw (daily_lines-one fed.files.ended fed.files.current, all) refl)
       (rw all (counts fed.files.ended is.whole at is.numbered is.counted)) (rw reader is.read)
 
   -- the lines of the files, with the last line of the current one
   with_last : (c : Cutter L) (fed : Fed) (is : HasReadFed has_read c fed) → c.ended ≡ length fed.files.ended
-      → 0 < length c.rest.items
-      → lines_to fed.files is.whole ++ one_line (c.ended + 1) (c.line + 1) (c.rest.items ++ [])
+      → 0 < length is.rest
+      → lines_to fed.files is.whole ++ one_line (c.ended + 1) (c.line + 1) (is.rest ++ [])
       ≡ daily_lines (fed.files.ended ++ fed.files.current ∷ [])
   with_last c fed is at some =
       rw (daily_lines-one fed.files.ended fed.files.current, is.cut.parts)
-      (numbered c fed c.rest.items [] is at (lines-rest c.rest.items some is.unended))
+      (numbered c fed is.rest [] is at (lines-rest is.rest some is.unended))
 
   -- the current file is ended in its last line
   pub last-read : (old mid new : Cutter L) (fed : Fed) → old.ended ≡ length fed.files.ended
@@ -273,23 +285,24 @@ module _ {L : Type 0} {has_read : Reading L} where
       → new.line ≡ 0 → new.rest.items ≡ [] → HasReadFed has_read old fed
       → HasReadFed has_read new (with_files fed (with_end fed.files))
   last-read old mid new fed at some adds same reader counts line empty is =
-      let one = lines-rest old.rest.items some is.unended in
-      let last = counted old mid fed old.rest.items [] is at one adds in
-      let number : mid.line ≡ length (lines (is.whole ++ old.rest.items)) =
-      rw (lines-append is.whole old.rest.items is.cut.ends, one)
+      let there = begin-some is.rest old.rest.items is.kept some in
+      let one = lines-rest is.rest there is.unended in
+      let last = counted old mid fed is.rest [] is at one adds in
+      let number : mid.line ≡ length (lines (is.whole ++ is.rest)) =
+      rw (lines-append is.whole is.rest is.cut.ends, one)
       (omega (arith, adds.numbered, is.numbered, length-append {A = List ℕ})) in
       let all : HaveCounted new.counts (fed.files.ended ++ fed.files.current ∷ []) [] =
-      rw is.cut.parts (counts fed.files.ended (is.whole ++ old.rest.items) (same ∙ at) number last) in
-      let read = adds.read.holds fed.stations fed.keep (lines_to fed.files is.whole) is.read in
-      file-read old new fed _ line empty (with_last old fed is at some) all (rw reader read)
+      rw is.cut.parts (counts fed.files.ended (is.whole ++ is.rest) (same ∙ at) number last) in
+      let read = (adds.read is.rest is.kept).holds fed.stations fed.keep (lines_to fed.files is.whole) is.read in
+      file-read old new fed _ line empty (with_last old fed is at there) all (rw reader read)
 
   -- the error of a file's last line is found at the file's end
   pub last-found : (old : Cutter L) (fed : Fed) (f : DataFault) → old.ended ≡ length fed.files.ended
       → 0 < length old.rest.items → RefusesLine has_read old [] f → HasReadFed has_read old fed
       → HasLineFault (with_files fed (with_end fed.files)) f
   last-found old fed f at some refuses is =
-      found_at_end fed f (rw (← with_last old fed is at some)
-      (refuses.first fed.stations fed.keep (lines_to fed.files is.whole) is.read))
+      found_at_end fed f (rw (← with_last old fed is at (begin-some is.rest old.rest.items is.kept some))
+      ((refuses.found is.rest is.kept).first fed.stations fed.keep (lines_to fed.files is.whole) is.read))
 
   -- ---- errors that are kept
 
@@ -298,8 +311,10 @@ module _ {L : Type 0} {has_read : Reading L} where
       → new.line ≡ old.line → new.rest ≡ old.rest → HasReadFed has_read old fed → HasReadFed has_read new fed
   same_read old new fed reader counts line rest is = record {
     whole = is.whole;
-    cut = rw rest is.cut;
-    unended = rw rest is.unended;
+    rest = is.rest;
+    cut = is.cut;
+    unended = is.unended;
+    kept = rw rest is.kept;
     numbered = line ∙ is.numbered;
     counted = rw counts is.counted;
     read = rw reader is.read;

@@ -19,6 +19,7 @@ use Rattle.ghcn_series.specs.Fed.{Files, Fed, ended_files, more, with_end, with_
 use Rattle.ghcn_series.specs.Gathered.{IsLineRefusal}
 use Rattle.ghcn_series.specs.LinesRead.{Reading, HasReadSome}
 use Rattle.ghcn_series.specs.Says.{in_64_bits, data_of}
+use Rattle.ghcn_series.proofs.AlikeBeginnings.{begin-some}
 use Rattle.ghcn_series.proofs.CountedLines.{both_of}
 use Rattle.ghcn_series.proofs.ReadFiles.{data_of-refused, first_refusal}
 use Rattle.ghcn_series.proofs.FedCounts.{and_current-some, counted-more, counted-end, at_file, at_place, may_be_read}
@@ -205,7 +206,13 @@ module _ {L : Type 0} {has_read : Reading L} where
       let at = looking c fed.0.files looks fed.1.counted in
       let read = read_so_far c fed.0 at.0 at.1 fed.1 in
       may_be_read c fed.0.files at.1
-      (omega (arith, some, ap length read.cut.parts, length-append read.whole c.rest.items)) fed.1.counted
+      (omega (
+        arith,
+        begin-some read.rest c.rest.items read.kept some,
+        ap length read.cut.parts,
+        length-append read.whole read.rest,
+      ))
+      fed.1.counted
 
   -- the place of a file whose end is looked at is one of the first
   pub end-place : (c : Cutter L) → LooksAtLines c true → HasFedSome has_read c → c.ended ≤ 2 ^ 20
@@ -291,10 +298,10 @@ module _ {L : Type 0} {has_read : Reading L} where
         record {
           few = few;
           read = rw reader (subst (has_read c.reader fed.stations fed.keep)
-              (lines-all files read.whole c.rest.items read.cut) read.read);
+              (lines-all files read.whole read.rest read.cut) read.read);
           number = number ∙ at_file c (ended_files files) few now.counted;
           counted = rw counted (subst (HaveCounted c.counts files)
-              (none_left files read.whole c.rest.items read.cut) read.counted);
+              (none_left files read.whole read.rest read.cut) read.counted);
         };
   }
 

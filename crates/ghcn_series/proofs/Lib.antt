@@ -30,6 +30,10 @@ pub mod ReadFiles
 pub mod FedLines
 pub mod FormOfLines
 pub mod CountedLines
+pub mod AlikeLines
+pub mod AlikeMonths
+pub mod AlikeBeginnings
+pub mod AlikeReads
 pub mod FedPieces
 pub mod FedCounts
 pub mod KeptFaults

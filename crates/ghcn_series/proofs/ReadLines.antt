@@ -14,10 +14,11 @@ use Rattle.ghcn_files.specs.declared.station.Station.{Station}
 use Rattle.ghcn_files.specs.declared.month.Month.{Month}
 use Rattle.ghcn_files.specs.declared.element.Element.{Element}
 use Rattle.ghcn_files.specs.declared.element.Keep.{Keep}
+use Rattle.ghcn_files.specs.declared.fault.LineWhy.{LineWhy}
 use Rattle.ghcn_files.specs.declared.fault.LineWhy.TheVariants.{Short}
 use Rattle.ghcn_files.specs.Elements.{element_of}
 use Rattle.ghcn_files.specs.Months.{read_month, month_if, month_why, month_of, unless}
-use Rattle.ghcn_series.specs.declared.fault.DailyWhy.TheVariants.{DuplicateMonth}
+use Rattle.ghcn_series.specs.declared.fault.DailyWhy.TheVariants.{Line, DuplicateMonth}
 use Rattle.ghcn_series.specs.declared.fault.DataFault.{DataFault}
 use Rattle.ghcn_series.specs.declared.fault.DataFault.TheVariants.{DailyLine, TooManyFiles, Memory}
 use Rattle.ghcn_series.specs.declared.reader.Reader.{Reader}
@@ -79,6 +80,22 @@ read-month old new l m is same kept adds stations keep before for =
         right = rw same (no_fault-more (daily_fault old.stations) before l read.right none);
       };
     }
+
+-- a line that fails a test is the first with an error
+pub refused-line : (r : Reader) (l : FileLine) (why : LineWhy) → read_month l.bytes ≡ Err why
+    → (stations : List Station) (keep : Keep) (before : List FileLine) → HasReadFor r stations keep before
+    → IsLineRefusal stations (before ++ l ∷ []) (DailyLine l.file l.line (Line why))
+refused-line r l why is stations keep before for =
+    rw (← for.listed) (
+      l,
+      record {
+        before = before;
+        behind = [];
+        place = refl;
+        here = rw is refl;
+        none_before = for.read.right;
+      },
+    )
 
 -- a line that is a month of an earlier line is the first with an error
 pub refused-month : (old new : Reader) (l : FileLine) (m : Month) → read_month l.bytes ≡ Ok (Some m)

@@ -7,6 +7,7 @@ use Rattle.ghcn_fields.specs.Refusals.{IsRefusal}
 use Rattle.ghcn_series.specs.declared.cutter.Cut.{Cut}
 use Rattle.ghcn_series.specs.declared.cutter.Cutter.{Cutter}
 use Rattle.ghcn_series.specs.declared.fault.DataFault.{DataFault}
+use Rattle.ghcn_series.specs.Alike.{BeginAlike}
 use Rattle.ghcn_series.specs.Counted.{HaveCounted, CountsLine}
 use Rattle.ghcn_series.specs.DailyFaults.{FileLine, one_line, file_lines, daily_lines, is_memory, IsFirstRefusal}
 use Rattle.ghcn_series.specs.Fed.{Files, Fed, more, with_end, with_files, files_of}
@@ -47,8 +48,10 @@ pub record LooksAtLines {L : Type 0} (c : Cutter L) (looks : Bool) : Type 0 wher
 -- a cutter's reader has read what was fed: no line that has its line feed or its file's end has an error
 pub record HasReadFed {L : Type 0} (has_read : Reading L) (c : Cutter L) (fed : Fed) : Type 0 where
   pub whole : List ℕ
-  pub cut : IsCutFile fed.files whole c.rest.items
-  pub unended : HasNoLineFeed c.rest.items
+  pub rest : List ℕ
+  pub cut : IsCutFile fed.files whole rest
+  pub unended : HasNoLineFeed rest
+  pub kept : BeginAlike rest c.rest.items
   pub numbered : c.line ≡ length (lines whole)
   pub counted : HaveCounted c.counts fed.files.ended whole
   pub read : has_read c.reader fed.stations fed.keep (lines_to fed.files whole)
@@ -112,16 +115,18 @@ pub record RefusesEnd {L : Type 0} (has_read : Reading L) (old : Cutter L) (faul
   pub found : (fed : Fed) → old.ended ≡ length fed.files.ended → HasReadFed has_read old fed
       → HasLineFault (with_files fed (with_end fed.files)) fault
 
--- a cutter adds the line of the current file of which these are the last bytes
+-- a cutter adds the line of the current file of which these are the last bytes, if what is kept is like what came before
 pub record AddsLine {L : Type 0} (has_read : Reading L) (old new : Cutter L) (bytes : List ℕ) : Type 0 where
   pub numbered : new.line ≡ old.line + 1
   pub rest : new.rest.items ≡ []
-  pub counted : CountsLine old.counts new.counts (record { file = old.ended; line = old.line + 1 })
-      (strip_carriage_return (old.rest.items ++ bytes))
-  pub read : Reads has_read old.reader new.reader
-      (one_line (old.ended + 1) (old.line + 1) (old.rest.items ++ bytes))
+  pub counted : (rest : List ℕ) → BeginAlike rest old.rest.items
+      → CountsLine old.counts new.counts (record { file = old.ended; line = old.line + 1 })
+      (strip_carriage_return (rest ++ bytes))
+  pub read : (rest : List ℕ) → BeginAlike rest old.rest.items
+      → Reads has_read old.reader new.reader (one_line (old.ended + 1) (old.line + 1) (rest ++ bytes))
 
 -- a cutter refuses that line
-abbrev pub RefusesLine : {L : Type 0} → Reading L → Cutter L → List ℕ → DataFault → Type 0
-RefusesLine has_read old bytes fault =
-    Refuses has_read old.reader (one_line (old.ended + 1) (old.line + 1) (old.rest.items ++ bytes)) fault
+pub record RefusesLine {L : Type 0} (has_read : Reading L) (old : Cutter L) (bytes : List ℕ) (fault : DataFault)
+    : Type 0 where
+  pub found : (rest : List ℕ) → BeginAlike rest old.rest.items
+      → Refuses has_read old.reader (one_line (old.ended + 1) (old.line + 1) (rest ++ bytes)) fault

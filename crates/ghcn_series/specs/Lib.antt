@@ -8,6 +8,7 @@ pub mod Gathered
 pub mod Steps
 pub mod Fed
 pub mod LineKinds
+pub mod Alike
 pub mod Counted
 pub mod LinesRead
 pub mod Cut

@@ -1,9 +1,11 @@
 -- What a reader of lines has read, and what one step of its reading adds.
-use Rattle.std.specs.Prelude.{◌++◌, List}
+use Rattle.std.specs.Prelude.{ℕ, ◌++◌, List, [], ◌∷◌}
+use Rattle.std.specs.Str.Lines.{strip_carriage_return}
 use Rattle.ghcn_files.specs.declared.element.Keep.{Keep}
 use Rattle.ghcn_files.specs.declared.station.Station.{Station}
 use Rattle.ghcn_series.specs.declared.fault.DataFault.{DataFault}
-use Rattle.ghcn_series.specs.DailyFaults.{FileLine}
+use Rattle.ghcn_series.specs.Alike.{AreAlike}
+use Rattle.ghcn_series.specs.DailyFaults.{FileLine, file_line, one_line}
 use Rattle.ghcn_series.specs.Gathered.{IsLineRefusal}
 
 -- when a reader has read lines: with these stations listed, if the values of these elements are kept
@@ -25,3 +27,24 @@ pub record Refuses {L : Type 0} (has_read : Reading L) (old : L) (more : List Fi
   where
     pub first : (stations : List Station) (keep : Keep) (before : List FileLine) → has_read old stations keep before
         → IsLineRefusal stations (before ++ more) fault
+
+-- a reader reads a line of a file, and with it each line that is like it
+pub record ReadsLike {L : Type 0} (has_read : Reading L) (old new : L) (file line : ℕ) (bytes : List ℕ) : Type 0 where
+  pub holds : (like : List ℕ) → AreAlike like bytes → Reads has_read old new (file_line file (line, like) ∷ [])
+
+-- a reader refuses a line of a file, and with it each line that is like it
+pub record RefusesLike {L : Type 0} (has_read : Reading L) (old : L) (file line : ℕ) (bytes : List ℕ)
+    (fault : DataFault) : Type 0 where
+  pub holds : (like : List ℕ) → AreAlike like bytes
+      → Refuses has_read old (file_line file (line, like) ∷ []) fault
+
+-- a reader reads a line as it stands before its line feed, and each that is like it, unless they are blank
+pub record ReadsText {L : Type 0} (has_read : Reading L) (old new : L) (file line : ℕ) (bytes : List ℕ) : Type 0 where
+  pub holds : (text : List ℕ) → AreAlike (strip_carriage_return text) (strip_carriage_return bytes)
+      → Reads has_read old new (one_line file line text)
+
+-- a reader refuses such a line, and each that is like it
+pub record RefusesText {L : Type 0} (has_read : Reading L) (old : L) (file line : ℕ) (bytes : List ℕ)
+    (fault : DataFault) : Type 0 where
+  pub holds : (text : List ℕ) → AreAlike (strip_carriage_return text) (strip_carriage_return bytes)
+      → Refuses has_read old (one_line file line text) fault

@@ -4,12 +4,13 @@ ghost use Rattle.std.specs.Prelude.{◌≡◌, [], ◌++◌, ◌^◌, ◌<◌, �
 ghost use Rattle.std.specs.Str.Lines.{strip_carriage_return};
 ghost use Rattle.ghcn_files.specs.declared.element.Keep.{Keep};
 ghost use Rattle.ghcn_files.specs.declared.station.Station.{Station};
+ghost use Rattle.ghcn_series.specs.Alike.{BeginAlike};
 ghost use Rattle.ghcn_series.specs.Cut as cut;
-ghost use Rattle.ghcn_series.specs.DailyFaults.{one_line};
 ghost use Rattle.ghcn_series.specs.Fed.{IsOfMemory, nothing_fed};
 ghost use Rattle.ghcn_series.specs.LineKinds.{line_kind};
-ghost use Rattle.ghcn_series.specs.LinesRead.{HasReadSome, Reads, Refuses};
+ghost use Rattle.ghcn_series.specs.LinesRead.{HasReadSome, ReadsText, RefusesText};
 
+use crate::beginning::keep;
 use crate::counts::{LineCounts, LineKind};
 use crate::data::MOST_FILES;
 use crate::fault::DataFault;
@@ -19,26 +20,26 @@ use std::alloc::Global;
 
 /// Reads the lines of daily files one after another.
 pub trait LineReader {
-    ghost use Rattle.std.specs.Prelude.{◌≡◌, ◌∷◌, [], false, List, IfOk, IfErr, OnOk};
+    ghost use Rattle.std.specs.Prelude.{◌≡◌, false, List, IfOk, IfErr, OnOk};
     ghost use Rattle.ghcn_fields.specs.Bytes.{is_blank};
     ghost use Rattle.ghcn_files.specs.declared.element.Keep.{Keep};
     ghost use Rattle.ghcn_files.specs.declared.station.Station.{Station};
-    ghost use Rattle.ghcn_series.specs.DailyFaults.{FileLine, file_line};
+    ghost use Rattle.ghcn_series.specs.DailyFaults.{FileLine};
     ghost use Rattle.ghcn_series.specs.LineKinds.{has_element};
-    ghost use Rattle.ghcn_series.specs.LinesRead.{HasReadSome, Reads, Refuses};
+    ghost use Rattle.ghcn_series.specs.LinesRead.{HasReadSome, ReadsLike, RefusesLike};
 
     /// A reader of lines for some stations, which keeps the values of some elements, has read lines none of which has
     /// an error.
     ghost has_read: { Self → List Station → Keep → List FileLine → Type 0 };
 
     /// Adds a line that isn't blank, without its line end, and returns whether it belongs to one of the five
-    /// elements.
+    /// elements. Of the bytes after its last column it only matters whether all are blanks.
     fn add(&mut self, alloc: Global, file: u64, line: u64, bytes: &[u8]) -> Result<bool, DataFault>
         requires some { is_blank bytes.now ≡ false }
         requires read { HasReadSome has_read self.old }
         ensures element { IfOk result (λ of_element. of_element ≡ has_element bytes.now) }
-        ensures read { OnOk result (Reads has_read self.old self.new (file_line file (line, bytes.now) ∷ [])) }
-        ensures fault { IfErr result (Refuses has_read self.old (file_line file (line, bytes.now) ∷ [])) };
+        ensures read { OnOk result (ReadsLike has_read self.old self.new file line bytes.now) }
+        ensures fault { IfErr result (RefusesLike has_read self.old file line bytes.now) };
 }
 
 /// Cuts daily files into lines, in their order, each file in pieces that may end anywhere. The first error is kept,
@@ -54,7 +55,7 @@ pub struct Cutter<L> {
     begun: bool,
     /// How many lines of the current file were ended.
     line: u64,
-    /// What has come of the line after them.
+    /// What has come of the line after them, as far as it matters.
     rest: Vec<u8>,
     /// The error of the first line that has one, or out of memory.
     fault: Option<DataFault>,
@@ -220,10 +221,11 @@ impl<L: LineReader + Drop> Cutter<L> {
         }
     }
 
-    /// Keeps what has come of a line that isn't ended, which few are. It isn't built into its callers.
+    /// Keeps what has come of a line that isn't ended, which few are, as far as it matters. It isn't built into its
+    /// callers.
     #[inline(never)]
     fn keep(&mut self, bytes: &[u8]) -> Result<(), DataFault>
-        ensures kept { OnOk result (self.new.rest.items ≡ self.old.rest.items ++ bytes.now) }
+        ensures kept { OnOk result (BeginAlike (self.old.rest.items ++ bytes.now) self.new.rest.items) }
         ensures reader { self.new.reader ≡ self.old.reader }
         ensures counts { self.new.counts ≡ self.old.counts }
         ensures ended { self.new.ended ≡ self.old.ended }
@@ -231,10 +233,7 @@ impl<L: LineReader + Drop> Cutter<L> {
         ensures line { self.new.line ≡ self.old.line }
         ensures fault { IfErr result IsOfMemory }
     {
-        match self.rest.extend_from_slice(bytes) {
-            Ok(()) => Ok(()),
-            Err(_) => Err(DataFault::Memory(Memory)),
-        }
+        keep(&mut self.rest, bytes)
     }
 }
 
@@ -252,8 +251,8 @@ fn read_line<L: LineReader>(
 ) -> Result<LineKind, DataFault>
     requires { HasReadSome L.has_read reader.old }
     ensures kind { IfOk result (λ kind. kind ≡ line_kind (strip_carriage_return bytes.now)) }
-    ensures read { OnOk result (Reads L.has_read reader.old reader.new (one_line file line bytes.now)) }
-    ensures fault { IfErr result (Refuses L.has_read reader.old (one_line file line bytes.now)) }
+    ensures read { OnOk result (ReadsText L.has_read reader.old reader.new file line bytes.now) }
+    ensures fault { IfErr result (RefusesText L.has_read reader.old file line bytes.now) }
 {
     let bytes = without_return(bytes);
     if is_blank(bytes) {
@@ -280,8 +279,8 @@ fn read_joined<L: LineReader>(
 ) -> Result<LineKind, DataFault>
     requires { HasReadSome L.has_read reader.old }
     ensures kind { IfOk result (λ kind. kind ≡ line_kind (strip_carriage_return bytes.now)) }
-    ensures read { OnOk result (Reads L.has_read reader.old reader.new (one_line file line bytes.now)) }
-    ensures fault { IfErr result (Refuses L.has_read reader.old (one_line file line bytes.now)) }
+    ensures read { OnOk result (ReadsText L.has_read reader.old reader.new file line bytes.now) }
+    ensures fault { IfErr result (RefusesText L.has_read reader.old file line bytes.now) }
 {
     read_line(alloc, reader, file, line, bytes)
 }

@@ -4,6 +4,7 @@
 //! of one station and element to their values.
 #![tactic(auto)]
 
+mod beginning;
 mod columns;
 mod counts;
 mod cutter;

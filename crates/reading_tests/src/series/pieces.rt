@@ -108,6 +108,64 @@ fn cut_anywhere(rt: HostRuntime) {
     assert_eq!(rt; gives_by_bytes(rt.alloc(), &again), Err(REPEATED));
 }
 
+/// The lines of July and of August, the second with these bytes after its columns: some, blanks, and its end.
+fn long_line(alloc: Global, first: &[u8], blanks: usize, end: &[u8]) -> Result<Vec<u8>, Memory> {
+    let mut text = Vec::new(alloc);
+    text.extend_from_slice(&line_of(b"ZZA00000001202007TMAX", &[(1, b"  311   ")]))?;
+    text.push(b'\n')?;
+    text.extend_from_slice(&line_of(b"ZZA00000001202008TMAX", &[(1, b"  322   ")]))?;
+    text.extend_from_slice(first)?;
+    for _ in 0..blanks {
+        text.push(b' ')?;
+    }
+    text.extend_from_slice(end)?;
+    Ok(text)
+}
+
+/// Whether these lines give the days of July and August if their bytes come one by one, and if the last comes alone.
+fn gives_long(
+    alloc: Global,
+    first: &[u8],
+    blanks: usize,
+    end: &[u8],
+) -> Result<(Result<bool, DataFault>, Result<bool, DataFault>), Memory> {
+    let text = long_line(alloc, first, blanks, end)?;
+    let (front, behind) = text.split_at(text.len().saturating_sub(1));
+    let cut = gives_cut(alloc, front, behind);
+    Ok((gives_by_bytes(alloc, &text), cut))
+}
+
+#[test]
+fn long_lines_in_pieces(rt: HostRuntime) {
+    let long = Err(DataFault::DailyLine {
+        file: 1,
+        line: 2,
+        why: DailyWhy::Line(LineWhy::TooLong),
+    });
+    let cases: [(&[u8], usize, &[u8], Result<bool, DataFault>); 12] = [
+        (b"", 0, b"\r", Ok(true)),
+        (b"", 1, b"\r\n", Ok(true)),
+        (b"", 2, b"\r\n", Ok(true)),
+        (b"", 700, b"", Ok(true)),
+        (b"", 700, b"\r", Ok(true)),
+        (b"", 700, b"\r\n", Ok(true)),
+        (b"", 700, b"\r\r\n", long),
+        (b"", 700, b"\r \n", long),
+        (b"", 700, b"x", long),
+        (b"x", 0, b"\n", long),
+        (b"x", 700, b"\r\n", long),
+        (b"\r", 700, b"", long),
+    ];
+    for (first, blanks, end, expected) in cases {
+        let found = gives_long(rt.alloc(), first, blanks, end);
+        assert_eq!(rt;
+            found,
+            Ok((expected, expected)),
+            "{first:?}, {blanks} blanks and {end:?}"
+        );
+    }
+}
+
 /// A reader with that many files more, all of them empty.
 fn with_files(mut reader: DataReader, count: u32) -> DataReader
     requires { HasFedSome reader }
@@ -260,4 +318,23 @@ fn files_without_one_of_the_elements(rt: HostRuntime) {
     assert_eq!(rt; warnings_of(alloc, &[&other, b"short"]), Err(fault));
     let by_lines = found_by_lines(alloc, Keep::everything(), &[&other, b"short"]);
     assert_eq!(rt; by_lines.err(), Some(fault));
+}
+
+/// What both show of a month, of two long lines of another code, of which the last byte of the second isn't a blank, and
+/// of a long blank line.
+fn long_lines_shown(alloc: Global) -> Result<Shown, DataFault> {
+    let july = line_of(b"ZZA00000001202007TMAX", &[(1, b"  311   ")]);
+    let mut code = [b' '; 700];
+    code[..21].copy_from_slice(b"ZZA00000001202007WESD");
+    let mut odd = code;
+    odd[699] = b'x';
+    shown(alloc, &[&july, &code, &odd, &[b' '; 700]])
+}
+
+#[test]
+fn long_lines_without_one_of_the_elements(rt: HostRuntime) {
+    assert_eq!(rt;
+        long_lines_shown(rt.alloc()),
+        told((2, Some(1)), (1, Some((2, 1))), (4, 4, 1))
+    );
 }

@@ -5,8 +5,8 @@ use Rattle.ghcn_files.specs.Elements.{everything, nothing}
 use Rattle.ghcn_files.specs.Rows.{IsOfLine, IsRowOf}
 use Rattle.ghcn_files.proofs.KeptElements.{is_kept-everything}
 use Rattle.ghcn_files.specs.Listed.{AreListed, place_of}
-use Rattle.ghcn_files.specs.Months.{read_month}
 use Rattle.ghcn_series.specs.Steps.{ReadsMonth}
+use Rattle.ghcn_series.proofs.AlikeMonths.{same_read}
 use Rattle.ghcn_series.proofs.ReadLines.{read-month, refused-month}
 use Rattle.ghcn_description.proofs.DescribedLines.{counted-month, counted-unlisted}
 use Rattle.ghcn_description.proofs.describer.Describer.add_month.Goals as goal
@@ -31,7 +31,7 @@ returns-then-not-branch c =
     record {
       read = λ stations keep before l same of. tt;
       refused = λ stations keep before l same of failed.
-          refused-month c.args.self.now.reader c.add_month.new.self l m (ap read_month same ∙ c.requires.row.read)
+          refused-month c.args.self.now.reader c.add_month.new.self l m (same_read l.bytes c.args.line.now same ∙ c.requires.row.read)
           (subst (ReadsMonth c.args.self.now.reader c.add_month.new.self m) c.if-not-branch.true adds)
           stations nothing before of.read;
     }
@@ -48,7 +48,7 @@ returns-in_ok-count-in-Some c =
     (c.flagged_values.ensures m c.requires.row.read) in
     record {
       read = λ stations keep before l same of.
-          let is = ap read_month same ∙ c.requires.row.read in
+          let is = same_read l.bytes c.args.line.now same ∙ c.requires.row.read in
           counted-month stations keep before l m is c.args.self.now c.count.new.self c.add_month.new.self
           c.in-Some.place
           (subst AreListed of.read.listed of.read.read.months.listed)
@@ -69,7 +69,7 @@ returns-in_ok-self-in-None c =
     sym c.place-place.ensures ∙ c.in-None.is in
     record {
       read = λ stations keep before l same of.
-          let is = ap read_month same ∙ c.requires.row.read in
+          let is = same_read l.bytes c.args.line.now same ∙ c.requires.row.read in
           counted-unlisted stations keep before l m is c.args.self.now c.add_month.new.self c.in_ok-self-in-None.field-0
           (subst (λ i. place_of stations i ≡ None) c.requires.row.row.id
           (subst (λ ss. place_of ss c.args.row.now.id ≡ None) of.read.listed nowhere))

@@ -1,9 +1,12 @@
-use Rattle.std.proofs.Common.{rules, arith, ◌≡◌, ◌+◌, ◌++◌, [], sym, ap, ◌∙◌}
+use Rattle.std.proofs.Common.{rules, arith, ◌≡◌, ℕ, ◌+◌, ◌++◌, List, [], sym, ap, subst, ◌∙◌}
 use Rattle.std.proofs.lemmas.Bool.Decides.{nat_tests}
 use Rattle.std.proofs.lemmas.List.{nil_from_length}
+use Rattle.std.proofs.lemmas.Result.{err_from_is_err_and}
 use Rattle.std.specs.Str.Lines.{strip_carriage_return}
 use Rattle.ghcn_series.specs.declared.cutter.Cutter.{Cutter}
-use Rattle.ghcn_series.specs.LineKinds.{line_kind}
+use Rattle.ghcn_series.specs.Alike.{AreAlike, BeginAlike}
+use Rattle.ghcn_series.proofs.AlikeLines.{same_kind}
+use Rattle.ghcn_series.proofs.AlikeBeginnings.{begin-line, begin-more, begin-alike}
 use Rattle.ghcn_series.proofs.cutter.Cutter.end_line.Goals as goal
 use Rattle.ghcn_series.proofs.cutter.Cutter.end_line.Goals.{then-is_empty+in_ok-kind}
 use Rattle.ghcn_series.proofs.cutter.Cutter.end_line.Goals.{else-is_empty+in_ok-keep+in_ok-kind-2}
@@ -23,17 +26,24 @@ returns-in-Some-clause-added g c =
           ap (λ (r : Cutter g.row.L.Denot). r.counts) w.self-is in
           let ended : c.if-is_empty.self.ended ≡ old.ended =
           ap (λ (r : Cutter g.row.L.Denot). r.ended) w.self-is in
-          let kind : c.if-is_empty.kind ≡ line_kind (strip_carriage_return (old.rest.items ++ c.args.bytes.now)) =
-          rw none (w.kind-is ∙ w.in_ok-kind.ensures.kind) in
+          let whole : (rest : List ℕ) → BeginAlike rest old.rest.items
+          → AreAlike (strip_carriage_return (rest ++ c.args.bytes.now)) (strip_carriage_return c.args.bytes.now) =
+          λ rest alike. begin-line (rest ++ c.args.bytes.now) c.args.bytes.now
+          (begin-more rest [] c.args.bytes.now (subst (BeginAlike rest) none alike)) in
           record {
             numbered = line;
             rest = ap (λ (r : Cutter g.row.L.Denot). r.rest.items) w.self-is ∙ none;
-            counted = rw (same, ended, line) at (c.in-Some.ensures (strip_carriage_return (old.rest.items ++ c.args.bytes.now)) kind);
-            read = rw (← new, none, ← line) w.in_ok-kind.ensures.read;
+            counted = λ rest alike.
+                let text = strip_carriage_return (rest ++ c.args.bytes.now) in
+                rw (same, ended, line) at (c.in-Some.ensures text (w.kind-is ∙ w.in_ok-kind.ensures.kind
+                ∙ sym (same_kind text (strip_carriage_return c.args.bytes.now) (whole rest alike))));
+            read = λ rest alike.
+                rw (← new, ← line) (w.in_ok-kind.ensures.read.holds (rest ++ c.args.bytes.now) (whole rest alike));
           }
       | else-is_empty+in_ok-keep+in_ok-kind-2 w ↦
-          let bytes : w.deref.result.now ≡ old.rest.items ++ c.args.bytes.now =
-          w.deref.ensures.value ∙ w.in_ok-keep.ensures.kept in
+          let kept : List ℕ = w.deref.result.now in
+          let same_bytes : BeginAlike (old.rest.items ++ c.args.bytes.now) kept =
+          rw w.deref.ensures.value w.in_ok-keep.ensures.kept in
           let after = w.read_joined.new.reader in
           let new : after ≡ c.if-is_empty.self.reader =
           ap (λ (r : Cutter g.row.L.Denot). r.reader) (sym w.self-is) in
@@ -41,12 +51,38 @@ returns-in-Some-clause-added g c =
           ap (λ (r : Cutter g.row.L.Denot). r.counts) w.self-is ∙ w.in_ok-keep.ensures.counts in
           let ended : c.if-is_empty.self.ended ≡ old.ended =
           ap (λ (r : Cutter g.row.L.Denot). r.ended) w.self-is ∙ w.in_ok-keep.ensures.ended in
-          let kind : c.if-is_empty.kind ≡ line_kind (strip_carriage_return (old.rest.items ++ c.args.bytes.now)) =
-          rw (← bytes) (w.kind-is ∙ w.in_ok-kind-2.ensures.kind) in
+          let whole : (rest : List ℕ) → BeginAlike rest old.rest.items
+          → AreAlike (strip_carriage_return (rest ++ c.args.bytes.now)) (strip_carriage_return kept) =
+          λ rest alike. begin-line (rest ++ c.args.bytes.now) kept
+          (begin-alike (rest ++ c.args.bytes.now) (old.rest.items ++ c.args.bytes.now) kept
+          (begin-more rest old.rest.items c.args.bytes.now alike) same_bytes) in
           record {
             numbered = line;
             rest = ap (λ (r : Cutter g.row.L.Denot). r.rest.items) w.self-is ∙ search rules;
-            counted = rw (same, ended, line) at (c.in-Some.ensures (strip_carriage_return (old.rest.items ++ c.args.bytes.now)) kind);
-            read = rw (← new, ← line, ← bytes, ← w.in_ok-keep.ensures.reader) w.in_ok-kind-2.ensures.read;
+            counted = λ rest alike.
+                let text = strip_carriage_return (rest ++ c.args.bytes.now) in
+                rw (same, ended, line) at (c.in-Some.ensures text (w.kind-is ∙ w.in_ok-kind-2.ensures.kind
+                ∙ sym (same_kind text (strip_carriage_return kept) (whole rest alike))));
+            read = λ rest alike.
+                rw (← new, ← line, ← w.in_ok-keep.ensures.reader)
+                (w.in_ok-kind-2.ensures.read.holds (rest ++ c.args.bytes.now) (whole rest alike));
           }
     ]
+
+-- the error of a line that came in pieces
+pub returns-in_err-kind-2-clause-fault : goal.returns-in_err-kind-2-clause-fault
+returns-in_err-kind-2-clause-fault g c =
+    let p = err_from_is_err_and c.from_residual-in_err-kind-2.result c.from_residual-in_err-kind-2.ensures.1 in
+    let old = c.args.self.now in
+    let kept : List ℕ = c.deref.result.now in
+    let same_bytes : BeginAlike (old.rest.items ++ c.args.bytes.now) kept =
+    rw c.deref.ensures.value c.in_ok-keep.ensures.kept in
+    let line : c.in_ok-line.line ≡ old.line + 1 = search rules in
+    rw (p.1, p.2) (record {
+      found = λ rest alike.
+          rw (← line, ← c.in_ok-keep.ensures.reader)
+          (c.in_err-kind-2.ensures.fault.holds (rest ++ c.args.bytes.now)
+          (begin-line (rest ++ c.args.bytes.now) kept
+          (begin-alike (rest ++ c.args.bytes.now) (old.rest.items ++ c.args.bytes.now) kept
+          (begin-more rest old.rest.items c.args.bytes.now alike) same_bytes)));
+    })

@@ -1,6 +1,7 @@
 use Rattle.std.proofs.Common.{◌∙◌, refl}
 use Rattle.std.proofs.lemmas.Result.{err_from_is_err_and, IfOk-weaker, IfErr-weaker}
 use Rattle.ghcn_series.specs.Fed.{more, with_files}
+use Rattle.ghcn_series.proofs.AlikeBeginnings.{begin-same}
 use Rattle.ghcn_series.proofs.FedPieces.{piece-begun, piece-line, piece-found, piece-part, memory-found}
 use Rattle.ghcn_series.proofs.cutter.Cutter.read.Goals as goal
 
@@ -28,10 +29,12 @@ loop-line-init g c = record {
 pub loop-line-preserved : goal.loop-line-preserved
 loop-line-preserved g c =
     let some = c.loop-line.invariant.some in
+    let rest = c.loop-line.self.rest.items in
+    let line = c.in_ok-end_line.ensures.added.read rest (begin-same rest) in
     record {
       ended = c.in_ok-end_line.ensures.ended ∙ c.loop-line.invariant.ended;
       begun = c.in_ok-end_line.ensures.begun ∙ c.loop-line.invariant.begun;
-      some = (some.0, (some.1.0, (_, c.in_ok-end_line.ensures.added.read.holds some.0 some.1.0 some.1.1.0 some.1.1.1)));
+      some = (some.0, (some.1.0, (_, line.holds some.0 some.1.0 some.1.1.0 some.1.1.1)));
       read = λ fed at is.
           piece-line c.loop-line.self c.end_line.new.self c.in-Some.line.now c.in-Some.behind.now c.loop-line.left.now
           c.args.bytes.now fed c.in-Some.ensures.parts c.in-Some.ensures.first (c.loop-line.invariant.ended ∙ at)

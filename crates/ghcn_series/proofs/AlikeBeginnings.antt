@@ -1,0 +1,130 @@
+-- Beginnings of lines that are alike, and what is kept of a long one.
+use Rattle.std.proofs.Common.{◌≡◌, ℕ, suc, ◌+◌, ◌-◌, ◌<◌, ◌≤◌, min, Bool, true, false, cond}
+use Rattle.std.proofs.Common.{List, [], ◌∷◌, ◌++◌, length, take, drop, set, get_or}
+use Rattle.std.proofs.Common.{refl, sym, ap, ◌∙◌, subst₂, append_assoc, length-append, length-take, length-set, arith}
+use Rattle.std.specs.Prelude.{◌==◌, ◌&&◌}
+use Rattle.std.specs.Str.Lines.{strip_carriage_return}
+use Rattle.std.proofs.lemmas.List.{append-nil, take-append-drop, length-take-le, take_at, drop_at, take_more_set}
+use Rattle.std.proofs.lemmas.List.{nil_from_length}
+use Rattle.std.proofs.lemmas.List.Folds.{list_all-append}
+use Rattle.ghcn_fields.specs.Bytes.{is_blank}
+use Rattle.ghcn_series.specs.Alike.{AreAlike, BeginAlike}
+use Rattle.ghcn_series.proofs.AlikeLines.{alike-same, alike-alike}
+
+-- one is like itself
+pub begin-same : (a : List ℕ) → BeginAlike a a
+begin-same a = record { holds = λ more. alike-same (strip_carriage_return (a ++ more)) }
+
+-- what is like one that is like another one is like that one
+pub begin-alike : (a b c : List ℕ) → BeginAlike a b → BeginAlike b c → BeginAlike a c
+begin-alike a b c one other = record {
+  holds = λ more. alike-alike (strip_carriage_return (a ++ more)) (strip_carriage_return (b ++ more))
+      (strip_carriage_return (c ++ more)) (one.holds more) (other.holds more);
+}
+
+-- they stay so when the same bytes follow
+pub begin-more : (a b bytes : List ℕ) → BeginAlike a b → BeginAlike (a ++ bytes) (b ++ bytes)
+begin-more a b bytes is = record {
+  holds = λ more.
+      subst₂ (λ (x y : List ℕ). AreAlike (strip_carriage_return x) (strip_carriage_return y))
+      (sym (append_assoc a bytes more)) (sym (append_assoc b bytes more)) (is.holds (bytes ++ more));
+}
+
+-- as lines they are alike
+pub begin-line : (a b : List ℕ) → BeginAlike a b → AreAlike (strip_carriage_return a) (strip_carriage_return b)
+begin-line a b is =
+    subst₂ (λ (x y : List ℕ). AreAlike (strip_carriage_return x) (strip_carriage_return y)) (append-nil a) (append-nil b)
+    (is.holds [])
+
+-- of either of two lists with one more element in front
+either_cons : (t : Bool) (x : ℕ) (xs ys : List ℕ) → cond t (x ∷ xs) (x ∷ ys) ≡ x ∷ cond t xs ys
+either_cons true x xs ys = refl
+either_cons false x xs ys = refl
+
+-- the carriage return at the end of a line is not its first byte if others follow
+strip-cons : (x y : ℕ) (ys : List ℕ) → strip_carriage_return (x ∷ y ∷ ys) ≡ x ∷ strip_carriage_return (y ∷ ys)
+strip-cons x y ys =
+    let last : length (x ∷ y ∷ ys) - 1 ≡ suc (length (y ∷ ys) - 1) = omega arith in
+    ap (λ (n : ℕ). cond (get_or (x ∷ y ∷ ys) n 0 == 13) (take n (x ∷ y ∷ ys)) (x ∷ y ∷ ys)) last
+    ∙ either_cons (get_or (y ∷ ys) (length (y ∷ ys) - 1) 0 == 13) x (take (length (y ∷ ys) - 1) (y ∷ ys)) (y ∷ ys)
+
+-- it is one of the last bytes
+strip-append : (xs : List ℕ) (y : ℕ) (ys : List ℕ)
+    → strip_carriage_return (xs ++ y ∷ ys) ≡ xs ++ strip_carriage_return (y ∷ ys)
+strip-append [] y ys = refl
+strip-append (x ∷ []) y ys = strip-cons x y ys
+strip-append (x ∷ z ∷ xs) y ys =
+    strip-cons x z (xs ++ y ∷ ys) ∙ ap (λ (r : List ℕ). x ∷ r) (strip-append (z ∷ xs) y ys)
+
+-- two beginnings that are alike have as many columns
+same_count : (a b : List ℕ) → BeginAlike a b → min 269 (length a + 1) ≡ min 269 (length b + 1)
+same_count a b is =
+    let same : take 269 (a ++ 120 ∷ []) ≡ take 269 (b ++ 120 ∷ []) =
+    ap (λ (l : List ℕ). take 269 l) (sym (strip-append a 120 [])) ∙ (is.holds (120 ∷ [])).columns
+    ∙ ap (λ (l : List ℕ). take 269 l) (strip-append b 120 []) in
+    omega (
+      arith,
+      ap (λ (l : List ℕ). length l) same,
+      length-take 269 (a ++ 120 ∷ []),
+      length-take 269 (b ++ 120 ∷ []),
+      length-append a (120 ∷ []),
+      length-append b (120 ∷ []),
+    )
+
+-- if one has a byte, so has the other
+pub begin-some : (a b : List ℕ) → BeginAlike a b → 0 < length b → 0 < length a
+begin-some a b is some = omega (arith, some, same_count a b is)
+
+-- and if one has none, so has the other
+pub begin-none : (a b : List ℕ) → BeginAlike a b → b ≡ [] → a ≡ []
+begin-none a b is none =
+    nil_from_length a (omega (arith, same_count a b is, ap (λ (xs : List ℕ). length xs) none))
+
+-- ---- what is kept of a long beginning
+
+-- all columns, other bytes that are blanks if those were, and the same last byte are a beginning that is alike
+begin-short : (front middle other : List ℕ) (last : ℕ) → length front ≡ 269 → is_blank middle ≡ is_blank other
+    → BeginAlike (front ++ (middle ++ last ∷ [])) (front ++ (other ++ last ∷ []))
+begin-short front middle other last long same = record {
+  holds = λ more.
+      let end = strip_carriage_return (last ∷ more) in
+      let line : (xs : List ℕ) → strip_carriage_return ((front ++ (xs ++ last ∷ [])) ++ more) ≡ front ++ (xs ++ end) =
+      λ xs.
+      ap (λ (l : List ℕ). strip_carriage_return l)
+      (append_assoc front (xs ++ last ∷ []) more ∙ ap (λ (l : List ℕ). front ++ l) (append_assoc xs (last ∷ []) more)
+      ∙ sym (append_assoc front xs (last ∷ more)))
+      ∙ strip-append (front ++ xs) last more ∙ append_assoc front xs end in
+      subst₂ AreAlike (sym (line middle)) (sym (line other)) (record {
+        columns = take_at front (middle ++ end) 269 long ∙ sym (take_at front (other ++ end) 269 long);
+        behind = ap is_blank (drop_at front (middle ++ end) 269 long)
+            ∙ list_all-append (λ b. b == 32) middle end
+            ∙ ap (λ (t : Bool). t && is_blank end) same
+            ∙ sym (list_all-append (λ b. b == 32) other end)
+            ∙ sym (ap is_blank (drop_at front (other ++ end) 269 long));
+      });
+}
+
+-- a test and one that holds
+and_true : (t : Bool) → (t && true) ≡ t
+and_true true = refl
+and_true false = refl
+
+-- so it is with a byte in place of the others
+pub begin-kept : (rest middle : List ℕ) (mark last : ℕ) → 271 ≤ length rest
+    → (is_blank (drop 269 rest) && is_blank middle) ≡ (mark == 32)
+    → BeginAlike (rest ++ (middle ++ last ∷ [])) (take 271 (set (set rest 269 mark) 270 last))
+begin-kept rest middle mark last long marked =
+    let front = take 269 rest in
+    let behind = drop 269 rest in
+    let whole : rest ++ (middle ++ last ∷ []) ≡ front ++ ((behind ++ middle) ++ last ∷ []) =
+    ap (λ (l : List ℕ). l ++ (middle ++ last ∷ [])) (sym (take-append-drop 269 rest))
+    ∙ append_assoc front behind (middle ++ last ∷ [])
+    ∙ ap (λ (l : List ℕ). front ++ l) (sym (append_assoc behind middle (last ∷ []))) in
+    let kept : take 271 (set (set rest 269 mark) 270 last) ≡ front ++ ((mark ∷ []) ++ last ∷ []) =
+    take_more_set (set rest 269 mark) 270 last (omega (arith, long, length-set rest 269 mark))
+    ∙ ap (λ (l : List ℕ). l ++ last ∷ []) (take_more_set rest 269 mark (omega (arith, long)))
+    ∙ append_assoc front (mark ∷ []) (last ∷ []) in
+    let blank : is_blank (behind ++ middle) ≡ is_blank (mark ∷ []) =
+    list_all-append (λ b. b == 32) behind middle ∙ marked ∙ sym (and_true (mark == 32)) in
+    rw (whole, kept) (begin-short front (behind ++ middle) (mark ∷ []) last
+    (length-take-le 269 rest (omega (arith, long))) blank)
