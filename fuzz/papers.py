@@ -177,7 +177,7 @@ def papers(query_text, stations, daily, version=2):
 
 
 def head_fault(query, asked, rows, other, kth, series):
-    """What is wrong with the report and the certificate of a part that can be seen without data, None if nothing is."""
+    """What can be seen without data to be wrong with a report and a certificate of a part, None if nothing is."""
     if not asked.text == other.text == query.text:
         return "OtherQuery"
     for i in range(1, len(rows)):

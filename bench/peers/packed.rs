@@ -567,7 +567,7 @@ fn of_temperature(presence: u32, values: &Block) -> Summary {
     Summary { greatest, least, total: 0, dry: 0 }
 }
 
-/// The longest run of bits through all words, which goes on from one word into the next.
+/// The longest run of bits through all words; a run may go on from one word into the next.
 #[derive(Default)]
 struct LongestRun {
     open: i64,

@@ -115,7 +115,7 @@ merge_writes : option_map (λ p. first_of (codes "certificate") p.1) (subcommand
 unfolding clap_on_literals
 merge_writes = refl
 
--- without reports and certificates there are none
+-- without reports and certificates there are none to merge
 no_papers : option_map (λ p. papers_to_merge p.1)
     (subcommand_of extremes_app (codes "extremes" ∷ codes "merge" ∷ codes "--query=q" ∷ [])) ≡ Some []
 unfolding clap_on_literals

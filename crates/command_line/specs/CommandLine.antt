@@ -109,8 +109,7 @@ papers_to_merge rows = unwrap_or (all_of (codes "papers") rows) []
 abbrev pub AreInPairs : List Row → Type 0
 AreInPairs rows = length (papers_to_merge rows) % 2 ≡ 0
 
--- the arguments are a valid command line: `clap` has no error to report, and reports and certificates to merge come in
--- pairs
+-- the arguments are a valid command line: `clap` reports no error, and reports and certificates to merge come in pairs
 pub record AreRightWords (words : List Text) : Type 0 where
   pub read : fault_of extremes_app words ≡ []
   pub paired : (rows : List Row) → subcommand_of extremes_app words ≡ Some (codes "merge", rows) → AreInPairs rows

@@ -1,6 +1,6 @@
 //! What the arguments of a command line ask for.
 //!
-//! `clap` reads the arguments, and has their help and errors. The crate returns the command.
+//! `clap` reads the arguments, and has their help and errors. The crate makes a command of them.
 #![tactic(auto)]
 
 mod asked;

@@ -69,8 +69,7 @@ accepted_right q c report certificate v reports certificates asked right accepte
     let are = right_texts q c report certificate reports certificates asked right in
     (λ is. are.0 (accepted.0 is), λ is. accepted.1 (are.1 is))
 
--- a report and a certificate that are right for what a query needs of some data are right for these data, and the other
--- way round
+-- a report and a certificate are right for what a query needs of some data if and only if they are for these data
 right_for : (query : Asked) (dataset whole : Contents) (report certificate : List ℕ) → RightReportStays
     → RightCertificateStays → dataset ≡ data_for query whole
     → AreRightTextsFor query dataset report certificate ↔ AreRightTextsFor query whole report certificate
@@ -90,8 +89,7 @@ right_for query dataset whole report certificate reports certificates needed =
       ),
     )
 
--- a report and a certificate that are right for the data of files are right for what the files say, and the other way
--- round
+-- a report and a certificate are right for the data of files if and only if they are for what the files say
 pub texts_said : ReportsAreSaid → CertificatesAreSaid → (query : Asked) (stations : List Station)
     (files : List (List ℕ)) (dataset : Contents) (report certificate : List ℕ) → data_of stations files ≡ Ok dataset
     → AreRightTextsFor query dataset report certificate ↔ AreRightTexts query stations files report certificate

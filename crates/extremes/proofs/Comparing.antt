@@ -21,6 +21,6 @@ module _ {X : Type 0} (P : X → Type 0) where
   take-whole (x ∷ xs) zero le = absurd (omega arith)
   take-whole (x ∷ xs) (suc i) le = ap (λ (l : List X). x ∷ l) (take-whole xs i (omega arith))
 
-  -- what holds of as many as there are holds of all
+  -- what holds of the first i elements holds of all, if there aren't more
   pub all-whole : (xs : List X) (i : ℕ) → length xs ≤ i → All P (take i xs) → All P xs
   all-whole xs i le was = subst (λ l. All P l) (take-whole xs i le) was

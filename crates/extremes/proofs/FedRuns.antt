@@ -75,7 +75,7 @@ pub ranks-alone : (guess : Option ℤ) (query stations : List ℕ) (files : List
 ranks-alone guess query stations files (Ok papers) ok serial err = (ok, serial)
 ranks-alone guess query stations files (Err fault) ok serial err = err
 
--- so is an error of the arguments
+-- an error of the arguments is an answer to an intake's input
 pub words-input : (t : Intake) (workers : ℕ) (guess : Option ℤ) (fault : Fault)
     → words_fault workers guess ≡ Some fault → RanksInput t workers guess (Err fault)
 words-input t workers guess fault is = record {
@@ -190,7 +190,7 @@ ranks-memory bytes_of opens r list stations m same whole warnings =
       told = tt;
     }
 
--- and to a report and a certificate
+-- and for a report and a certificate
 pub judges-memory : (bytes_of : Known) (opens : Opening) (j : Judging) (list stations : List ℕ) (papers : Texts) (m : WantOfMemory)
     → list ≡ string_bytes j.stations → AreAllOf (bytes_of list) stations
     → AreBothOf (known_part bytes_of j.papers) papers → JudgesFiles bytes_of opens j (Err (Memory m))

@@ -33,7 +33,7 @@ said_read query stations files list lists f =
     subst (λ (c : Contents). data_of list files ≡ Ok c) (held_is_said query stations files f.asked f.dataset f.read)
     (subst (λ (l : List Station). data_of l files ≡ Ok f.dataset) (one_value _ _ _ f.read.lists lists) f.read.holds)
 
--- so it belongs to the stations that the list says
+-- so it is for the stations that the list says
 said_held : (query stations : List ℕ) (files : List (List ℕ)) → IsFaultless query stations files
     → data_of (stations_said stations) files ≡ Ok (said_by (stations_said stations) files)
 said_held query stations files f =

@@ -1,4 +1,4 @@
--- What one worker returns for an input under a guess is one report and one certificate.
+-- An input and a guess determine all that one worker returns.
 use Rattle.std.proofs.Common.{◌≡◌, ℕ, List, [], ◌∷◌, Option, refl, sym, ap, ◌∙◌, subst, map, ℤ}
 use Rattle.std.specs.Prelude.{Some, find}
 use Rattle.std.specs.List.{AllByRecursion}
@@ -48,7 +48,7 @@ one_certificate p guess bytes bytes' one a b =
     a.printed ∙ ap (certificate_of_run p) (one (task_of p) guess a.records b.records a.alone b.alone)
     ∙ sym b.printed
 
--- so there is one report and one certificate
+-- so an input and a guess determine all that one worker returns
 pub serial_one : BestAreOne → RecordsAloneAreOne → SerialPapersAreOne
 serial_one best one guess query stations files a b right-a serial-a right-b serial-b =
     let q : Asked = right-a.asked in

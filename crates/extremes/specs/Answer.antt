@@ -99,7 +99,7 @@ pub record AreSamePapers (a b : Papers) : Type 0 where
   pub certificate : a.certificate.items ≡ b.certificate.items
   pub unlisted : a.unlisted ≡ b.unlisted
 
--- what one worker returns for an input under a guess is one report and one certificate
+-- an input and a guess determine all that one worker returns
 abbrev pub SerialPapersAreOne : Type 0
 SerialPapersAreOne = (guess : Option ℤ) (query stations : List ℕ) (files : List (List ℕ)) (a b : Papers)
     → Answers query stations files a → IsSerial guess query stations files a

@@ -41,7 +41,7 @@ is_memory (Parts why) = merging.is_memory why
 
 -- a report and a certificate are those that are merged of these texts for the query of a text; if each part's are right
 -- for its files, they are right for all files, with the bounds of the series if no station has series in two parts, and
--- no station has morsels in two; they count no line as skipped
+-- no station has morsels in two; no line is counted as one of an unlisted station
 pub record AreMerged (query : List ℕ) (texts : List Texts) (papers : Papers) : Type 0 where
   pub asked : Asked
   pub read : read_query query ≡ Ok asked

@@ -101,7 +101,7 @@ others_and_months stations before (l ∷ ls) none =
 
 -- ---- months
 
--- a month of a listed station belongs to one element, and any other month to none
+-- a month of a listed station counts for one element, and any other month for none
 one_element : (listed : Bool) (e : Element) →
     cond (listed && same_element e Prcp) 1 0 + cond (listed && same_element e Snow) 1 0
     + cond (listed && same_element e Snwd) 1 0 + cond (listed && same_element e Tmax) 1 0

@@ -54,7 +54,8 @@ five R (a ∷ b ∷ c ∷ d ∷ []) h = absurd h.1.1.1.1
 five R (a ∷ b ∷ c ∷ d ∷ e ∷ []) h = (a, b, c, d, e, refl)
 five R (a ∷ b ∷ c ∷ d ∷ e ∷ f ∷ cs) h = absurd h.1.1.1.1.1
 
--- what is true of each of five counts and its element stays so if the count of one element is replaced
+-- P is true of each of five counts and its element: Q is after one count is replaced, if it follows for the others and
+-- is true of the new one
 five-set : (P Q : ElementCounts → Element → Type 0) (x : Element) (a b c d e was new : ElementCounts)
     → AllZip P (a ∷ b ∷ c ∷ d ∷ e ∷ []) elements
     → ((v : ElementCounts) (y : Element) → same_element x y ≡ false → P v y → Q v y)

@@ -20,12 +20,12 @@ other_codes : (length (all_lines files) ≡ 3) × (blank_lines files ≡ 1) × (
     × (lines_with ls (codes "WESD") ≡ 1) × (lines_with ls (codes "W??D") ≡ 1) × (lines_with ls (codes "PRCP") ≡ 0)
 other_codes = (refl, refl, refl, refl, refl, refl, refl)
 
--- a code of the five elements isn't another one
+-- a code of the five elements isn't an other one, and in small letters it is
 of_elements :
     map is_other (file_line 1 (1, codes "ZZA00000001202007TMAX") ∷ file_line 1 (2, codes "ZZA00000001202007tmax") ∷ [])
     ≡ false ∷ true ∷ []
 of_elements = refl
 
--- if no line has a further code, there is no text line for such codes
+-- without lines of further codes there is no line for these
 no_further : further_line 0 ≡ []
 no_further = refl

@@ -312,7 +312,7 @@ marked-behind m row low high first right of le set at =
     let last = marked-there m row high right of set in
     (day-behind row.year row.month low high first last.0 le at last.1).1 ∙ sym last.1
 
--- a word without bits belongs to a month without a usable day
+-- a word without bits is that of a month without a usable day
 pub none-usable : (m : Month) (row : MonthRow) → IsMonth m → IsRowOf true m row → row.word ≡ 0 → days_of_month m ≡ []
 none-usable m row right of zero_word =
     no-days (days_of_month m) (sym (ones-of_row m row right of) ∙ ap count_ones zero_word ∙ no-ones)

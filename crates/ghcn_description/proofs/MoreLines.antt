@@ -47,7 +47,7 @@ AreOfMonth m fs = AllByRecursion (OfMonth m) fs
 abbrev usable_among : List Station → Month → List (ℕ × Reading) → List Fact
 usable_among stations m xs = filter (is_usable stations) (filter_map (fact_of m) xs)
 
--- they belong to its station and element
+-- they are about its station and element
 own-facts : (stations : List Station) (m : Month) (xs : List (ℕ × Reading)) → AreOfMonth m (usable_among stations m xs)
 own-facts stations m [] = tt
 own-facts stations m (x ∷ xs) =
@@ -125,7 +125,7 @@ abbrev pub some : {A : Type 0} → List A → Bool
 some [] = false
 some (x ∷ xs) = true
 
--- of facts of a month, one belongs to a station and element if there is one and the month does
+-- of facts of a month, one is about a station and element if and only if there is one and the month is
 of-series : (m : Month) (id : StationId) (e : Element) (fs : List Fact) → AreOfMonth m fs
     → has_fact fs id e ≡ ((same_id m.id id && same_element m.element e) && some fs)
 of-series m id e [] of = go (same_id m.id id && same_element m.element e)
@@ -159,7 +159,7 @@ any-left p (x ∷ xs) = go (p x) (any-left p xs)
     go true h = ap not (not_zero (length (filter p xs)))
     go false h = h
 
--- a series has a day if a fact belongs to it
+-- a series has a day if and only if a fact is about it
 has-days : (facts : List Fact) (id : StationId) (e : Element)
     → not (length (days_of facts id e) == 0) ≡ has_fact facts id e
 has-days facts id e =
@@ -186,7 +186,7 @@ something : (b : Bool) → cond {A = ℕ} (b && true) 1 0 ≡ cond b 1 0
 something true = refl
 something false = refl
 
--- of five, one belongs to an element
+-- of the five elements, only one is this one
 one-of-five : (e : Element) (h : Element → Bool)
     → cond {A = ℕ} (h Prcp && same_element Prcp e) 1 0 + (cond {A = ℕ} (h Snow && same_element Snow e) 1 0
     + (cond {A = ℕ} (h Snwd && same_element Snwd e) 1 0 + (cond {A = ℕ} (h Tmax && same_element Tmax e) 1 0
@@ -203,7 +203,7 @@ one-of-five Tmin h =
     omega (arith, nothing (h Prcp), nothing (h Snow), nothing (h Snwd), nothing (h Tmax), something (h Tmin))
 
 module _ (facts : List Fact) (e : Element) where
-  -- the series belongs to the element
+  -- the series has the element
   abbrev of_it : Usable → Bool
   of_it u = same_element u.element e
 
@@ -282,7 +282,7 @@ counts-once f b id (s ∷ ss) apart =
         or_nothing true = refl
         or_nothing false = refl
 
--- if two functions of stations differ at one alone
+-- two functions of stations that differ at one ID alone make lists that differ at its place alone
 pub changed-at : {A : Type 0} (f g : Station → A) (h : A → A) (d : A) (id : StationId) (ss : List Station) (k : ℕ)
     → IsDistinct same_id (ids ss) → position_or_len (is_station_of id) ss ≡ k → k < length ss
     → ((s : Station) → same_id s.id id ≡ false → g s ≡ f s) → ((s : Station) → same_id s.id id ≡ true → g s ≡ h (f s))
@@ -330,7 +330,7 @@ bit-set Tmin h b = rw (or_false (h Prcp), or_false (h Snow), or_false (h Snwd), 
 
 -- ---- one more line
 
--- there is one if their number isn't nothing
+-- there is one if their number isn't 0
 some-is : {A : Type 0} (xs : List A) → some xs ≡ not (length xs == 0)
 some-is [] = refl
 some-is (x ∷ xs) = sym (ap not (not_zero (length xs)))

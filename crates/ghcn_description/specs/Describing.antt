@@ -34,7 +34,7 @@ use Rattle.ghcn_description.specs.Steps.{CountsMonth, has_day}
 
 -- ---- lines
 
--- some fact belongs to this station and element
+-- some fact is about this station and element
 abbrev pub has_fact : List Fact → StationId → Element → Bool
 has_fact facts id e = list_any (λ f. same_id f.id id && same_element f.element e) facts
 

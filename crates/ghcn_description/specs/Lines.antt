@@ -11,7 +11,7 @@ use Rattle.ghcn_files.specs.Elements.{same_element}
 use Rattle.ghcn_series.specs.DailyFaults.{FileLine, month_on, is_listed}
 use Rattle.ghcn_series.specs.LineKinds.{has_element}
 
--- the month belongs to a listed station and to this element
+-- the month's station is listed, and its element is this one
 abbrev pub is_listed_of : List Station → Element → Month → Bool
 is_listed_of stations e m = is_listed stations m.id && same_element m.element e
 

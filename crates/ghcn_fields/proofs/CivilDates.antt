@@ -143,7 +143,7 @@ civil-date_of day is =
       );
     }
 
--- dates with as many days before them belong to one year
+-- dates with the same number of days before them are in the same year
 same_year : (y m d y₂ m₂ d₂ : ℕ) → IsCivilDate (pos y) m d → IsCivilDate (pos y₂) m₂ d₂
     → day_count (pos y) m d ≡ day_count (pos y₂) m₂ d₂ → y ≡ y₂
 same_year y m d y₂ m₂ d₂ p q e = grind (arith, signed_arith, day_count-lt_year)

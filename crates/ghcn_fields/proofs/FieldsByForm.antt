@@ -25,7 +25,7 @@ abbrev pub by_form : List ℕ → Field
 by_form bytes =
     field_by_form (is_number_form bytes) (list_any is_minus bytes) (digits_behind 0 bytes) (is_blank bytes)
 
--- after a digit, or a minus, come digits alone
+-- after a digit, or a minus, only digits come
 digits_from : (c : ℕ) (bytes : List ℕ) → (is_ascii_digit c ≡ true
     → is_number_form (c ∷ bytes) ≡ list_all is_ascii_digit (c ∷ bytes))
     → (is_ascii_digit c && is_number_form (c ∷ bytes)) ≡ list_all is_ascii_digit (c ∷ bytes)
@@ -37,7 +37,7 @@ digits_on : (b : ℕ) (bytes : List ℕ) → is_ascii_digit b ≡ true
 digits_on b [] d = rw d refl
 digits_on b (c ∷ bytes) d = let more = digits_on c bytes in grind (arith, nat_tests)
 
--- if digits are alone they write their number, and there isn't a minus
+-- digits alone write their number
 digits_behind-digits : (n : ℕ) (bytes : List ℕ) → list_all is_ascii_digit bytes ≡ true
     → digits_behind n bytes ≡ digits_value_after 10 n bytes
 digits_behind-digits n [] all = refl

@@ -15,7 +15,7 @@ digit_of b = if is_ascii_digit b then b - 48 else 0
 abbrev pub may_precede : ℕ → ℕ → Bool
 may_precede b next = (b == blank_byte) || ((is_ascii_digit b || (b == 45)) && is_ascii_digit next)
 
--- blanks, an optional minus, and digits to the end, by what is side by side
+-- blanks, an optional minus, and digits to the end, by which bytes are side by side
 abbrev pub is_number_form : List ℕ → Bool
 is_number_form [] = false
 is_number_form (b ∷ []) = is_ascii_digit b

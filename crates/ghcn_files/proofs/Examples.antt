@@ -145,8 +145,7 @@ record_fields : (listed whole_record ≡ Ok (station_of whole_record ∷ []))
     × ((station_of whole_record).name ≡ codes "ABCDEFGHIJKLMNOPQRSTUVWXYZ0123")
 record_fields = (refl, refl, refl, refl, refl, refl)
 
--- of two errors of a line the one of the earlier test is reported: length, ID, latitude, longitude, elevation, and last
--- a repeated ID
+-- of two errors of a line that of the earlier test is reported: length, ID, latitude, longitude, elevation, repeated ID
 earlier_test : (listed (codes "ZZA0000 001  10.0000   20.000") ≡ Err (StationLine 1 station.Short))
     × (listed (codes "ZZA0000 001  91.0000   20.0000") ≡ Err (StationLine 1 station.BadId))
     × (listed (codes "ZZA00000001  91.0000  181.0000") ≡ Err (StationLine 1 station.BadLatitude))

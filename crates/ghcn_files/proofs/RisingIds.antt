@@ -166,7 +166,7 @@ last_below : (ss : List Station) (id : StationId) (d : Station) → 0 < length s
 last_below ss id d some behind =
     ap (λ (o : Option Station). is_past o id) (sym (slice_get-get_or ss (length ss - 1) d (omega arith))) ∙ behind
 
--- an ID after all that rise is none of theirs
+-- an ID after all that rise isn't one of theirs
 pub place-behind : (ss : List Station) (id : StationId) → Rise ss → is_behind ss id ≡ true → place_of ss id ≡ None
 place-behind ss id rise behind = no_place_by ss id (λ k d lt.
     let last : Station = get_or ss (length ss - 1) d in

@@ -118,7 +118,7 @@ first-step day i k w vs false v is none lt same =
     (subst (λ (u : ℕ). HasFirst day (i + 1) u (set vs i (pos 0))) (sym (or_zero_r w))
     (first-passed day i w vs is lt none))
 
--- a place of zeros has 0
+-- zeros have 0 at each place
 zero_at : (n j : ℕ) → get_or (replicate n (pos 0)) j (pos 0) ≡ pos 0
 zero_at zero j = refl
 zero_at (suc n) zero = refl

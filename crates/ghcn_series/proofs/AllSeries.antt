@@ -104,7 +104,7 @@ from_gatherings id (g ∷ gs) ready =
       | false ↦ λ is. (is_series id g _ ready.0 is refl, from_gatherings id gs ready.1)
     ] refl
 
--- ---- no two series belong to one station and element
+-- ---- no two series have the same station and element
 
 -- the series of one element is none of those of the others
 others_apart : (facts : List Fact) (s : Station) (e : Element) (es : List Element)
@@ -134,7 +134,7 @@ ids_apart facts u (s ∷ ss) other =
     each-append (λ v. same_series u v ≡ false) (map (usable_of facts s) elements) (all_said facts ss)
     (each Prcp, (each Snow, (each Snwd, (each Tmax, (each Tmin, tt))))) (ids_apart facts u ss other.1)
 
--- if no ID is listed twice, no two of all series belong to one station and element
+-- if no ID is listed twice, no two of all series have the same station and element
 pub stations_apart : (facts : List Fact) (ss : List Station) → IsDistinct same_id (ids ss)
     → IsDistinct same_series (all_said facts ss)
 unfolding IsDistinct

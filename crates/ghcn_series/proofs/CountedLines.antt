@@ -27,7 +27,7 @@ use Rattle.ghcn_series.proofs.FedLines.{daily_lines-one}
 
 -- ---- odd lines
 
--- the place of the first of two lines, if the first may be absent
+-- the place of the first of two lines, of which the first may be absent
 first_place : (first : Option FileLine) (l : FileLine)
     → option_map place_of (option_or first (Some l)) ≡ option_or (option_map place_of first) (Some (place_of l))
 first_place None l = refl
@@ -167,7 +167,7 @@ odd_alone false true f is = absurd cc
 odd_alone false false true is = absurd cc
 odd_alone false false false is = (refl, (refl, refl))
 
--- so it belongs to a line of this kind
+-- so it is with a line of this kind
 pub blank_kind : (line : List ℕ) → Blank ≡ line_kind line
     → (is_blank line ≡ true) × ((has_element line ≡ false) × (is_odd line ≡ false))
 blank_kind line is = blank_alone (is_blank line) (has_element line) (has_form line) is (blank_line line)

@@ -64,11 +64,11 @@ parts_of m false (Some n) (Some v) d e =
 pub is_day_of : (m : Month) (j : ℕ) (r : Reading) (d : DayValue) → usable_day m (j, r) ≡ Some d → IsDayOf m j d.0
 is_day_of m j r d e = (parts_of m r.flagged (day_number m.year m.month j) r.value d e).0
 
--- each of these days belongs to the month, from a place on
+-- each of these days is in the month, from a place on
 abbrev AreFrom : Month → ℕ → List ℤ → Type 0
 AreFrom m low days = AllByRecursion (λ n. (j : ℕ) × (low ≤ j) × IsDayOf m j n) days
 
--- the usable days of readings from a place on belong to such places
+-- the usable days of readings from a place on are at such places
 usable_from : (m : Month) (low : ℕ) (rs : List Reading)
     → AreFrom m low (keys_of (filter_map (usable_day m) (enumerate_from low rs)))
 usable_from m low [] = tt

@@ -188,8 +188,7 @@ not_twice : data_of both (text (line (codes "ZZA00000001202007TMAX") gap ∷ lin
 unfolding days_of_group
 not_twice = refl
 
--- of two errors of a line its own is reported, and of two lines the first; a line of an unlisted station has to be
--- right
+-- of two errors of a line its own is reported, of two lines the first; lines of unlisted stations have to be right
 first_told : (data_of both (text (warm (codes "ZZA00000001202007TMAX")
     ∷ line (codes "ZZA00000001202007TMAX") (codes "    x   ") ∷ []) ∷ []) ≡ Err (DailyLine 1 2 (Line (why.BadValue 1))))
     × (data_of both (text (warm (codes "ZZA00000001202007TMAX") ∷ warm (codes "ZZA00000001202007TMAX")
@@ -276,7 +275,7 @@ pieces : (files_of begun ≡ []) × (files_of (more begun []) ≡ [])
     × (files_of (more (more begun (codes "ab")) (codes "c")) ≡ codes "abc" ∷ [])
 pieces = (refl, refl, refl)
 
--- a file that was ended counts if it is empty too, and what comes then belongs to the next one
+-- a file that was ended counts even if it is empty, and what comes then belongs to the next one
 ended : (files_of (with_end begun) ≡ [] ∷ [])
     × (files_of (more (with_end (more begun (codes "ab"))) (codes "c")) ≡ codes "ab" ∷ codes "c" ∷ [])
     × (files_of (with_end (more (with_end (more begun (codes "ab"))) (codes "c"))) ≡ codes "ab" ∷ codes "c" ∷ [])

@@ -21,7 +21,7 @@ use Rattle.ghcn_series.specs.Says.{Fact, fact_of, fact_if, facts_of, is_usable}
 use Rattle.ghcn_series.specs.Gathered.{counted_day, usable_day, usable_days, months_of}
 use Rattle.ghcn_files.proofs.IdLaws.{same_id-is}
 
--- a fact belongs to its month's station and element
+-- a fact has its month's station and element
 abbrev pub OfMonth : Month → Fact → Type 0
 OfMonth m f = (f.id ≡ m.id) × (f.element ≡ m.element)
 
@@ -34,7 +34,7 @@ of_month m false (Some n) (Some v) f e =
     subst (OfMonth m) (same_Some (record { id = m.id; element = m.element; day = n; value = v }) f e) (refl, refl)
 
 module _ (stations : List Station) (id : StationId) (e : Element) where
-  -- the fact belongs to this station and element
+  -- the fact has this station and element
   abbrev is_of : Fact → Bool
   is_of f = same_id f.id id && same_element f.element e
 
@@ -64,7 +64,7 @@ module _ (stations : List Station) (id : StationId) (e : Element) where
   none_selected true f fs of = ap (λ b. map pair (cond b (f ∷ filter is_of fs) (filter is_of fs))) of
   none_selected false f fs of = refl
 
-  -- a fact belongs to a station and element if its month does
+  -- a fact has a station and element if and only if its month does
   is_of-month : (m : Month) (f : Fact) → OfMonth m f → is_of f ≡ (same_id m.id id && same_element m.element e)
   is_of-month m f of = rw (of.0, of.1) refl
 

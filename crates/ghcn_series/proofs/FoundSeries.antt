@@ -75,7 +75,7 @@ module _ (facts : List Fact) where
     abbrev pub series_made : Usable
     series_made = record { id = id; element = e; days = days_of facts id e }
 
-    -- whatever belongs to the station and element is its series
+    -- whatever series has the station and element is this one
     abbrev IsTheOne : Usable → Type 0
     IsTheOne u = is_series_of id e u ≡ true → u ≡ series_made
 

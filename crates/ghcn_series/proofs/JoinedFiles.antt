@@ -128,17 +128,17 @@ pub none_in : {X : Type 0} (xs : List X) → (length xs == 0) ≡ true → xs �
 none_in [] e = refl
 none_in (x ∷ xs) e = absurd (omega (arith, eqb-true (length (x ∷ xs)) 0 e))
 
--- days of which none is in their order are no days
+-- if no days are left in order, there were none
 none_sorted : (xs : List DayValue) → not (length (sorted_by by_day xs) == 0) ≡ false → xs ≡ []
 none_sorted xs e =
     none_in xs (ap (λ (n : ℕ). n == 0) (sym (length-sorted xs)) ∙ not-false (length (sorted_by by_day xs) == 0) e)
 
--- days before which there are none
+-- without first days, the days in order are the last ones
 pub joined-left : (xs ys : List DayValue) → not (length (sorted_by by_day xs) == 0) ≡ false
     → sorted_by by_day (xs ++ ys) ≡ sorted_by by_day ys
 joined-left xs ys none = ap (λ (l : List DayValue). sorted_by by_day (l ++ ys)) (none_sorted xs none)
 
--- and the last ones
+-- and without last days, the first ones
 pub joined-right : (xs ys : List DayValue) → not (length (sorted_by by_day ys) == 0) ≡ false
     → sorted_by by_day (xs ++ ys) ≡ sorted_by by_day xs
 joined-right xs ys none =

@@ -71,7 +71,7 @@ same_series-turned a b =
     elements_turned : (e f : Element) → same_element e f ≡ same_element f e
     elements_turned e f = nat_eq_equiv.symm (element_index e) (element_index f)
 
--- whatever the facts, the series belongs to the same station and element
+-- whatever the facts, the series has the same station and element
 said_alike : (x : Place) (f g : List Fact) → same_series (said_at f x) (said_at g x) ≡ true
 said_alike x f g =
     and_from (same_id x.0.id x.0.id) (same_element x.1 x.1) (same_id-refl x.0.id)
@@ -104,7 +104,7 @@ module _ (stations : List Station) where
       ap (λ (l : List Usable). l ++ all_their_series (map (contents_in stations) parts)) (series_held p)
       ∙ ap (λ (l : List Usable). series_said (facts_in stations p) ++ l) (all_series_held parts)
 
-  -- if no two series of all parts belong to one station and element, those of all files are these
+  -- if no two series of all parts have the same station and element, those of all files are these
   series_together : (parts : List (List (List ℕ)))
       → IsDistinct same_series (all_their_series (map (contents_in stations) parts))
       → IsPermutation (all_their_series (map (contents_in stations) parts))

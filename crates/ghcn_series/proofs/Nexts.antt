@@ -58,7 +58,7 @@ block-nonempty b some fits =
 not_zero : (k : ℕ) → 0 < k → (k == 0) ≡ false
 not_zero k some = grind (arith, nat_tests)
 
--- blocks have no day if there is no block
+-- blocks have no day if and only if there is no block
 pub no-days : (ns : List ℤ) (ws : List ℕ) (vs : List (List ℤ)) → AreBlocks ns ws vs
     → (length ns == 0) ≡ (length (days_of_blocks (blocks_of ns ws vs)) == 0)
 no-days [] ws vs bs = refl

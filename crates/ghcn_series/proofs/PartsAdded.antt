@@ -85,7 +85,7 @@ module _ (ns : List ℤ) (ws : List ℕ) (vs : List (List ℤ)) (i p : ℕ) (u r
   old_packed : IsPacked old
   old_packed = packed-at ns ws vs is.blocks i (omega (arith, is.last))
 
-  -- no day belongs to both
+  -- no day is in both
   apart : AreApart (get_or ws i 0) p
   apart = record {
     apart = λ j lt mine other.

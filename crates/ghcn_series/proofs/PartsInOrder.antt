@@ -174,7 +174,7 @@ some-day b some fits =
     ∙ ap (λ (k : ℕ). if_so (k == 1) v) lowest.1 in
     (block_start b.0 +ℤ pos j, block-of_place b.0 j lowest.0, subst IsSome (sym has) refl)
 
--- if no day belongs to a later block, the last number is no greater
+-- if no day is in a later block, the last number is no greater
 last-le : (p : Parts) (n : ℤ) → AreParts p → ((d : ℤ) → IsSome (value_on (days_held p) d) → block_of d ≤ℤ n)
     → 0 < length p.numbers.items → last_number p ≤ℤ n
 last-le p n is below some =

@@ -135,11 +135,11 @@ some_read true e line m is = absurd cc
 some_read false None line m is = absurd cc
 some_read false (Some x) line m is = refl
 
--- so it belongs to a line
+-- so it is with a line
 pub other_code : (line : List ℕ) → read_month line ≡ Ok None → false ≡ has_element line
 other_code line is = sym (none_read (nat_lt (length line) 21) (element_of (columns 18 21 line)) line is)
 
--- and of a line of a month
+-- and with a line of a month
 pub element_code : (line : List ℕ) (m : Month) → read_month line ≡ Ok (Some m) → true ≡ has_element line
 element_code line m is = sym (some_read (nat_lt (length line) 21) (element_of (columns 18 21 line)) line m is)
 

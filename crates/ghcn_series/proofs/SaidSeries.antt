@@ -42,7 +42,7 @@ module _ (id : StationId) (e : Element) where
   abbrev fact_on : ℤ → ℤ → Fact
   fact_on day value = record { id = id; element = e; day = day; value = value }
 
-  -- a fact belongs to the station and element
+  -- a fact has the station and element
   abbrev is_theirs : Fact → Bool
   is_theirs f = same_id f.id id && same_element f.element e
 

@@ -25,7 +25,7 @@ pub record HaveCounted (c : LineCounts) (ended : List (List ℕ)) (whole : List 
 abbrev pub with_odd : OddLines → LinePlace → OddLines
 with_odd odd place = record { count = odd.count + 1; first = option_or odd.first (Some place) }
 
--- a line of the current file, which is at a place, is counted
+-- a line of the current file, at a place, is counted
 pub record CountsLine (old new : LineCounts) (place : LinePlace) (line : List ℕ) : Type 0 where
   pub number : new.lines ≡ old.lines
   pub blank : new.blank ≡ old.blank + (if is_blank line then 1 else 0)

@@ -34,7 +34,7 @@ file_line file l = record { file = file; line = l.0; bytes = l.1 }
 abbrev pub not_blank : ℕ → List (ℕ × List ℕ) → List FileLine
 not_blank file ls = map (file_line file) (filter (λ l. not (is_blank l.1)) ls)
 
--- a line of a file, given as it is before its line feed, unless it is blank
+-- a line of a file, given by the bytes before its line feed, unless it is blank
 abbrev pub one_line : ℕ → ℕ → List ℕ → List FileLine
 one_line file line bytes = not_blank file ((line, strip_carriage_return bytes) ∷ [])
 
@@ -55,7 +55,7 @@ month_if_ok (Err why) = None
 abbrev pub month_on : FileLine → Option Month
 month_on l = month_if_ok (read_month l.bytes)
 
--- two months belong to one station, element, year and month
+-- two months have the same station, element, year and month
 abbrev pub same_month : Month → Month → Bool
 same_month a b = same_id a.id b.id && same_element a.element b.element && (a.year == b.year) && (a.month == b.month)
 

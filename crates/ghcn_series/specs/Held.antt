@@ -9,11 +9,11 @@ use Rattle.ghcn_files.specs.Listed.{AreListed}
 use Rattle.ghcn_series.specs.Series.{Usable, Contents, IsSeries}
 use Rattle.ghcn_series.specs.DailyFaults.{is_listed}
 
--- two series belong to one station and element
+-- two series have the same station and element
 abbrev pub same_series : Usable → Usable → Bool
 same_series a b = same_id a.id b.id && same_element a.element b.element
 
--- what is true of the series of listed stations: no two belong to one station and element, and each belongs to a listed
+-- what is true of the series of listed stations: no two have the same station and element, and each belongs to a listed
 -- station and is right by itself
 pub record AreSeries (stations : List Station) (series : List Usable) : Type 0 where
   pub distinct : IsDistinct same_series series
@@ -25,7 +25,7 @@ pub record IsContents (held : Contents) : Type 0 where
   pub listed : AreListed held.stations
   pub series : AreSeries held.stations held.series
 
--- the series belongs to this element
+-- the series has this element
 abbrev pub is_of_element : Element → Usable → Bool
 is_of_element e u = same_element u.element e
 

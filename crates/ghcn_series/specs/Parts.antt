@@ -37,7 +37,7 @@ pub record AreParts (p : Parts) : Type 0 where
 abbrev pub AreJoined : List DayValue → List DayValue → List DayValue → Type 0
 AreJoined old more new = (d : ℤ) → value_on new d ≡ option_or (value_on old d) (value_on more d)
 
--- at a place at which one of two rows is 0 the third has the other's value
+-- if one of two rows is 0 at a place, the third has the other's value there
 pub record JoinsAt (a b new : List ℤ) (j : ℕ) : Type 0 where
   pub second : get_or a j (pos 0) ≡ pos 0 → get_or new j (pos 0) ≡ get_or b j (pos 0)
   pub first : get_or b j (pos 0) ≡ pos 0 → get_or new j (pos 0) ≡ get_or a j (pos 0)

@@ -4,7 +4,7 @@ ghost use Rattle.ghcn_series.specs.Laws as laws;
 
 /// If a station list has no error, its stations are right: no ID is listed twice, there are at most
 /// 2^20, and each has its fields in their ranges. If the daily files have no error either, what they
-/// hold of these stations is right: no two series belong to one station and element, and each series
+/// hold of these stations is right: no two series have the same station and element, and each series
 /// belongs to a listed station and has a day; its days rise, and its values are in the range of its
 /// element.
 pub fn data_are_right()

@@ -31,7 +31,7 @@ module _ (word n ends : ℕ) (are : AreEnds word n ends) (fits : ends < 2 ^ 32) 
   abbrev next : ℕ
   next = bit_and ends (ends * 2 ^ 1 % 2 ^ 32)
 
-  -- a bit is set if it was and if the one before it was
+  -- a bit is set if it was set, and the one before it too
   next-bit : (j k : ℕ) → j ≡ k + 1 → j < 32 → bit_at next j ≡ min (bit_at ends j) (bit_at ends k)
   next-bit j k is lt = bit_at_and ends (ends * 2 ^ 1 % 2 ^ 32) j
       ∙ ap (min (bit_at ends j)) (ap (bit_at (ends * 2 ^ 1 % 2 ^ 32)) is ∙ moved-up ends k (omega arith))

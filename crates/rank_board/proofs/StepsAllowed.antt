@@ -25,7 +25,7 @@ module _ {S : Type 0} (o : Opening) (slots id : ℕ) (me : Me S View) where
       × Keeps o (stepped s word (f (get_or s.words word 0)) id me.1 w a)
       × then (get_or s.words word 0) (w, carried_after me.1 a)
 
-  -- a claim if the words and the views are these
+  -- a claim while the words and the views are these
   claims_at : 0 < me.0.rights → (homes : List (Maybe S)) (views : List View) → get_elem? views id ≡ some me.0
       → (words : List ℕ) → AreWordsOf o words views
       → MayStep record { words = words; homes = homes; views = views } 0 (λ n. (n + 1) % 2 ^ 64)
@@ -52,7 +52,7 @@ module _ {S : Type 0} (o : Opening) (slots id : ℕ) (me : Me S View) where
       (claim_step r (step slots 0 1 0 none) me)) e
       (λ s k _ at _. claims_at right s.homes s.views at s.words k)
 
-  -- a look if the words and the views are these
+  -- a look while the words and the views are these
   looks_at : (homes : List (Maybe S)) (views : List View) → get_elem? views id ≡ some me.0 → (words : List ℕ)
       → AreWordsOf o words views
       → MayStep record { words = words; homes = homes; views = views } 1 (λ n. n) (look_step (step slots 1 0 0 none) me)
@@ -77,7 +77,7 @@ module _ {S : Type 0} (o : Opening) (slots id : ℕ) (me : Me S View) where
   pub look_allowed : Allows (Keeps o) slots id me 1 (λ n. n) (look_step (step slots 1 0 0 none) me)
   look_allowed s k _ at _ = looks_at s.homes s.views at s.words k
 
-  -- a raise if the words and the views are these
+  -- a raise while the words and the views are these
   raises_at : (x : ℕ) → 2 ^ 31 ≤ x → x ≤ 2 ^ 32 + 2 ^ 31 → 0 < length me.0.claims
       → (homes : List (Maybe S)) (views : List View) → get_elem? views id ≡ some me.0 → (words : List ℕ)
       → AreWordsOf o words views
@@ -101,7 +101,7 @@ module _ {S : Type 0} (o : Opening) (slots id : ℕ) (me : Me S View) where
   raise_allowed x score e real drew s k _ at _ = let limits = score_word-limits score real in
       raises_at x (omega (arith, limits.0)) (omega (arith, limits.1)) drew s.homes s.views at s.words k
 
-  -- a load if the words and the views are these
+  -- a load while the words and the views are these
   counts_at : (homes : List (Maybe S)) (views : List View) → get_elem? views id ≡ some me.0 → (words : List ℕ)
       → AreWordsOf o words views
       → MayStep record { words = words; homes = homes; views = views } 0 (λ n. n)
@@ -119,7 +119,7 @@ module _ {S : Type 0} (o : Opening) (slots id : ℕ) (me : Me S View) where
   count_allowed s k _ at _ = counts_at s.homes s.views at s.words k
 
 module _ (o : Opening) (id : ℕ) (v : View) where
-  -- a split if the words and the views are these
+  -- a split while the words and the views are these
   splits_at : (part : ℕ) → part ≤ v.rights → (views : List View) → get_elem? views id ≡ some v → (words : List ℕ)
       → AreWordsOf o words views
       → AreWordsOf o words (set views id (kept_view part v) ++ handed_view part v ∷ [])
@@ -128,7 +128,7 @@ module _ (o : Opening) (id : ℕ) (v : View) where
   splits_at part enough views at (n ∷ f ∷ m ∷ ms) k = absurd k
   splits_at part enough views at (n ∷ f ∷ []) k = split_kept o.rights o.guess n f views k id v at part enough
 
-  -- a join if the words and the views are these
+  -- a join while the words and the views are these
   joins_at : (other : ℕ) (w : View) (views : List View) → get_elem? views id ≡ some v → ¬ (other ≡ id)
       → get_elem? (set views id (joined_view v w)) other ≡ some w
       → (words : List ℕ) → AreWordsOf o words views → AreWordsOf o words

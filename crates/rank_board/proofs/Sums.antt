@@ -5,7 +5,7 @@ use mathlib.Core.Option.{some, some-injective, some-ne-none}
 use lib.ListN.{get_elem?}
 
 module _ {A : Type 0} (g : A → ℕ) where
-  -- w is in the place of v
+  -- w takes the place of v
   pub sum_by-replaced : (l : List A) (i : ℕ) (v w : A) → get_elem? l i ≡ some v
       → sum_by g (set l i w) + g v ≡ sum_by g l + g w
   sum_by-replaced [] i v w at = absurd (some-ne-none v (sym at))

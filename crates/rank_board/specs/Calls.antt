@@ -67,8 +67,7 @@ pub record Joins (before other after : Seat) : Type 0 where
   pub seen : seen_of after ≡ seen_of before ++ seen_of other
   pub all_rights : rights_of after ≡ rights_of before + rights_of other
 
--- the board's rule held of the next number and the floor that were returned, and of what all seats knew, this one among
--- them
+-- the board's rule held of the next number and the floor that were returned, and of what all seats, this one too, knew
 abbrev pub ClosesUnderRule : Board → Seat → Closed → Type 0
 ClosesUnderRule b s c = (views : List View) × (place : ℕ) × (get_elem? views place ≡ some s.inner.me.0)
     × IsRuled (opened b) (guess_of b) c.next (floor_word c.floor) views

@@ -63,7 +63,7 @@ first_failing-append (t ∷ ts) us =
       | false ↦ refl
     ]
 
--- none of two lists fails if none of either does
+-- if none of two lists fails, none of either does
 none_of_first : (ts us : List Test) → first_failing (ts ++ us) ≡ None → first_failing ts ≡ None
 none_of_first [] us e = refl
 none_of_first (t ∷ ts) us e =

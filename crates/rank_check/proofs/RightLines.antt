@@ -62,7 +62,7 @@ score_to (Some a) = (Decides-int_eq a a).1 refl
 
 -- ---- entries
 
--- what is skipped if the test passes
+-- what is skipped is below, if the test passes
 pub below_from : (skipped low : Bool) → (not skipped || low) ≡ true → skipped ≡ true → low ≡ true
 below_from true low e f = e
 below_from false low e f = absurd cc

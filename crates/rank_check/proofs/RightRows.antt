@@ -82,7 +82,7 @@ taken-enough k n xs low e = by (nat_le k n) refl e
         let short : length xs ≤ n = leb-true (length xs) n g in
         take_all n xs short ∙ sym (take_all k xs (omega arith))
 
--- and so it is if some are those that are taken
+-- and one of these is true if n is the number of the first k
 enough-taken : {X : Type 0} (k n : ℕ) (xs : List X) → n ≡ length (take k xs)
     → (nat_le k n || nat_le (length xs) n) ≡ true
 enough-taken k n xs e =

@@ -9,8 +9,7 @@ use Rattle.rank_papers.specs.Certificate.{IsCertificate}
 use Rattle.rank_check.specs.declared.verdict.Verdict.TheVariants.{Accepted}
 use Rattle.rank_check.specs.Tests.{verdict}
 
--- a report and a certificate are accepted if and only if the report is the right one, and the certificate is a right
--- one
+-- a report and a certificate are accepted if and only if the report is the right one and the certificate a right one
 abbrev pub AcceptedWhereRight : Type 0
 AcceptedWhereRight = (q : Asked) (c : Contents) (report certificate : List ℕ) → IsAsked q → IsContents c →
     (verdict q c report certificate ≡ Accepted) ↔ (IsReport q c report × IsCertificate q c certificate)

@@ -23,8 +23,8 @@ use rank_query::Query;
 use rank_scores::candidates_of_queries;
 use std::alloc::Global;
 
-/// The verdict of the first test that fails, after one pass over the data, if the report belongs to
-/// this query.
+/// The verdict of the first test that fails, after one pass over the data, if the report has this
+/// query.
 pub(crate) fn judge(
     alloc: Global,
     dataset: &Data,

@@ -60,7 +60,7 @@ gathers_one b t w before after h hs e k =
           (there (seen_of before) (seen_of after) (seen_in (exchanges_in t h)) k.seen);
     })
 
--- the same if there may have been out of memory
+-- the same if memory may have run out
 pub gathers_if_one : {V E : Type 0} (items : V → List Haul) (b : Board) (t : Task) (w : ℕ) (before after : Seat)
     (h : Haul) (hauls : Result V E) → IfOk hauls (λ v. items v ≡ h ∷ []) → Works b t w before after h
     → IfOk hauls (λ v. BringHome b t w 1 before after (items v))
@@ -102,7 +102,7 @@ module _ (b : Board) (t : Task) (from after_from m k workers part : ℕ) (seat k
             q.seen;
       })
 
-  -- the same if each may have met out of memory
+  -- the same if memory may have run out in each
   pub both_groups : {V E : Type 0} (items : V → List Haul) (first second all : Result V E)
       → IfOk all (λ v. IsOkAnd first (λ a. IsOkAnd second (λ c. items v ≡ items a ++ items c)))
       → IfOk first (λ v. BringHome b t from m kept mid (items v))

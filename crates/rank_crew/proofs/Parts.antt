@@ -55,7 +55,7 @@ part-both xs from middle to low high =
     (drop_both xs from (middle - from) middle (omega arith))
     ∙ take_both (drop from xs) (middle - from) (to - middle) (to - from) (omega arith)
 
--- the same if each may have met out of memory
+-- the same if memory may have run out in each
 pub both_parts : {A V E : Type 0} (items : V → List A) (xs : List A) (from middle to : ℕ)
     (first second all : Result V E) → from ≤ middle → middle ≤ to
     → IfOk all (λ v. IsOkAnd first (λ a. IsOkAnd second (λ b. items v ≡ items a ++ items b)))

@@ -61,7 +61,7 @@ module _ (b : Board) (t : Task) (guess : Option ℤ) (workers rights : ℕ) (beg
           under_floor = ends.2;
         })
 
-  -- the same if there may have been out of memory
+  -- the same if memory may have run out
   pub is_end_if : {V E : Type 0} (items : V → List Haul) (r : Result V E)
       → IfOk r (λ v. BringHome b t 0 workers begin after (items v)) → IfOk r (λ v. IsEnd t guess workers (items v))
   is_end_if items (Ok v) g = is_end (items v) g

@@ -1,7 +1,7 @@
 //! The workers of a query in threads: they measure its stations, and then each draws morsels from a
 //! board and returns a haul.
 //!
-//! `extremes` runs them. The crate returns the plan of a query, and a crew's answer.
+//! `extremes` runs them. The crate makes the plan of a query, and a crew's answer.
 #![tactic(auto)]
 
 mod both;

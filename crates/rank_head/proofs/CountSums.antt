@@ -1,4 +1,4 @@
--- The counts of lines whose IDs rise add up to the number of rows, if each row belongs to a line that was scanned.
+-- The counts of lines whose IDs rise add up to the number of rows, if each row's series was scanned.
 use Rattle.std.proofs.Common.{◌≡◌, ℕ, ◌+◌, Bool, true, false, cond, not, List, [], ◌∷◌, length, map}
 use Rattle.std.proofs.Common.{refl, sym, ap, ◌∙◌, subst, arith, ◌||◌}
 use Rattle.std.specs.Prelude.{◌&&◌}

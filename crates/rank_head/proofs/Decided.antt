@@ -89,7 +89,7 @@ module _ (q : Asked) (r : Reported) (z : Certified) where
   other_certificate e f =
       first_fails of_certificate behind f ∙ sym (first_passes of_report (of_certificate ∷ behind) e)
 
-  -- a report and a certificate of the query are left to the tests after
+  -- a report and a certificate of the query are left to the later tests
   pub behind_queries : same_query r.query q ≡ true → same_query z.query q ≡ true
       → head_fault q r z
       ≡ first_failing (place_tests q r.rows z.kth z.entries ++ count_tests r.rows z.entries z.counts)

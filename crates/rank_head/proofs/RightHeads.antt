@@ -33,7 +33,7 @@ both_none : (o p : Option HeadFault) → option_or o p ≡ None → (o ≡ None)
 both_none None p e = (refl, e)
 both_none (Some w) p e = absurd cc
 
--- none of the tests of two lists fails if none of either does
+-- if none of the tests of two lists fails, none of either does
 pub none_of : (ts us : List HeadTest) → first_failing (ts ++ us) ≡ None
     → (first_failing ts ≡ None) × (first_failing us ≡ None)
 none_of ts us e = both_none (first_failing ts) (first_failing us) (sym (first_failing-append ts us) ∙ e)

@@ -13,8 +13,8 @@ use Rattle.rank_head.specs.HeadTests.{neighbours, of_rows, same_query, IdsRise, 
 abbrev pub AreInOrder : List Named → Type 0
 AreInOrder rows = AllByRecursion (λ two. precedes two.0.0 two.1.0 ≡ true) (neighbours rows)
 
--- both belong to the query, the rows are in order, the k-th score is that of the rows, the IDs of the lines rise, each
--- row belongs to a series that was scanned, and the counts of the version are those of the rows
+-- both have the query, the rows are in order, the k-th score is that of the rows, the IDs of the lines rise, each row
+-- belongs to a series that was scanned, and the counts of the version are those of the rows
 pub record IsRightHead (q : Asked) (r : Reported) (z : Certified) : Type 0 where
   pub report : r.query ≡ q
   pub certificate : z.query ≡ q

@@ -1,5 +1,4 @@
-//! The rows of a report: their order, the k-th score, and the series that they belong to and are counted
-//! with.
+//! The rows of a report: their order, the k-th score, and the series that they belong to and count with.
 
 ghost use Rattle.std.specs.Prelude.{◌≡◌, ℕ, ◌+◌, ◌^◌, ◌<◌, true, [], ◌∷◌, map, length, replicate, slice_index};
 ghost use Rattle.std.specs.Prelude.{None, IfOk, IfSome};

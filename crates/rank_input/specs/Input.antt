@@ -86,8 +86,7 @@ abbrev pub read_unless : {A : Type 0} → Option Fault → Result A Fault → Re
 read_unless None read = read
 read_unless (Some fault) read = Err fault
 
--- what the input of a run of that many workers holds, under a guess or none, or the first error: the arguments come
--- first
+-- what the input of a run of that many workers holds, under a guess or none, or the first error, arguments first
 abbrev pub read_run : ℕ → Option ℤ → List ℕ → List ℕ → List (List ℕ) → Result (Asked × Contents) Fault
 read_run workers guess query stations files =
     read_unless (words_fault workers guess) (read_input query stations files)

@@ -1,6 +1,6 @@
 //! What a run is asked, and the files that it is given, taken piece by piece.
 //!
-//! The crate returns the query and the data of what was given, or the first error in it.
+//! The crate reads the query and the data of what was given, or finds the first error in it.
 #![tactic(auto)]
 
 mod archive;

@@ -138,7 +138,7 @@ module _ (q : Asked) (k : Option ℤ) (all : List Entry) where
   abbrev IsSeen : Candidate → Type 0
   IsSeen d = (is_scanned all d.id ≡ true) ⊎ (bound_is_below k d.score ≡ true)
 
-  -- so are those of some with an ID, if a line of it is right
+  -- so it is with all candidates of an ID, if a line of it is right
   seen_of : (e : Entry) (ds : List Candidate) → Scans all e → (e.skipped ≡ true → bound_is_below k e.bound ≡ true)
       → AllByRecursion (λ d. d.id ≡ e.id) ds → AllByRecursion (λ d. d.score ≤ℤ e.bound) ds → AllByRecursion IsSeen ds
   seen_of e [] scans passed own above = tt

@@ -223,7 +223,7 @@ module _ (q : Asked) (c : Contents) (asked : IsAsked q) (right : IsContents c) w
       in_all (candidates q) (admitted_series q c) s x in_series
       (contains-in (candidates q s) x ((exactly q s series asked x).1 is))
 
-  -- the candidates of some of the query's series belong to the query
+  -- the candidates of some of the query's series are candidates of the query
   each_of_query : (ss : List Usable) → AllByRecursion (In (admitted_series q c)) ss → AllByRecursion IsSeries ss
       → AllByRecursion (IsOfQuery q (IsHeldSeries q c)) (flat_map (candidates q) ss)
   each_of_query [] are series = tt

@@ -28,7 +28,7 @@ use Rattle.rank_papers.proofs.FoundPapers.{report-moved, certificate-moved, turn
 listed_is : (stations : List Station) (st : Station) → In stations st → is_listed stations st.id ≡ true
 listed_is stations st h = in_any (is_station_of st.id) stations st h (same_id-laws.refl st.id)
 
--- a series that is found belongs to the station and element
+-- a series that is found has the station and element
 is_of_both : (c : Contents) (id : StationId) (e : Element) (s : Usable) → series_of c id e ≡ Some s
     → (s.id ≡ id) × (s.element ≡ e)
 is_of_both c id e s found =

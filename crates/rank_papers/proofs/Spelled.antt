@@ -169,7 +169,7 @@ row_spelled rank id first last value unit name line eleven ten ten_too id_is fir
     last_is
     ∙ ap (λ (t : Bool). has_front rank line && t) (back_first value unit name line (length rank + 35))
 
--- whether a line is that of the row that was cut out of it follows from what is in each place
+-- a line is that of the row that was cut out of it if and only if it has these at its front and at its back
 pub line_spelled : (q : Asked) (rank line value unit : List ℕ) (row : Named)
     → Some row ≡ row_in_columns q (length rank) line
     → value ≡ value_text (measure_of_score q.score) (value_of q.score row.0.score)

@@ -157,7 +157,7 @@ magnitude_fits z h = grind (arith, ints)
 negated_fits : (z : ℤ) → FitsSigned w64 z → unsigned_abs (neg_ℤ z) < 2 ^ 64
 negated_fits z h = grind (arith, ints)
 
--- the value of a score has a magnitude
+-- so has the value of such a score
 pub value_fits : (s : Score) (z : ℤ) → FitsSigned w64 z → unsigned_abs (value_of s z) < 2 ^ 64
 value_fits (Highest e) z h = magnitude_fits z h
 value_fits (Lowest e) z h = negated_fits z h

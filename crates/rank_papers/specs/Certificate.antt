@@ -140,7 +140,7 @@ pub record IsCertificate (q : Asked) (c : Contents) (bytes : List ℕ) : Type 0 
     counts = counts_of version (best_of_query q c) entries;
   })
 
--- what a certificate says is right: it belongs to the query, has the k-th score, a right entry for each series, and the
+-- what a certificate says is right: it has the query, the k-th score, a right entry for each series, and the
 -- counts that its version has of the best candidates
 pub record SaysRight (q : Asked) (c : Contents) (v : Certified) : Type 0 where
   pub asked : v.query ≡ q

@@ -20,8 +20,7 @@ onto_first b (l ∷ ls) = (b ∷ l) ∷ ls
 abbrev pub before_lines : ℕ → List (List ℕ) → List (List ℕ)
 before_lines b ls = if b == 10 then (b ∷ []) ∷ ls else onto_first b ls
 
--- the lines of a report or a certificate, each with its line feed; what follows the last line feed is a line without
--- one
+-- the lines of a report or a certificate, each with its line feed; what follows the last one is a line without any
 abbrev pub paper_lines : List ℕ → List (List ℕ)
 paper_lines [] = []
 paper_lines (b ∷ bytes) = before_lines b (paper_lines bytes)

@@ -62,7 +62,7 @@ pub record IsReportOf (v : Reported) (bytes : List ℕ) : Type 0 where
 abbrev pub name_of : List Station → StationId → Option (List ℕ)
 name_of stations id = option_map (λ station. trimmed station.name) (find (is_station_of id) stations)
 
--- what a report says is right: it belongs to the query, and its rows are the best candidates with their stations' names
+-- what a report says is right: it has the query, and its rows are the best candidates with their stations' names
 pub record SaysRightReport (q : Asked) (c : Contents) (v : Reported) : Type 0 where
   pub asked : v.query ≡ q
   pub best : map (λ row. row.0) v.rows ≡ best_of_query q c

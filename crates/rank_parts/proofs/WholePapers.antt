@@ -193,7 +193,7 @@ module _ (certificates : CertificatesAreRead) (right_certificates : RightCertifi
         sum = added heads pieces q c ds said.0 told.0 asked dataset cut said.1.can_be told.1.can_be said.2 told.2;
       }
 
-  -- so they are right exactly there
+  -- so they are right if and only if all parts accept them
   pub whole : PartsMakeTheWhole
   whole q c ds report certificate asked dataset cut some = (
     right_whole q c ds report certificate asked dataset cut some,

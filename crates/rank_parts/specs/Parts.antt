@@ -82,7 +82,7 @@ missing_refused q d es =
 
 -- ---- the verdict
 
--- the refusal of a report and a certificate that were read: of the head, of the first line, or of a missing one
+-- the refusal of a report and a certificate that were read: by the head, by its first bad line, or by a missing one
 abbrev pub refused : Asked → Contents → Reported → Certified → Option PartVerdict
 refused q d r z =
     option_or (option_map refusal_of (head_fault q r z))

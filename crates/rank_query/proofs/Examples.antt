@@ -123,8 +123,7 @@ past_the_world : (read_query (codes "top 1 wet box -90.0001 0 0 0") ≡ Err (Bad
 unfolding read_query read_words keyword says number score_at no_score_at region_at season_at period_at box_at degrees
 past_the_world = (refl, refl, refl, refl, refl, refl, refl, refl, refl)
 
--- a northern edge one ten-thousandth south of the southern one, and a word that isn't a number, reported before what
--- follows
+-- a northern edge one ten-thousandth south of the southern one, and a word that isn't a number, before what follows
 turned : (read_query (codes "top 1 wet box 1 0 0.9999 181") ≡ Err (BadBox 7))
     × (read_query (codes "top 1 wet box south 0 95 0") ≡ Err (BadBox 5))
 unfolding read_query read_words keyword says number score_at no_score_at region_at season_at period_at box_at degrees
@@ -219,7 +218,7 @@ unfolding read_query read_words keyword says number score_at no_score_at region_
     days_from_civil day_count days_of_years days_of_months
 periods = (refl, refl, refl)
 
--- region, season and period are in this order
+-- region, season and period come in this order
 in_order : (read_query (codes "top 1 dry months 6..8 country ZZ") ≡ Err (UnexpectedWord 6))
     × (read_query (codes "top 1 dry from 2020-07-01 to 2020-07-01 months 6..8") ≡ Err (UnexpectedWord 8))
     × (read_query (codes "top 1 country ZZ dry") ≡ Err (UnexpectedWord 3))

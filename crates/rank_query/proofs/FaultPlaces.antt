@@ -125,7 +125,7 @@ words_fault text fault e =
     by_left text fault stops.before stops.left e words stops.parts
     (begun stops.before stops.left clean stops.on) stops.at
 
--- so does each error of a text
+-- and each error of a text is where it says
 pub fault_stands : (text : List ℕ) (fault : QueryFault) → read_query text ≡ Err fault → StandsIn text fault
 unfolding read_query
 fault_stands text fault e = elim (cases_Bool (nat_lt 256 (length text))) [

@@ -47,7 +47,7 @@ later y m d i n is within =
     ∙ within_month y m (d + i) (omega (arith, is.low)) within in
     cc
 
--- the days up to the month's last one belong to that month
+-- the days up to the month's last one are in that month
 pub same_month : (y m d : ℕ) (n e : ℤ) → day_number y m d ≡ Some n → n ≤ℤ e
     → e ≤ℤ (n +ℤ pos (days_in_month (pos y) m - d)) → (civil e).1 ≡ m
 same_month y m d n e is from to =

@@ -10,7 +10,7 @@ use Rattle.rank_query.proofs.Stops.{Reading, then, GoesOn, IsWordOf, Stops, Stop
 use Rattle.rank_query.proofs.Stops.{bind_err, Follows, same_follows, on_follows, stops_follows, stops_behind}
 use Rattle.rank_query.proofs.Stops.{stops_word, stops_end, takes_behind}
 
--- a word's value is good, a word without one is named by its number, and some word has a value
+-- a word's value is good, the error of a word without one names the word's number, and some word has a value
 pub record ReadsWord (A : Type 0) (Good : A → Type 0) (value : Word → Result A QueryFault) : Type 0 where
   pub good : (w : Word) (x : A) → value w ≡ Ok x → Good x
   pub told : (w : Word) (fault : QueryFault) → value w ≡ Err fault → IsWordOf fault [] w

@@ -23,7 +23,7 @@ pub test_ok : {A : Type 0} (b : Bool) (x y : A) (fault : QueryFault) → cond b 
 test_ok true x y fault e = (refl, cc)
 test_ok false x y fault e = cc
 
--- what succeeds if a test fails, and otherwise has an error, succeeds
+-- what is an error if a test passes, and a result otherwise, succeeds only with that result
 pub else_ok : {A : Type 0} (b : Bool) (fault : QueryFault) (r : Result A QueryFault) (x : A)
     → cond b (Err fault) r ≡ Ok x → r ≡ Ok x
 else_ok true fault r x e = cc

@@ -14,7 +14,7 @@ abbrev pub ◌>>=◌ : {A B : Type 0} → Result A QueryFault → (A → Result 
 abbrev pub Read : Type 0 → Type 0
 Read A = Result (A × List Word) QueryFault
 
--- what a call returned, seen by a view, is what reading gives
+-- what a call returned, seen by a view, is what reading returns
 abbrev pub Gives : {X Y : Type 0} → (X → Y) → Result X QueryFault → Result Y QueryFault → Type 0
 Gives view (Ok x) read = read ≡ Ok (view x)
 Gives view (Err e) read = read ≡ Err e

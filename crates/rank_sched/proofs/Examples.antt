@@ -184,7 +184,7 @@ floor_is_shared : records_in (run (planned (ask 1) (of_three (pos 311) (pos 300)
     record { morsel = 2; worker = 1; seen = Some (pos 311); skipped = true } ∷ []
 floor_is_shared = refl
 
--- a guess that is the k-th score: one morsel is skipped, and none is undone
+-- a guess that is the k-th score: one morsel is skipped, and no skip is undone
 right_guess : (lines_after 1 (alone 1 (Some (pos 311))) ≡ one_skipped) × (back_after 1 (alone 1 (Some (pos 311))) ≡ 0)
 right_guess = (refl, refl)
 
@@ -193,7 +193,7 @@ high_guess : (lines_after 1 (alone 1 (Some (pos 1000))) ≡ one_skipped) ×
     (back_after 1 (alone 1 (Some (pos 1000))) ≡ 2)
 high_guess = (refl, refl)
 
--- a guess if there are fewer than k candidates: the one skip is undone
+-- a guess while there are fewer than k candidates: the one skip is undone
 guess_for_ten : (lines_after 10 (alone 10 (Some (pos 300))) ≡ none_skipped) ×
     (back_after 10 (alone 10 (Some (pos 300))) ≡ 1)
 guess_for_ten = (refl, refl)

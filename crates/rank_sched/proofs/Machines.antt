@@ -21,7 +21,7 @@ want_fails m m' e x w a = grind arith
 
 -- ---- which events are accepted
 
--- an event that isn't refused belongs to a worker that there is, and the one that it waits for
+-- an event that isn't refused belongs to a worker that there is, and is the one that it waits for
 pub record IsAccepted (s : State) (e : Event) : Type 0 where
   pub worker : Worker
   pub here : slice_get s.workers (worker_of e) ≡ Some worker
@@ -53,7 +53,7 @@ pub after_here : (t : Task) (s : State) (e : Event) (v : Worker) → slice_get s
     → after t s e ≡ moved t s e v v.turn
 after_here t s e v h = cc
 
--- each step belongs to an event that isn't refused, and leads to the computed state
+-- each step is that of an event that isn't refused, and leads to the computed state
 step_computed : (t : Task) (s s' : State) (e : Event) → IsStep t s e s' → (refusal s e ≡ None) × (s' ≡ after t s e)
 step_computed t s s' e h = grind (arith, not_refused)
 

@@ -227,7 +227,7 @@ abbrev pub FewerWorkersAreSound : Type 0
 FewerWorkersAreSound = (t : Task) (guess : Option ℤ) (fewer more : ℕ) (rs : List Record) → fewer ≤ more
     → AreSoundRecords t guess fewer rs → AreSoundRecords t guess more rs
 
--- a line is a scan if and only if its morsel's record isn't a skip or the skip is undone, and never are both so
+-- a line is a scan if and only if its morsel's record isn't a skip or the skip is undone; never are both true
 abbrev pub ScansHaveOneCause : Type 0
 ScansHaveOneCause = (p : Planned) (rs : List Record) (i : ℕ) (r : Record) (x : Morsel)
     → HasEachBelow (length p.morsels) (morsels_of rs) → slice_get rs i ≡ Some r →

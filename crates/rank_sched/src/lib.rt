@@ -1,6 +1,6 @@
 //! The plan of a query, the machine that runs it in any order of events, and the end of a run.
 //!
-//! `extremes` ranks with this crate. It returns the plan, and an answer that has the best
+//! `extremes` ranks with this crate. It makes the plan, and an answer that has the best
 //! candidates and the right lines, in whatever order the workers took their steps.
 #![tactic(auto)]
 

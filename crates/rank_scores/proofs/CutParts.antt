@@ -42,7 +42,7 @@ module _ {P : Type 0} (q : Asked) (stations : List Station) (files : P → List 
   abbrev by_id : List Fact → List Seen
   by_id facts = sorted_by comes_first (held_in q stations facts)
 
-  -- the data of all parts belong to the same stations
+  -- the data of all parts have the same stations
   same_stations : (ps : List P) → AllByRecursion (λ d. d.stations ≡ stations) (map data_in ps)
   same_stations [] = tt
   same_stations (p ∷ ps) = (refl, same_stations ps)

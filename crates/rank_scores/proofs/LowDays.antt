@@ -53,7 +53,7 @@ pub all-low : (id : StationId) (f : ℤ → ℤ) (floor : ℤ) (days : List DayV
 all-low id f floor [] low = tt
 all-low id f floor (x ∷ xs) low = (low.0, all-low id f floor xs low.1)
 
--- what isn't so if its opposite is false is so
+-- what has a false opposite is true
 pub not-false : (b : Bool) → not b ≡ false → b ≡ true
 not-false true e = refl
 not-false false e = absurd cc

@@ -159,6 +159,6 @@ all_listed q c right =
     (λ st u e. any_found (is_station_of u.id) c.stations ∙ found-holds (λ v. is_listed c.stations v.id ≡ true)
     (is_series_of st.id (score_element q.score)) c.series u right.series.listed e)))
 
--- and so are the best
+-- and so do the best
 pub best_listed : BestAreOfListed
 best_listed q c right = grind (arith, ints, best-holds, all_listed q c right)

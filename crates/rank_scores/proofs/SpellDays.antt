@@ -80,11 +80,11 @@ module _ (id : StationId) (test : ℤ → Bool) (days : List DayValue) (cal : Ar
     quiet : (d : ℤ) → last <ℤ d → d <ℤ y.0 → such d ≡ false
     quiet d low high = grind (arith, ints, value_on-before y ys d rise high)
 
-    -- nor is the one just before it: it isn't the last one, or the last one isn't of the kind
+    -- nor is the one just before it, if that isn't the last one or the last one isn't of the kind
     quiet_before : (y.0 ≡ last +ℤ pos 1 → such last ≡ false) → such (y.0 -ℤ pos 1) ≡ false
     quiet_before h = grind (arith, ints, by_lt_z, quiet)
 
-    -- nor is the one after the last: it isn't the next one, or the next one isn't of the kind
+    -- nor is the one after the last, if that isn't the next one or the next one isn't of the kind
     quiet_behind : (y.0 ≡ last +ℤ pos 1 → test y.1 ≡ false) → such (last +ℤ pos 1) ≡ false
     quiet_behind h = grind (arith, ints, by_lt_z, quiet (last +ℤ pos 1) (omega (arith, ints)), here)
 

@@ -23,6 +23,6 @@ CandidatesAreApart = (q : Asked) (c : Contents) → IsContents c → AreApart (a
 abbrev pub CandidatesAreOfListed : Type 0
 CandidatesAreOfListed = (q : Asked) (c : Contents) → IsContents c → AreOfListed c.stations (all_candidates q c)
 
--- and so are the best of them
+-- and so do the best of them
 abbrev pub BestAreOfListed : Type 0
 BestAreOfListed = (q : Asked) (c : Contents) → IsContents c → AreOfListed c.stations (best_of_query q c)

@@ -2,7 +2,7 @@ use Rattle.ghcn_fields.proofs.WholeDays.{day_number-law}
 use Rattle.ghcn_fields.proofs.DateTexts.{read_date-law}
 use Rattle.ghcn_fields.proofs.laws.days_have_dates.Goals as goal
 
--- each date belongs to one day
+-- each date is that of one day
 pub returns-clause-dates : goal.returns-clause-dates
 returns-clause-dates c = day_number-law
 

@@ -3,7 +3,7 @@ use Rattle.rank_query.proofs.Cited.{subst, refl, ℕ, ℤ, to_z_pos, days_in_mon
 use Rattle.rank_query.proofs.Months.{same_month}
 use Rattle.rank_query.proofs.query.month_of.Goals as goal
 
--- the days up to the month's last one belong to that month
+-- the days up to the month's last one are in that month
 pub returns-clause-month : goal.returns-clause-month
 returns-clause-month c = λ d from to.
     let year : ℕ = c.civil-year.result.0 in
