@@ -75,9 +75,10 @@ def signals_wait():
 def children(process):
     """The ids of a process's children."""
     found = set()
-    for path in Path(f"/proc/{process}/task").glob("*/children"):
-        with suppress(OSError):
-            found |= set(map(int, path.read_text().split()))
+    with suppress(OSError):  # which comes if it ends meanwhile
+        for thread in os.listdir(f"/proc/{process}/task"):
+            with suppress(OSError):
+                found |= set(map(int, Path(f"/proc/{process}/task/{thread}/children").read_text().split()))
     return found
 
 
@@ -92,7 +93,8 @@ def descendants(*processes):
 
 
 class Processes:
-    """Processes that run in a folder, or in the folder `work` in it, each in a session of its own."""
+    """Processes that run in a folder, or in the folder `work` in it, each in a session of its own. They make their
+    temporary files in that folder too, since one that is killed leaves them."""
 
     def __init__(self):
         self.folder, self.work, self.env, self.started = None, None, dict(os.environ), {}
@@ -101,8 +103,9 @@ class Processes:
     def start(self, *words, **env):
         """Starts a process. What it prints goes to the file `log` of the process."""
         path = self.folder / f"{len(self.started)}.log"
+        own = {**self.env, "TMPDIR": str(self.folder), **env}
         with path.open("wb") as log:
-            it = subprocess.Popen([str(word) for word in words], cwd=self.work or self.folder, env={**self.env, **env},
+            it = subprocess.Popen([str(word) for word in words], cwd=self.work or self.folder, env=own,
                                   stdin=subprocess.DEVNULL, stdout=log, stderr=log, start_new_session=True)
         it.log = path
         self.started[it.pid] = it
