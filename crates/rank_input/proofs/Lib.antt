@@ -5,3 +5,5 @@ pub mod Reading
 pub mod Feedings
 pub mod Descriptions
 pub mod Openings
+pub mod Naming
+pub mod NamingFolders

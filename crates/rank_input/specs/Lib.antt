@@ -3,3 +3,5 @@ pub mod Takes
 pub mod Taken
 pub mod Feeding
 pub mod Described
+pub mod Named
+pub mod NamingStops

@@ -1,22 +1,35 @@
-//! Where the files of a run are opened, and how all of their bytes are read.
+//! Where the files of a run are found and opened, and how all of their bytes are read.
 
 ghost use Rattle.std.specs.Prelude.{◌≡◌, true, IfOk, IfErr, OnOk, map, string_bytes};
 ghost use Rattle.rank_input.specs.Feeding.{AreAllOf, AreOpened, FeedsFile, FeedsFiles, IsTried, StopsAt};
 ghost use Rattle.rank_input.specs.Takes.{HasTakenSome};
 
+use crate::named::below;
 use crate::taker::Taker;
 use std::alloc::{AllocError, Global};
-use std::fs::{File, OpenFile};
-use std::io;
+use std::fs::File;
 use std::io::Read;
 use std::rt::Files;
+use std::{fs, io};
 
 /// How many bytes of a daily file are read at once.
 const PIECE: usize = 1 << 16;
 
-/// Where files are opened by their paths.
+/// What stands at a path.
+#[derive(Clone, Copy, Debug, PartialEq, Eq)]
+pub enum Place {
+    Folder,
+    /// A file, and how many bytes it seems to have.
+    File(u64),
+    /// Anything else, such as a pipe or a device, or nothing that can be looked at.
+    Other,
+}
+
+/// Where folders and files are found by their paths.
 pub trait Archive {
     ghost use Rattle.std.specs.Prelude.{◌≡◌, ℕ, Bool, true, false, List, Option, IfOk, OnOk, OnErr};
+    ghost use Rattle.rank_input.specs.Feeding.{IsTried};
+    ghost use Rattle.rank_input.specs.Named.{IsPlaceOf, AreNamesOf};
 
     /// An open file.
     type File: Read + Drop;
@@ -24,8 +37,11 @@ pub trait Archive {
     /// The bytes of the file of a path, if they are known.
     ghost bytes_of: { Self → List ℕ → Option (List ℕ) };
 
-    /// Whether the file of a path may be opened, and whether that may fail.
+    /// Whether the file or the folder of a path may be opened, and whether that may fail.
     ghost opens: { Self → List ℕ → Bool → Type 0 };
+
+    /// What is known of the folder of a path: that there is none, or the names in it, each ended by a NUL.
+    ghost names_of: { Self → List ℕ → Option (Option (List ℕ)) };
 
     /// Opens a file at its first byte.
     fn open(&self, path: &str) -> io::Result<Self::File>
@@ -33,11 +49,18 @@ pub trait Archive {
         ensures opened { OnOk result (opens self.now path.now true) }
         ensures failed { OnErr result (opens self.now path.now false) };
 
-    /// How many bytes a file seems to have, for the room that they take.
-    fn length(&self, file: &Self::File) -> io::Result<u64>;
+    /// What stands at a path.
+    fn look(&self, path: &str) -> Place
+        ensures { IsPlaceOf (names_of self.now path.now) result };
+
+    /// The names in a folder, in no order, each ended by a NUL.
+    fn names(&self, alloc: Global, folder: &str) -> io::Result<Vec<u8>>
+        ensures names { IfOk result (λ names. AreNamesOf (names_of self.now folder.now) names.items) }
+        ensures opened { OnOk result (opens self.now folder.now true) }
+        ensures tried { IsTried (opens self.now) folder.now };
 }
 
-/// The files of the system. Nothing is known of their bytes, and any may be opened or fail to.
+/// The files and folders of the system. Nothing is known of what they hold, and any may be opened or fail to.
 #[derive(Drop)]
 pub struct System<'r, R>(pub &'r R);
 
@@ -54,12 +77,24 @@ impl<'r, R: Files> Archive for System<'r, R> {
 
     ghost opens = { λ _ _ _. ⊤ };
 
+    ghost names_of = { λ _ _. None };
+
     fn open(&self, path: &str) -> io::Result<SystemFile<R::File>> {
         Ok(SystemFile(File::open(self.0, path)?))
     }
 
-    fn length(&self, file: &SystemFile<R::File>) -> io::Result<u64> {
-        Ok(file.0.metadata()?.len())
+    fn look(&self, path: &str) -> Place {
+        match fs::metadata(self.0, path) {
+            Ok(found) if found.is_dir() => Place::Folder,
+            Ok(found) if found.is_file() => Place::File(found.len()),
+            _ => Place::Other,
+        }
+    }
+
+    fn names(&self, alloc: Global, folder: &str) -> io::Result<Vec<u8>> {
+        // The slash makes the system follow a link to a folder.
+        let mut folder = self.0.open_dir(below(alloc, folder, "")?.as_str())?;
+        read_names(alloc, &mut folder)
     }
 }
 
@@ -76,7 +111,10 @@ pub fn read_whole<A: Archive>(alloc: Global, archive: &A, path: &str) -> io::Res
     ensures tried { IsTried (A.opens archive.now) path.now }
 {
     let mut file = archive.open(path)?;
-    let length = archive.length(&file)? as usize;
+    let length = match archive.look(path) {
+        Place::File(length) => length as usize,
+        _ => 0,
+    };
     // One byte more, so that the end is found without an allocation.
     let mut bytes = Vec::with_capacity(alloc, length.saturating_add(1))?;
     file.read_to_end(&mut bytes)?;
@@ -132,6 +170,20 @@ pub fn feed<T: Taker, S: Read>(taker: &mut T, source: &mut S, buffer: &mut [u8])
                 }
             }
         }
+    }
+    Err(io::Error::from(io::ErrorKind::FileTooLarge))
+}
+
+/// All that is left of an open folder. A read into little room may fail, so each one has room for a piece.
+fn read_names<S: Read>(alloc: Global, folder: &mut S) -> io::Result<Vec<u8>> {
+    let mut room = piece_room(alloc)?;
+    let mut names = Vec::new(alloc);
+    for _ in 0..u64::MAX {
+        let count = folder.read(&mut room)?;
+        if count == 0 {
+            return Ok(names);
+        }
+        names.extend_from_slice(&room[..count])?;
     }
     Err(io::Error::from(io::ErrorKind::FileTooLarge))
 }

@@ -8,11 +8,13 @@ mod description;
 mod fault;
 mod intake;
 mod limits;
+mod named;
 mod taker;
 
-pub use archive::{Archive, System, feed, feed_files, piece_room, read_whole};
+pub use archive::{Archive, Place, System, feed, feed_files, piece_room, read_whole};
 pub use description::DescriptionIntake;
 pub use fault::Fault;
 pub use intake::{Intake, TakenInput};
 pub use limits::{check_words, workers_for};
+pub use named::{NotNamed, list_path, name_files};
 pub use taker::Taker;

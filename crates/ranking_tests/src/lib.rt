@@ -11,6 +11,8 @@ mod days;
 #[cfg(test)]
 mod input;
 #[cfg(test)]
+mod names;
+#[cfg(test)]
 mod pool;
 #[cfg(test)]
 mod runs;
