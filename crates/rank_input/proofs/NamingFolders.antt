@@ -1,5 +1,5 @@
 -- The daily files of a folder, and the names in a text.
-use Rattle.std.proofs.Common.{◌≡◌, ℕ, zero, suc, ◌+◌, ◌<◌, ◌≤◌, List, [], ◌∷◌, ◌++◌, length, map, take, drop, get_or}
+use Rattle.std.proofs.Common.{◌≡◌, ℕ, suc, ◌+◌, ◌<◌, List, [], ◌∷◌, ◌++◌, length, map, take, drop, get_or}
 use Rattle.std.proofs.Common.{Bool, true, false, cond, refl, sym, ap, ◌∙◌, subst, arith, eq-eqb, lit<}
 use Rattle.std.specs.Prelude.{filter, Contains, IsPermutation, IsSorted, String, string_bytes, ◌==◌, if◌then◌else◌}
 use Rattle.std.specs.List.{slice_split}
@@ -16,7 +16,7 @@ use Rattle.std.proofs.lemmas.Grind.{common_steps}
 use Rattle.std.proofs.lemmas.List.{map-append, get_or-map, length-map}
 use Rattle.std.proofs.lemmas.List.Elements.{filter-append, Contains-append_right}
 use Rattle.std.proofs.lemmas.List.Sorted.{IsPermutation-map}
-use Rattle.ghcn_fields.specs.Lines.{lines, without_empty_last}
+use Rattle.ghcn_fields.specs.Lines.{without_empty_last}
 use Rattle.rank_input.specs.Named.{Text, is_name, names_in, is_daily, daily_in, below, AreDailyIn}
 use Rattle.rank_input.proofs.Naming.{cut, cut-at, cut-map}
 

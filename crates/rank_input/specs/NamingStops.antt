@@ -1,5 +1,5 @@
 -- Why names that a run is given stand for nothing.
-use Rattle.std.specs.Prelude.{◌≡◌, ◌≢◌, ◌⊎◌, Bool, true, List, [], ◌∷◌, ◌++◌, Option, None, Some, ⊤}
+use Rattle.std.specs.Prelude.{◌≡◌, ◌≢◌, ◌⊎◌, Bool, List, [], ◌∷◌, ◌++◌, Option, None, Some, ⊤}
 use Rattle.std.specs.Prelude.{Contains, IsUtf8, string_bytes}
 use Rattle.rank_input.specs.declared.named.NotNamed.{NotNamed}
 use Rattle.rank_input.specs.declared.named.NotNamed.TheVariants.{Unreadable, Empty, NotText, Memory}

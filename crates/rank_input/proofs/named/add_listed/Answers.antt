@@ -1,4 +1,4 @@
-use Rattle.std.proofs.Common.{◌≡◌, ◌<◌, ◌∷◌, [], ◌++◌, ℕ, suc, List, Bool, true, false, length, map, drop, refl, sym, ap, ◌∙◌, subst, arith, inl, inr, ◌==◌, Bor}
+use Rattle.std.proofs.Common.{◌≡◌, ◌∷◌, [], ◌++◌, ℕ, suc, List, Bool, true, length, map, drop, refl, sym, ap, ◌∙◌, subst, arith, inl, inr, ◌==◌, Bor}
 use Rattle.std.specs.Prelude.{filter, string_bytes}
 use Rattle.std.specs.List.{slice_split}
 use Rattle.std.proofs.lemmas.Bool.Decides.{nat_tests}

@@ -1,4 +1,4 @@
-use Rattle.std.proofs.Common.{◌≡◌, ◌∷◌, [], ◌++◌, List, ℕ, map, ap, ◌∙◌, Global}
+use Rattle.std.proofs.Common.{◌∷◌, [], ◌++◌, List, ℕ, map, ap, ◌∙◌, Global}
 use Rattle.std.specs.Prelude.{Vec, String, string_bytes}
 use Rattle.std.proofs.lemmas.List.{map-append}
 use Rattle.rank_input.proofs.Naming.{adds-one, folder-stands, file-stands}
