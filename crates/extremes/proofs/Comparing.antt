@@ -1,8 +1,13 @@
--- Files that are compared one after the other.
+-- Files that are compared one after the other, and a file that is found to be in use.
 use Rattle.std.proofs.Common.{◌≡◌, ℕ, zero, suc, ◌+◌, ◌<◌, ◌≤◌, List, [], ◌∷◌, length, take, get_or, refl, sym, ap, subst}
-use Rattle.std.proofs.Common.{arith}
+use Rattle.std.proofs.Common.{Bool, true, Bor, arith, ◌∙◌}
+use Rattle.std.specs.Prelude.{String, Option, Some, IsSomeAnd, option_map}
 use Rattle.std.proofs.lemmas.List.Elements.{All-more}
 use Rattle.std.specs.List.{All, Any}
+use Rattle.extremes.specs.declared.ending.Ending.{Ending}
+use Rattle.extremes.specs.declared.ending.Ending.TheVariants.{File}
+use Rattle.extremes.specs.Commands.{EndsAtOut, Using}
+use Rattle.extremes.specs.Targets.{Sharing, Holding, IsInUse}
 
 module _ {X : Type 0} (P : X → Type 0) where
   -- what holds of the first elements and of the next one holds of one more
@@ -24,3 +29,22 @@ module _ {X : Type 0} (P : X → Type 0) where
   -- what holds of the first i elements holds of all, if there aren't more
   pub all-whole : (xs : List X) (i : ℕ) → length xs ≤ i → All P (take i xs) → All P xs
   all-whole xs i le was = subst (λ l. All P l) (take-whole xs i le) was
+
+-- a certificate's file is in use, or isn't, by what it is compared with
+pub used-as : {A : Type 0} (shares : Sharing) (holds : Holding) (s t : List ℕ) (fs gs : List (String A)) (was is : Bool)
+    → s ≡ t → fs ≡ gs → was ≡ is → IsInUse shares holds s fs was → IsInUse shares holds t gs is
+used-as shares holds s t fs gs was is same_list same_files same used =
+    subst (IsInUse shares holds t gs) same
+    (subst (λ f. IsInUse shares holds t f was) same_files
+    (subst (λ l. IsInUse shares holds l fs was) same_list used))
+
+-- a run whose certificate's file is in use ends at it
+pub ends-at-out : (uses : Using) (named : Option (Bor (List ℕ))) (out : Bor (List ℕ)) (path : Option (List ℕ))
+    (printed : Option (List ℕ)) (ending : Ending) → named ≡ Some out → option_map (λ p. p.now) named ≡ path
+    → uses out.now true → ending ≡ File → EndsAtOut uses path printed printed ending
+ends-at-out uses named out path printed ending is same used ends = record {
+  used = subst (λ (p : Option (List ℕ)). IsSomeAnd p (λ q. uses q true)) (ap (option_map (λ p. p.now)) (sym is) ∙ same)
+      used;
+  ends = ends;
+  unprinted = refl;
+}

@@ -1,5 +1,6 @@
 -- What a run returns for a command, by the bytes that files have, if those are known.
-use Rattle.std.specs.Prelude.{◌≡◌, ◌⊎◌, ℕ, List, [], ◌∷◌, Option, None, IsSome, Result, String, string_bytes}
+use Rattle.std.specs.Prelude.{◌≡◌, ◌⊎◌, ℕ, Bool, true, false, List, [], ◌∷◌, Option, None, IsSomeAnd, IfSome}
+use Rattle.std.specs.Prelude.{option_map, Result, string_bytes}
 use Rattle.command_line.specs.declared.asked.Command.{Command}
 use Rattle.command_line.specs.declared.asked.Part.{Part}
 use Rattle.command_line.specs.declared.asked.Command.TheVariants.{Sample, Rank, Merge, Check, Describe}
@@ -11,6 +12,7 @@ use Rattle.extremes.specs.declared.judgement.Judgement.{Judgement}
 use Rattle.extremes.specs.declared.merge.MergingFault.{MergingFault}
 use Rattle.extremes.specs.declared.ending.Ending.{Ending}
 use Rattle.extremes.specs.declared.ending.Ending.TheVariants.{File}
+use Rattle.extremes.specs.Targets.{Holding, IsInUse, IsPaperOrOutput, Putting, PutsNothing, Sharing}
 use Rattle.extremes.specs.Printed.{IsPrinted, IsTold, IsTextShown}
 use Rattle.extremes.specs.Runs.{RanksFiles, JudgesFiles, IsRankedAlone, ranking_paths, judging_paths}
 use Rattle.extremes.specs.declared.sample.TheConstants.{STATIONS, DAILY, QUERY}
@@ -29,10 +31,47 @@ pub record EndsAtAFile (opens : Opening) (paths : List (List ℕ)) (before after
   pub ends : ending ≡ File
   pub unprinted : after ≡ before
 
--- a certificate is wanted, its file can't be used, and nothing is printed
-pub record EndsAtOut {A : Type 0} (certificate : Option (String A)) (before after : Option (List ℕ)) (ending : Ending)
+-- whether the file of a path may be found to be in use, and whether it may be found not to be
+abbrev pub Using : Type 1
+Using = List ℕ → Bool → Type 0
+
+-- the file of a ranking's certificate is so by what it may be found to share with others, and to hold
+abbrev pub ranking_uses : (List ℕ → Sharing) → (List ℕ → Holding) → Ranking → Using
+ranking_uses shares holds r path used =
+    IsInUse (shares path) (holds path) (string_bytes r.stations) r.files.items used
+
+-- and that of a merge's
+abbrev pub merge_uses : (List ℕ → Sharing) → (List ℕ → Holding) → List Part → Using
+merge_uses shares holds parts path used = IsPaperOrOutput (shares path) (holds path) parts used
+
+-- what is known of a run: the bytes of files, and whether they can be opened; what the certificate's file may be found
+-- to share and to hold, and what is put into it; what standard output was given before the run, and after it
+pub record Environment : Type 1 where
+  pub bytes_of : Known
+  pub opens : Opening
+  pub shares : List ℕ → Sharing
+  pub holds : List ℕ → Holding
+  pub puts : Putting
+  pub before : Option (List ℕ)
+  pub after : Option (List ℕ)
+
+-- an environment of these
+abbrev pub environment : Known → Opening → (List ℕ → Sharing) → (List ℕ → Holding) → Putting → Option (List ℕ)
+    → Option (List ℕ) → Environment
+environment bytes_of opens shares holds puts before after = record {
+  bytes_of = bytes_of;
+  opens = opens;
+  shares = shares;
+  holds = holds;
+  puts = puts;
+  before = before;
+  after = after;
+}
+
+-- the certificate's file is found to be in use, and nothing is printed
+pub record EndsAtOut (uses : Using) (path : Option (List ℕ)) (before after : Option (List ℕ)) (ending : Ending)
     : Type 0 where
-  pub wanted : IsSome certificate
+  pub used : IsSomeAnd path (λ p. uses p true)
   pub ends : ending ≡ File
   pub unprinted : after ≡ before
 
@@ -41,25 +80,24 @@ abbrev pub IsSampleRanked : Result Papers Fault → Type 0
 IsSampleRanked answer = IsRankedAlone None QUERY.now STATIONS.now (DAILY.now ∷ []) answer
 
 -- that is printed
-pub record PrintsSample (before after : Option (List ℕ)) (ending : Ending) : Type 0 where
+pub record PrintsSample (e : Environment) (ending : Ending) : Type 0 where
   pub answer : Result Papers Fault
   pub ranked : IsSampleRanked answer
-  pub printed : IsPrinted answer before after ending
+  pub printed : IsPrinted answer None e.puts e.before e.after ending
 
--- the ranking of files that are named is printed
-pub record PrintsRanking (bytes_of : Known) (opens : Opening) (r : Ranking) (before after : Option (List ℕ))
-    (ending : Ending) : Type 0 where
+-- the ranking of files that are named is printed, and its certificate goes to the file of a path if there is one
+pub record PrintsRanking (e : Environment) (r : Ranking) (path : Option (List ℕ)) (ending : Ending) : Type 0 where
   pub answer : Result Papers Fault
   pub warnings : Warnings
-  pub ranked : RanksFiles bytes_of opens r answer warnings
-  pub printed : IsPrinted answer before after ending
+  pub ranked : RanksFiles e.bytes_of e.opens r answer warnings
+  pub printed : IsPrinted answer path e.puts e.before e.after ending
 
--- the merge of the reports and certificates of parts that are named is printed
-pub record PrintsMerge (bytes_of : Known) (opens : Opening) (query : List ℕ) (parts : List Part)
-    (before after : Option (List ℕ)) (ending : Ending) : Type 0 where
+-- so it is with the merge of the reports and certificates of parts that are named
+pub record PrintsMerge (e : Environment) (query : List ℕ) (parts : List Part) (path : Option (List ℕ)) (ending : Ending)
+    : Type 0 where
   pub answer : Result Papers MergingFault
-  pub merged : MergesFiles bytes_of opens query parts answer
-  pub printed : IsPrinted answer before after ending
+  pub merged : MergesFiles e.bytes_of e.opens query parts answer
+  pub printed : IsPrinted answer path e.puts e.before e.after ending
 
 -- the judgement of a report and a certificate that are named is printed
 pub record PrintsJudgement (bytes_of : Known) (opens : Opening) (j : Judging) (before after : Option (List ℕ))
@@ -75,19 +113,22 @@ pub record PrintsDescription (bytes_of : Known) (opens : Opening) (d : Describin
   pub described : DescribesFiles bytes_of opens d answer
   pub shown : IsTextShown answer before after ending
 
--- a ranking ends at its certificate's file or at one that it reads, or is printed
-abbrev pub RunsRanking : {A : Type 0} → Known → Opening → Ranking → Option (String A)
-    → Option (List ℕ) → Option (List ℕ) → Ending → Type 0
-RunsRanking bytes_of opens r certificate before after ending = EndsAtOut certificate before after ending
-    ⊎ EndsAtAFile opens (ranking_paths r) before after ending
-    ⊎ PrintsRanking bytes_of opens r before after ending
+-- a run finds its certificate's file in use, and ends at it; or it finds that this file isn't in use, and ends at a
+-- file that it reads, or is printed
+abbrev pub Runs : Environment → Using → Option (List ℕ) → List (List ℕ) → (Ending → Type 0) → Ending → Type 0
+Runs e uses path paths prints ending = (PutsNothing e.puts × EndsAtOut uses path e.before e.after ending)
+    ⊎ (PutsNothing e.puts × IfSome path (λ p. uses p false) × EndsAtAFile e.opens paths e.before e.after ending)
+    ⊎ (IfSome path (λ p. uses p false) × prints ending)
 
--- so it is with a merge
-abbrev pub RunsMerge : {A : Type 0} → Known → Opening → List ℕ → List Part → Option (String A)
-    → Option (List ℕ) → Option (List ℕ) → Ending → Type 0
-RunsMerge bytes_of opens query parts certificate before after ending = EndsAtOut certificate before after ending
-    ⊎ EndsAtAFile opens (parts_paths parts) before after ending
-    ⊎ PrintsMerge bytes_of opens query parts before after ending
+-- so a ranking does
+abbrev pub RunsRanking : Environment → Ranking → Option (List ℕ) → Ending → Type 0
+RunsRanking e r path ending =
+    Runs e (ranking_uses e.shares e.holds r) path (ranking_paths r) (PrintsRanking e r path) ending
+
+-- and a merge
+abbrev pub RunsMerge : Environment → List ℕ → List Part → Option (List ℕ) → Ending → Type 0
+RunsMerge e query parts path ending =
+    Runs e (merge_uses e.shares e.holds parts) path (parts_paths parts) (PrintsMerge e query parts path) ending
 
 -- a check ends at a file that it reads, or its judgement is printed
 abbrev pub RunsJudging : Known → Opening → Judging → Option (List ℕ) → Option (List ℕ) → Ending → Type 0
@@ -100,26 +141,27 @@ RunsDescribing bytes_of opens d before after ending =
     EndsAtAFile opens (describing_paths d) before after ending
     ⊎ PrintsDescription bytes_of opens d before after ending
 
--- what a run of a command prints, and how it ends: the files are those that it names, in its order
-abbrev pub IsCommandRun : Known → Opening → Command → Option (List ℕ) → Option (List ℕ) → Ending → Type 0
-IsCommandRun bytes_of opens Sample before after ending = PrintsSample before after ending
-IsCommandRun bytes_of opens (Rank stations query workers guess certificate files) before after ending =
-    RunsRanking bytes_of opens (record {
+-- what a run of a command prints and writes, and how it ends: the files are those that it names, in its order
+abbrev pub IsCommandRun : Environment → Command → Ending → Type 0
+IsCommandRun e Sample ending = PrintsSample e ending
+IsCommandRun e (Rank stations query workers guess certificate files) ending =
+    RunsRanking e (record {
       stations = stations;
       files = files;
       query = query;
       workers = workers;
       guess = guess;
-    }) certificate before after ending
-IsCommandRun bytes_of opens (Merge query certificate parts) before after ending =
-    RunsMerge bytes_of opens (string_bytes query) parts.items certificate before after ending
-IsCommandRun bytes_of opens (Check stations query report certificate part files) before after ending =
-    RunsJudging bytes_of opens (record {
+    }) (option_map string_bytes certificate) ending
+IsCommandRun e (Merge query certificate parts) ending =
+    RunsMerge e (string_bytes query) parts.items (option_map string_bytes certificate) ending
+IsCommandRun e (Check stations query report certificate part files) ending =
+    PutsNothing e.puts × RunsJudging e.bytes_of e.opens (record {
       stations = stations;
       files = files;
       query = query;
       papers = record { report = report; certificate = certificate };
       part = part;
-    }) before after ending
-IsCommandRun bytes_of opens (Describe stations files) before after ending =
-    RunsDescribing bytes_of opens (record { stations = stations; files = files }) before after ending
+    }) e.before e.after ending
+IsCommandRun e (Describe stations files) ending =
+    PutsNothing e.puts
+    × RunsDescribing e.bytes_of e.opens (record { stations = stations; files = files }) e.before e.after ending

@@ -2,11 +2,11 @@ pub mod Answer
 pub mod Ending
 pub mod Printed
 pub mod Delivered
+pub mod Targets
 pub mod Judged
 pub mod JudgedInParts
 pub mod Merges
 pub mod Runs
 pub mod Describes
 pub mod RankedInParts
-pub mod Targets
 pub mod Commands

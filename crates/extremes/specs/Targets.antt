@@ -1,7 +1,10 @@
--- Which files a certificate may go to.
-use Rattle.std.specs.Prelude.{◌⊎◌, ℕ, Bool, true, false, List, codes, String, string_bytes}
+-- Which files a certificate may go to, and what is put into them.
+use Rattle.std.specs.Prelude.{◌≡◌, ◌⊎◌, ℕ, Bool, true, false, List, [], Option, None, Some, codes, ⊤}
+use Rattle.std.specs.Prelude.{String, string_bytes}
+use Rattle.std.specs.Io.KnownBytes.{Appends}
 use Rattle.std.specs.List.{All, Any}
 use Rattle.command_line.specs.declared.asked.Part.{Part}
+use Rattle.extremes.specs.Delivered.{HasBeginning}
 
 -- whether another path may be found to name the file of a certificate, and whether it may be found to name another
 abbrev pub Sharing : Type 1
@@ -36,3 +39,61 @@ abbrev pub IsPaperOrOutput : Sharing → Holding → List Part → Bool → Type
 IsPaperOrOutput shares holds parts true = IsTaken shares holds true ⊎ Any (λ part. IsPaper shares part true) parts
 IsPaperOrOutput shares holds parts false =
     IsTaken shares holds false × All (λ part. IsPaper shares part false) parts
+
+-- a writer holds no byte, if its bytes are known
+abbrev pub IsBlank : Option (List ℕ) → Type 0
+IsBlank None = ⊤
+IsBlank (Some bytes) = bytes ≡ []
+
+-- how opening the file of a path may change a target, if the file is opened and if it isn't
+abbrev pub TargetOpening : Type 0 → Type 1
+TargetOpening T = T → List ℕ → Bool → T → Type 0
+
+-- how giving up what wasn't written whole may change a target
+abbrev pub Abandoning : Type 0 → Type 1
+Abandoning T = T → T → Type 0
+
+-- the bytes that a target was given, if they are known
+abbrev pub Given : Type 0 → Type 0
+Given T = T → Option (List ℕ)
+
+-- the file of a path was opened, and was given these bytes and nothing else
+pub record IsPutWhole {T : Type 0} (opens : TargetOpening T) (contents : Given T) (path bytes : List ℕ)
+    (before after : T) : Type 0 where
+  pub between : T
+  pub opened : opens before path true between
+  pub blank : IsBlank (contents between)
+  pub given : Appends (contents between) (contents after) bytes
+
+-- the file of a path was opened, was given a beginning of these bytes and nothing else, and was abandoned
+pub record IsPutInPart {T : Type 0} (opens : TargetOpening T) (abandons : Abandoning T) (contents : Given T)
+    (path bytes : List ℕ) (before after : T) : Type 0 where
+  pub between : T
+  pub written : T
+  pub opened : opens before path true between
+  pub blank : IsBlank (contents between)
+  pub given : HasBeginning bytes (contents between) (contents written)
+  pub abandoned : abandons written after
+
+-- the file of a path couldn't be opened, and nothing was written
+pub record IsNotOpened {T : Type 0} (opens : TargetOpening T) (contents : Given T) (path : List ℕ)
+    (before after : T) : Type 0 where
+  pub failed : opens before path false after
+  pub kept : contents after ≡ contents before
+
+-- bytes are put into the file of a path whole, or they aren't; without a path the target stays as it was
+abbrev pub IsPut : {T : Type 0} → TargetOpening T → Abandoning T → Given T → T → T → Option (List ℕ) → List ℕ → Bool
+    → Type 0
+IsPut opens abandons contents before after None bytes true = after ≡ before
+IsPut opens abandons contents before after None bytes false = ⊥
+IsPut opens abandons contents before after (Some path) bytes true = IsPutWhole opens contents path bytes before after
+IsPut opens abandons contents before after (Some path) bytes false =
+    IsNotOpened opens contents path before after ⊎ IsPutInPart opens abandons contents path bytes before after
+
+-- which bytes are put into the file of a path, and whether they are put there whole
+abbrev pub Putting : Type 1
+Putting = Option (List ℕ) → List ℕ → Bool → Type 0
+
+-- no file is opened for a certificate, and nothing is written to one
+abbrev pub PutsNothing : Putting → Type 0
+PutsNothing puts = puts None [] true

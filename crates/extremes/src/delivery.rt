@@ -1,6 +1,6 @@
 //! Writing the report and the certificate of a ranking.
 
-ghost use Rattle.std.specs.Prelude.{◌≡◌};
+ghost use Rattle.std.specs.Prelude.{◌≡◌, false};
 ghost use Rattle.extremes.specs.Delivered.{IsDelivered, IsWritten, IsWrittenToEnd};
 
 use crate::papers::Papers;
@@ -26,9 +26,10 @@ pub fn deliver<C: Write, R: Write>(
     certificate: &mut C,
     report: &mut R,
 ) -> Delivery
-    ensures { IsDelivered papers.now wanted
+    ensures delivered { IsDelivered papers.now wanted
         (C.contents certificate.old) (C.contents certificate.new)
         (R.contents report.old) (R.contents report.new) result }
+    ensures unused { wanted ≡ false → certificate.new ≡ certificate.old }
 {
     if wanted && !write_whole(&papers.certificate, certificate) {
         return Delivery::CertificateFailed;

@@ -1,8 +1,9 @@
 //! What a run prints, and how it ends then.
 
-ghost use Rattle.std.specs.Prelude.{◌≡◌, IfSome};
+ghost use Rattle.std.specs.Prelude.{◌≡◌, IfSome, option_map};
 ghost use Rattle.extremes.specs.declared.ending.Ending.TheVariants as endings;
 ghost use Rattle.extremes.specs.Printed.{IsPrinted, IsReported, IsShown, IsTextShown, IsTold, judgement_line};
+ghost use Rattle.extremes.specs.Targets.{IsPut};
 
 use crate::delivery::{Delivery, deliver, write_to_end, write_whole};
 use crate::describe::DescriptionText;
@@ -29,7 +30,9 @@ pub(crate) fn print_ranked<R: Eprint, T: Target, W: Write>(
     target: &mut T,
     out: &mut W,
 ) -> Ending
-    ensures { IsPrinted ranked.answer (W.contents out.old) (W.contents out.new) result }
+    ensures { IsPrinted ranked.answer (option_map (λ path. path.now) certificate.entry)
+        (IsPut T.opens T.abandons T.contents target.old target.new)
+        (W.contents out.old) (W.contents out.new) result }
 {
     let Ranked {
         answer,
@@ -113,7 +116,9 @@ pub fn print_answer<R: Eprint, T: Target, W: Write, F: Display + Drop>(
     target: &mut T,
     out: &mut W,
 ) -> Ending
-    ensures { IsPrinted answer (W.contents out.old) (W.contents out.new) result }
+    ensures { IsPrinted answer (option_map (λ path. path.now) certificate.entry)
+        (IsPut T.opens T.abandons T.contents target.old target.new)
+        (W.contents out.old) (W.contents out.new) result }
 {
     let papers = match answer {
         Ok(papers) => papers,
@@ -137,7 +142,9 @@ fn write_papers<T: Target, W: Write>(
     target: &mut T,
     out: &mut W,
 ) -> Delivery
-    ensures { IsReported papers.now (W.contents out.old) (W.contents out.new) result }
+    ensures { IsReported papers.now (option_map (λ path. path.now) certificate.entry)
+        (IsPut T.opens T.abandons T.contents target.old target.new)
+        (W.contents out.old) (W.contents out.new) result }
 {
     let Some(path) = certificate else {
         return deliver(papers, false, target, out);

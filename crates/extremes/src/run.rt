@@ -1,7 +1,9 @@
 //! A run of the program: reads its arguments, and does what they ask for.
 
-ghost use Rattle.extremes.specs.Commands.{IsCommandRun, IsSampleRanked};
+ghost use Rattle.std.specs.Prelude.{◌≡◌, option_map, string_bytes};
+ghost use Rattle.extremes.specs.Commands.{IsCommandRun, IsSampleRanked, environment};
 ghost use Rattle.extremes.specs.Commands.{RunsRanking, RunsMerge, RunsJudging, RunsDescribing};
+ghost use Rattle.extremes.specs.Targets.{IsPut};
 
 use crate::ending::Ending;
 use crate::files::{
@@ -59,8 +61,10 @@ fn run_command<R: Eprint + Threads + Wait + AllocGlobal + Sync, A: Archive, T: T
     target: &mut T,
     out: &mut W,
 ) -> Ending
-    ensures { IsCommandRun (A.bytes_of archive.now) (A.opens archive.now) asked
-        (W.contents out.old) (W.contents out.new) result }
+    ensures { IsCommandRun (environment (A.bytes_of archive.now) (A.opens archive.now)
+        (T.one_file target.old) (T.other_text target.old)
+        (IsPut T.opens T.abandons T.contents target.old target.new)
+        (W.contents out.old) (W.contents out.new)) asked result }
 {
     match asked {
         Command::Sample => print_answer(rt, rank_sample(rt.alloc()), None, target, out),
@@ -124,10 +128,13 @@ fn run_ranking<R: Eprint + Threads + Wait + AllocGlobal + Sync, A: Archive, T: T
     target: &mut T,
     out: &mut W,
 ) -> Ending
-    ensures { RunsRanking (A.bytes_of archive.now) (A.opens archive.now) ranking.now certificate.now
-        (W.contents out.old) (W.contents out.new) result }
+    ensures { RunsRanking (environment (A.bytes_of archive.now) (A.opens archive.now)
+        (T.one_file target.old) (T.other_text target.old)
+        (IsPut T.opens T.abandons T.contents target.old target.new)
+        (W.contents out.old) (W.contents out.new))
+        ranking.now (option_map string_bytes certificate.now) result }
 {
-    let certificate = certificate.as_ref().map(|path| path.as_str());
+    let certificate = path_of(certificate);
     if let Some(path) = certificate {
         if is_in_use(target, path, &ranking.stations, &ranking.files) {
             return not_written(rt, path);
@@ -150,10 +157,13 @@ fn run_merge<R: Eprint + AllocGlobal, A: Archive, T: Target, W: Write>(
     target: &mut T,
     out: &mut W,
 ) -> Ending
-    ensures { RunsMerge (A.bytes_of archive.now) (A.opens archive.now) query.now parts.now certificate.now
-        (W.contents out.old) (W.contents out.new) result }
+    ensures { RunsMerge (environment (A.bytes_of archive.now) (A.opens archive.now)
+        (T.one_file target.old) (T.other_text target.old)
+        (IsPut T.opens T.abandons T.contents target.old target.new)
+        (W.contents out.old) (W.contents out.new))
+        query.now parts.now (option_map string_bytes certificate.now) result }
 {
-    let certificate = certificate.as_ref().map(|path| path.as_str());
+    let certificate = path_of(certificate);
     if let Some(path) = certificate {
         if is_paper_or_output(target, path, parts) {
             return not_written(rt, path);
@@ -163,6 +173,13 @@ fn run_merge<R: Eprint + AllocGlobal, A: Archive, T: Target, W: Write>(
         Ok(merged) => print_answer(rt, merged, certificate, target, out),
         Err(path) => not_read(rt, path),
     }
+}
+
+/// The path of a certificate's file, if one is named.
+fn path_of(certificate: &Option<String>) -> Option<&str>
+    ensures { option_map (λ path. path.now) result ≡ option_map string_bytes certificate.now }
+{
+    certificate.as_ref().map(|path| path.as_str())
 }
 
 /// Checks a report and a certificate against files that are named, and prints the verdict.

@@ -75,6 +75,10 @@ impl<'r, R: Files + AllocGlobal> Target for SystemTarget<'r, R> {
 
     ghost other_text = { λ _ _ _. ⊤ };
 
+    ghost opens = { λ _ _ _ _. ⊤ };
+
+    ghost abandons = { λ _ _. ⊤ };
+
     /// By what the system says of both, or by the paths as given if it says nothing. Devices and
     /// pipes keep nothing.
     fn is_one_file(&self, one: &str, other: &str) -> bool {

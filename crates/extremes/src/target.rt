@@ -15,7 +15,8 @@ const STANDARD_ERROR: &str = "/dev/stderr";
 
 /// The file that a certificate is written to. It has what was written once that is flushed.
 pub trait Target: Write {
-    ghost use Rattle.std.specs.Prelude.{ℕ, Bool, List};
+    ghost use Rattle.std.specs.Prelude.{◌≡◌, ℕ, Bool, true, false, List, OnOk, OnErr};
+    ghost use Rattle.extremes.specs.Targets.{IsBlank};
 
     /// Whether two paths may be found to name one file, and whether they may be found to name two.
     ghost one_file: { Self → List ℕ → List ℕ → Bool → Type 0 };
@@ -23,6 +24,12 @@ pub trait Target: Write {
     /// Whether the file of a path may be found to hold anything that isn't a certificate, and whether
     /// it may be found to hold nothing else.
     ghost other_text: { Self → List ℕ → Bool → Type 0 };
+
+    /// How opening the file of a path may change the target, if the file is opened and if it isn't.
+    ghost opens: { Self → List ℕ → Bool → Self → Type 0 };
+
+    /// How giving up what wasn't written whole may change the target.
+    ghost abandons: { Self → Self → Type 0 };
 
     /// Whether two paths name one file that writing would change.
     fn is_one_file(&self, one: &str, other: &str) -> bool
@@ -33,10 +40,15 @@ pub trait Target: Write {
         ensures { other_text self.now path.now result };
 
     /// Opens the file of a path, to be written from its first byte.
-    fn open(&mut self, path: &str) -> io::Result<()>;
+    fn open(&mut self, path: &str) -> io::Result<()>
+        ensures opened { OnOk result (opens self.old path.now true self.new) }
+        ensures blank { OnOk result (IsBlank (Self.contents self.new)) }
+        ensures failed { OnErr result (opens self.old path.now false self.new) }
+        ensures kept { OnErr result (Self.contents self.new ≡ Self.contents self.old) };
 
     /// Gives up what wasn't written whole.
-    fn abandon(&mut self);
+    fn abandon(&mut self)
+        ensures { abandons self.old self.new };
 }
 
 /// Whether a certificate's file holds anything else, or is the station list, a daily file or the

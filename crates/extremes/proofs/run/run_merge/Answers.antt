@@ -1,16 +1,15 @@
-use Rattle.std.proofs.Common.{inl, inr, refl}
+use Rattle.std.proofs.Common.{inl, refl, subst}
+use Rattle.extremes.specs.Commands.{merge_uses}
+use Rattle.extremes.proofs.Comparing.{ends-at-out}
 use Rattle.extremes.proofs.run.run_merge.Goals as goal
 
--- the merge is printed
-pub returns-in-Ok : goal.returns-in-Ok
-returns-in-Ok g c =
-    inr (inr (record { answer = c.in-Ok.merged; merged = c.in-Ok.ensures.merges; printed = c.print_answer.ensures }))
-
--- or a file can't be read
-pub returns-in-Err : goal.returns-in-Err
-returns-in-Err g c = inr (inl (record {
-  path = c.in-Err.path.now;
-  stops = c.in-Err.ensures.stopped;
-  ends = c.not_read.ensures;
-  unprinted = refl;
-}))
+-- the certificate's file is in use
+pub returns-then-is_paper_or_output : goal.returns-then-is_paper_or_output
+returns-then-is_paper_or_output g c =
+    let uses = merge_uses (g.T.Target.one_file c.args.target.now) (g.T.Target.other_text c.args.target.now)
+    c.args.parts.now in
+    inl (
+      refl,
+      ends-at-out uses _ _ _ _ _ c.in-Some.is c.path_of-certificate.ensures
+          (subst (uses c.in-Some.path.now) c.if-is_paper_or_output.true c.is_paper_or_output.ensures) c.not_written.ensures,
+    )
