@@ -6,6 +6,8 @@
 #[cfg(test)]
 mod boards;
 #[cfg(test)]
+mod calls;
+#[cfg(test)]
 mod crews;
 #[cfg(test)]
 mod data;

@@ -1,7 +1,8 @@
 //! Ranking, merging, checking and describing what the files of an archive hold.
 
-ghost use Rattle.std.specs.Prelude.{◌≡◌, [], IfOk, IfErr, OnOk, map};
+ghost use Rattle.std.specs.Prelude.{◌≡◌, ◌≤◌, [], IfOk, IfErr, OnOk, length, map};
 ghost use Rattle.std.specs.List.{AllZip};
+ghost use Rattle.std.specs.Vec.{vec_capacity};
 ghost use Rattle.rank_input.specs.Feeding.{AreOpened, StopsAt};
 ghost use Rattle.rank_input.specs.Taken.{HasTakenSome, AreWarningsOf};
 ghost use Rattle.extremes.specs.Runs.{RanksFiles, JudgesFiles, RanksInput, ranking_paths, judging_paths};
@@ -124,7 +125,8 @@ fn read_parts<'p, A: Archive>(
     parts: &'p [Part],
     texts: &mut Vec<PartTexts>,
 ) -> Result<(), &'p str>
-    requires { texts.old.items ≡ [] }
+    requires none { texts.old.items ≡ [] }
+    requires room { length parts.now ≤ vec_capacity texts.old }
     ensures read { OnOk result (AllZip AreBothOf
         (map (known_part (A.bytes_of archive.now)) parts.now) (texts_of texts.new.items)) }
     ensures opened { OnOk result (AreOpened (A.opens archive.now) (parts_paths parts.now)) }
@@ -132,9 +134,7 @@ fn read_parts<'p, A: Archive>(
 {
     for part in parts {
         let read = read_part(alloc, archive, part)?;
-        let Ok(()) = texts.push(read) else {
-            return Err(&part.certificate);
-        };
+        texts.push_reserved(read);
     }
     Ok(())
 }

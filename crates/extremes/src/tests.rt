@@ -106,6 +106,19 @@ fn guesses_and_the_first_fault(rt: HostRuntime) {
 }
 
 #[test]
+fn the_right_report_of_a_thousand_files(rt: HostRuntime) {
+    let mut files: [&[u8]; 1000] = [b""; 1000];
+    files[999] = DAILY;
+    let query = "top 3 highest TMAX";
+    let alone = rank_serial(rt.alloc(), STATIONS, &files, query, None);
+    let crewed = rank(&rt, STATIONS, &files, query, 4, None, &Open);
+    for ranked in [alone, crewed] {
+        let report = ranked.as_ref().map(|papers| papers.report.as_slice()).ok();
+        assert_eq!(rt; report, Some(REPORT));
+    }
+}
+
+#[test]
 fn workers_and_the_first_fault(rt: HostRuntime) {
     let cases = [
         (0, Some(-2_147_483_649), Some(Fault::BadWorkers)),

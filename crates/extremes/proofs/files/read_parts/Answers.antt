@@ -1,10 +1,7 @@
-use Rattle.std.proofs.Common.{ℕ, ◌+◌, List, [], true, map, take, sym, subst, arith}
-use Rattle.std.specs.Prelude.{string_bytes}
+use Rattle.std.proofs.Common.{◌+◌, map, take, sym, subst, arith}
 use Rattle.std.proofs.lemmas.Result.{err_from_is_err_and}
-use Rattle.rank_input.specs.Feeding.{StopsAt}
-use Rattle.rank_input.proofs.Openings.{stops-first, stops-later}
 use Rattle.std.specs.List.{AllZip}
-use Rattle.extremes.specs.Merges.{AreBothOf, known_part, parts_paths, texts_of}
+use Rattle.extremes.specs.Merges.{AreBothOf, known_part, texts_of}
 use Rattle.extremes.proofs.PartsRead.{next-read, parts-opened, parts-stop, parts-all}
 use Rattle.extremes.proofs.files.read_parts.Goals as goal
 
@@ -14,13 +11,15 @@ loop-part-preserved g c =
     let f = known_part (g.A.Archive.bytes_of c.args.archive.now) in
     record {
       read = subst (λ ts. AllZip AreBothOf (map f (take (c.loop-part.part-index + 1) c.args.parts.now)) (texts_of ts))
-          (sym c.in-Ok.ensures.items)
+          (sym c.push_reserved.ensures.items)
           (next-read f c.args.parts.now c.loop-part.part-index c.part-item.result c.loop-part.texts.items
           c.in_ok-read.read c.loop-part-test.true (sym c.part-item.is) c.loop-part.invariant.read
           c.in_ok-read.ensures.read);
       opened = parts-opened (g.A.Archive.opens c.args.archive.now) c.args.parts.now c.loop-part.part-index
           c.part-item.result c.loop-part-test.true (sym c.part-item.is) c.loop-part.invariant.opened
           c.in_ok-read.ensures.opened;
+      count = omega (arith, c.push_reserved.ensures.len, c.loop-part.invariant.count);
+      room = omega (arith, c.push_reserved.ensures.capacity, c.loop-part.invariant.room);
     }
 
 -- a report or a certificate can't be read
@@ -30,17 +29,6 @@ returns-in_err-read-clause-stopped g c =
     let p = err_from_is_err_and c.from_residual.result c.from_residual.ensures.1 in
     rw (p.1, p.2) (parts-stop opens c.args.parts.now c.loop-part.part-index c.part-item.result _ c.loop-part-test.true
     (sym c.part-item.is) c.loop-part.invariant.opened c.in_err-read.ensures.stopped)
-
--- or there is no room for it
-pub returns-in_default-clause-stopped : goal.returns-in_default-clause-stopped
-returns-in_default-clause-stopped g c =
-    let opens = g.A.Archive.opens c.args.archive.now in
-    let part = c.part-item.result in
-    subst (λ (p : List ℕ). StopsAt opens (parts_paths c.args.parts.now) p) (sym c.deref.ensures)
-    (parts-stop opens c.args.parts.now c.loop-part.part-index part (string_bytes part.certificate)
-    c.loop-part-test.true (sym c.part-item.is) c.loop-part.invariant.opened
-    (stops-later opens (string_bytes part.report) (string_bytes part.certificate) _ c.in_ok-read.ensures.opened.0
-    (stops-first opens (string_bytes part.certificate) [] (true, c.in_ok-read.ensures.opened.1.0))))
 
 -- the reports and certificates of all parts are opened
 pub returns-clause-opened : goal.returns-clause-opened
