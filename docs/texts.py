@@ -1,6 +1,6 @@
 """The texts of errors, verdicts and messages in the sources, and what holds each of them as it is.
 
-A text is what `#[error("..")]` or an `impl Display` has for a variant, or what `eprint!` or `eprintln!` prints. It is
+A text is what `#[error("..")]` or an `impl Display` has for a variant, or what `Messages::print` or `eprint!` prints. It is
 held by a clause `ghost output` of its `impl`, by a test that compares it, by an example that leaves a line with it, or
 by a script that expects it. A test, an example or a script counts only if what it expects is the text as the source
 has it now, with the texts inside of it.
@@ -22,7 +22,7 @@ ATTRIBUTE = re.compile(r'#\[error\((?:(transparent)|"((?:[^"\\]|\\.)*)"[^\n]*)\)
                        r"\s*(?:(?://|#\[)[^\n]*\n\s*)*(?:pub )?(?:(struct) )?(\w+)")
 DISPLAY = re.compile(r"^impl(?:<[^{]*?>)? (?:\w+::)*Display for (\w+)[^{]*\{$(.*?)^\}$", re.S | re.M)
 # What is printed as it is here, and what is shown in place of the command line parser's own texts.
-MESSAGE = re.compile(r'\beprint(?:ln)?!\(\w+;\s*"((?:[^"\\]|\\.)*)"|"(error: [^"\n]*)')
+MESSAGE = re.compile(r'\b(?:messages\.print\((?:format_args!\()?|eprint!\(\w+;\s*)"((?:[^"\\]|\\.)*)"|"(error: [^"\n]*)')
 ITEM = re.compile(r"^(?=#\[test\]|(?:pub(?:\(crate\))? )?"
                   r"(?:const|static|fn|struct|enum|impl|type|trait|use|mod)\b)", re.M)
 

@@ -1,13 +1,15 @@
 -- Files that are compared one after the other, and a file that is found to be in use.
 use Rattle.std.proofs.Common.{◌≡◌, ℕ, zero, suc, ◌+◌, ◌<◌, ◌≤◌, List, [], ◌∷◌, length, take, get_or, refl, sym, ap, subst}
-use Rattle.std.proofs.Common.{Bool, true, Bor, arith, ◌∙◌}
-use Rattle.std.specs.Prelude.{String, Option, Some, IsSomeAnd, option_map}
+use Rattle.std.proofs.Common.{Bool, true, false, Bor, arith, ◌∙◌}
+use Rattle.std.specs.Prelude.{String, Option, Some, IfSome, IsSomeAnd, option_map}
 use Rattle.std.proofs.lemmas.List.Elements.{All-more}
 use Rattle.std.specs.List.{All, Any}
 use Rattle.extremes.specs.declared.ending.Ending.{Ending}
 use Rattle.extremes.specs.declared.ending.Ending.TheVariants.{File}
 use Rattle.extremes.specs.Commands.{EndsAtOut, Using}
+use Rattle.extremes.specs.Messages.{Saying, streams, not_written_line}
 use Rattle.extremes.specs.Targets.{Sharing, Holding, IsInUse}
+use Rattle.extremes.proofs.PrintedLines.{none-found}
 
 module _ {X : Type 0} (P : X → Type 0) where
   -- what holds of the first elements and of the next one holds of one more
@@ -38,13 +40,26 @@ used-as shares holds s t fs gs was is same_list same_files same used =
     (subst (λ f. IsInUse shares holds t f was) same_files
     (subst (λ l. IsInUse shares holds l fs was) same_list used))
 
+module _ (uses : Using) (named : Option (Bor (List ℕ))) (path : Option (List ℕ))
+    (same : option_map (λ p. p.now) named ≡ path) where
+  -- a certificate's file that is named isn't in use
+  pub some-unused : (out : Bor (List ℕ)) → named ≡ Some out → uses out.now false → IfSome path (λ p. uses p false)
+  some-unused out is unused =
+      subst (λ (p : Option (List ℕ)). IfSome p (λ q. uses q false)) (ap (option_map (λ p. p.now)) (sym is) ∙ same) unused
+
+  -- or none is named
+  pub none-unused : ((out : Bor (List ℕ)) → named ≡ Some out → ⊥) → IfSome path (λ p. uses p false)
+  none-unused absent = subst (λ (p : Option (List ℕ)). IfSome p (λ q. uses q false))
+      (ap (option_map (λ p. p.now)) (sym (none-found named absent)) ∙ same) tt
+
 -- a run whose certificate's file is in use ends at it
-pub ends-at-out : (uses : Using) (named : Option (Bor (List ℕ))) (out : Bor (List ℕ)) (path : Option (List ℕ))
-    (printed : Option (List ℕ)) (ending : Ending) → named ≡ Some out → option_map (λ p. p.now) named ≡ path
-    → uses out.now true → ending ≡ File → EndsAtOut uses path printed printed ending
-ends-at-out uses named out path printed ending is same used ends = record {
-  used = subst (λ (p : Option (List ℕ)). IsSomeAnd p (λ q. uses q true)) (ap (option_map (λ p. p.now)) (sym is) ∙ same)
-      used;
+pub ends-at-out : (uses : Using) (says : Saying) (named : Option (Bor (List ℕ))) (out : Bor (List ℕ))
+    (path : Option (List ℕ)) (printed : Option (List ℕ)) (ending : Ending) → named ≡ Some out
+    → option_map (λ p. p.now) named ≡ path → uses out.now true → says (not_written_line out.now ∷ []) → ending ≡ File
+    → EndsAtOut uses (streams says printed printed) path ending
+ends-at-out uses says named out path printed ending is same used said ends = record {
+  used = subst (λ (p : Option (List ℕ)). IsSomeAnd p (λ q. uses q true × says (not_written_line q ∷ [])))
+      (ap (option_map (λ p. p.now)) (sym is) ∙ same) (used, said);
   ends = ends;
   unprinted = refl;
 }

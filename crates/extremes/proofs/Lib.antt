@@ -1,5 +1,7 @@
 pub mod Delivering
 pub mod Comparing
+pub mod PrintedLines
+pub mod Examples
 pub mod PlanAnswers
 pub mod Answering
 pub mod FedRuns

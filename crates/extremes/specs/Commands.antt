@@ -1,6 +1,6 @@
 -- What a run returns for a command, by the bytes that files have, if those are known.
 use Rattle.std.specs.Prelude.{◌≡◌, ◌⊎◌, ℕ, Bool, true, false, List, [], ◌∷◌, Option, None, IsSomeAnd, IfSome}
-use Rattle.std.specs.Prelude.{option_map, Result, string_bytes}
+use Rattle.std.specs.Prelude.{map, option_map, Result, string_bytes}
 use Rattle.command_line.specs.declared.asked.Command.{Command}
 use Rattle.command_line.specs.declared.asked.Part.{Part}
 use Rattle.command_line.specs.declared.asked.Command.TheVariants.{Sample, Rank, Merge, Check, Describe}
@@ -13,6 +13,7 @@ use Rattle.extremes.specs.declared.merge.MergingFault.{MergingFault}
 use Rattle.extremes.specs.declared.ending.Ending.{Ending}
 use Rattle.extremes.specs.declared.ending.Ending.TheVariants.{File}
 use Rattle.extremes.specs.Targets.{Holding, IsInUse, IsPaperOrOutput, Putting, PutsNothing, Sharing}
+use Rattle.extremes.specs.Messages.{Line, Streams, not_read_line, not_written_line, warning_lines}
 use Rattle.extremes.specs.Printed.{IsPrinted, IsTold, IsTextShown}
 use Rattle.extremes.specs.Runs.{RanksFiles, JudgesFiles, IsRankedAlone, ranking_paths, judging_paths}
 use Rattle.extremes.specs.declared.sample.TheConstants.{STATIONS, DAILY, QUERY}
@@ -23,13 +24,14 @@ use Rattle.extremes.specs.declared.files.Ranking.{Ranking}
 use Rattle.extremes.specs.declared.files.Judging.{Judging}
 use Rattle.extremes.specs.Merges.{Known, parts_paths, MergesFiles}
 
--- of the files that are named one can't be read, those before it were opened, and nothing is printed
-pub record EndsAtAFile (opens : Opening) (paths : List (List ℕ)) (before after : Option (List ℕ)) (ending : Ending)
-    : Type 0 where
+-- of the files that are named one can't be read, those before it were opened, and nothing is printed but a line on
+-- standard error that names it
+pub record EndsAtAFile (opens : Opening) (s : Streams) (paths : List (List ℕ)) (ending : Ending) : Type 0 where
   pub path : List ℕ
   pub stops : StopsAt opens paths path
   pub ends : ending ≡ File
-  pub unprinted : after ≡ before
+  pub unprinted : s.after ≡ s.before
+  pub said : s.says (not_read_line path ∷ [])
 
 -- whether the file of a path may be found to be in use, and whether it may be found not to be
 abbrev pub Using : Type 1
@@ -45,35 +47,36 @@ abbrev pub merge_uses : (List ℕ → Sharing) → (List ℕ → Holding) → Li
 merge_uses shares holds parts path used = IsPaperOrOutput (shares path) (holds path) parts used
 
 -- what is known of a run: the bytes of files, and whether they can be opened; what the certificate's file may be found
--- to share and to hold, and what is put into it; what standard output was given before the run, and after it
+-- to share and to hold, and what is put into it; the lines of errors; and what was printed
 pub record Environment : Type 1 where
   pub bytes_of : Known
   pub opens : Opening
   pub shares : List ℕ → Sharing
   pub holds : List ℕ → Holding
   pub puts : Putting
-  pub before : Option (List ℕ)
-  pub after : Option (List ℕ)
+  pub line : Fault → Line
+  pub merging_line : MergingFault → Line
+  pub streams : Streams
 
 -- an environment of these
-abbrev pub environment : Known → Opening → (List ℕ → Sharing) → (List ℕ → Holding) → Putting → Option (List ℕ)
-    → Option (List ℕ) → Environment
-environment bytes_of opens shares holds puts before after = record {
+abbrev pub environment : Known → Opening → (List ℕ → Sharing) → (List ℕ → Holding) → Putting → (Fault → Line)
+    → (MergingFault → Line) → Streams → Environment
+environment bytes_of opens shares holds puts line merging_line streams = record {
   bytes_of = bytes_of;
   opens = opens;
   shares = shares;
   holds = holds;
   puts = puts;
-  before = before;
-  after = after;
+  line = line;
+  merging_line = merging_line;
+  streams = streams;
 }
 
--- the certificate's file is found to be in use, and nothing is printed
-pub record EndsAtOut (uses : Using) (path : Option (List ℕ)) (before after : Option (List ℕ)) (ending : Ending)
-    : Type 0 where
-  pub used : IsSomeAnd path (λ p. uses p true)
+-- the certificate's file is found to be in use, and nothing is printed but a line on standard error that names it
+pub record EndsAtOut (uses : Using) (s : Streams) (path : Option (List ℕ)) (ending : Ending) : Type 0 where
+  pub used : IsSomeAnd path (λ p. uses p true × s.says (not_written_line p ∷ []))
   pub ends : ending ≡ File
-  pub unprinted : after ≡ before
+  pub unprinted : s.after ≡ s.before
 
 -- what one worker returns for the texts that are built in
 abbrev pub IsSampleRanked : Result Papers Fault → Type 0
@@ -83,41 +86,42 @@ IsSampleRanked answer = IsRankedAlone None QUERY.now STATIONS.now (DAILY.now ∷
 pub record PrintsSample (e : Environment) (ending : Ending) : Type 0 where
   pub answer : Result Papers Fault
   pub ranked : IsSampleRanked answer
-  pub printed : IsPrinted answer None e.puts e.before e.after ending
+  pub printed : IsPrinted e.line e.streams answer [] None e.puts ending
 
 -- the ranking of files that are named is printed, and its certificate goes to the file of a path if there is one
 pub record PrintsRanking (e : Environment) (r : Ranking) (path : Option (List ℕ)) (ending : Ending) : Type 0 where
   pub answer : Result Papers Fault
   pub warnings : Warnings
   pub ranked : RanksFiles e.bytes_of e.opens r answer warnings
-  pub printed : IsPrinted answer path e.puts e.before e.after ending
+  pub printed : IsPrinted e.line e.streams answer (warning_lines (map string_bytes r.files.items) warnings) path e.puts
+      ending
 
 -- so it is with the merge of the reports and certificates of parts that are named
 pub record PrintsMerge (e : Environment) (query : List ℕ) (parts : List Part) (path : Option (List ℕ)) (ending : Ending)
     : Type 0 where
   pub answer : Result Papers MergingFault
   pub merged : MergesFiles e.bytes_of e.opens query parts answer
-  pub printed : IsPrinted answer path e.puts e.before e.after ending
+  pub printed : IsPrinted e.merging_line e.streams answer [] path e.puts ending
 
 -- the judgement of a report and a certificate that are named is printed
-pub record PrintsJudgement (bytes_of : Known) (opens : Opening) (j : Judging) (before after : Option (List ℕ))
+pub record PrintsJudgement (bytes_of : Known) (opens : Opening) (line : Fault → Line) (s : Streams) (j : Judging)
     (ending : Ending) : Type 0 where
   pub answer : Result (Judgement × Warnings) Fault
   pub judged : JudgesFiles bytes_of opens j answer
-  pub told : IsTold answer before after ending
+  pub told : IsTold line s answer (map string_bytes j.files.items) ending
 
 -- the description of files that are named is printed
-pub record PrintsDescription (bytes_of : Known) (opens : Opening) (d : Describing) (before after : Option (List ℕ))
+pub record PrintsDescription (bytes_of : Known) (opens : Opening) (line : Fault → Line) (s : Streams) (d : Describing)
     (ending : Ending) : Type 0 where
   pub answer : Result DescriptionText Fault
   pub described : DescribesFiles bytes_of opens d answer
-  pub shown : IsTextShown answer before after ending
+  pub shown : IsTextShown line s answer (map string_bytes d.files.items) ending
 
 -- a run finds its certificate's file in use, and ends at it; or it finds that this file isn't in use, and ends at a
 -- file that it reads, or is printed
 abbrev pub Runs : Environment → Using → Option (List ℕ) → List (List ℕ) → (Ending → Type 0) → Ending → Type 0
-Runs e uses path paths prints ending = (PutsNothing e.puts × EndsAtOut uses path e.before e.after ending)
-    ⊎ (PutsNothing e.puts × IfSome path (λ p. uses p false) × EndsAtAFile e.opens paths e.before e.after ending)
+Runs e uses path paths prints ending = (PutsNothing e.puts × EndsAtOut uses e.streams path ending)
+    ⊎ (PutsNothing e.puts × IfSome path (λ p. uses p false) × EndsAtAFile e.opens e.streams paths ending)
     ⊎ (IfSome path (λ p. uses p false) × prints ending)
 
 -- so a ranking does
@@ -131,15 +135,14 @@ RunsMerge e query parts path ending =
     Runs e (merge_uses e.shares e.holds parts) path (parts_paths parts) (PrintsMerge e query parts path) ending
 
 -- a check ends at a file that it reads, or its judgement is printed
-abbrev pub RunsJudging : Known → Opening → Judging → Option (List ℕ) → Option (List ℕ) → Ending → Type 0
-RunsJudging bytes_of opens j before after ending =
-    EndsAtAFile opens (judging_paths j) before after ending ⊎ PrintsJudgement bytes_of opens j before after ending
+abbrev pub RunsJudging : Known → Opening → (Fault → Line) → Streams → Judging → Ending → Type 0
+RunsJudging bytes_of opens line s j ending =
+    EndsAtAFile opens s (judging_paths j) ending ⊎ PrintsJudgement bytes_of opens line s j ending
 
 -- so it is with a description
-abbrev pub RunsDescribing : Known → Opening → Describing → Option (List ℕ) → Option (List ℕ) → Ending → Type 0
-RunsDescribing bytes_of opens d before after ending =
-    EndsAtAFile opens (describing_paths d) before after ending
-    ⊎ PrintsDescription bytes_of opens d before after ending
+abbrev pub RunsDescribing : Known → Opening → (Fault → Line) → Streams → Describing → Ending → Type 0
+RunsDescribing bytes_of opens line s d ending =
+    EndsAtAFile opens s (describing_paths d) ending ⊎ PrintsDescription bytes_of opens line s d ending
 
 -- what a run of a command prints and writes, and how it ends: the files are those that it names, in its order
 abbrev pub IsCommandRun : Environment → Command → Ending → Type 0
@@ -155,13 +158,13 @@ IsCommandRun e (Rank stations query workers guess certificate files) ending =
 IsCommandRun e (Merge query certificate parts) ending =
     RunsMerge e (string_bytes query) parts.items (option_map string_bytes certificate) ending
 IsCommandRun e (Check stations query report certificate part files) ending =
-    PutsNothing e.puts × RunsJudging e.bytes_of e.opens (record {
+    PutsNothing e.puts × RunsJudging e.bytes_of e.opens e.line e.streams (record {
       stations = stations;
       files = files;
       query = query;
       papers = record { report = report; certificate = certificate };
       part = part;
-    }) e.before e.after ending
+    }) ending
 IsCommandRun e (Describe stations files) ending =
     PutsNothing e.puts
-    × RunsDescribing e.bytes_of e.opens (record { stations = stations; files = files }) e.before e.after ending
+    × RunsDescribing e.bytes_of e.opens e.line e.streams (record { stations = stations; files = files }) ending

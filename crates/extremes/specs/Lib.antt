@@ -1,5 +1,6 @@
 pub mod Answer
 pub mod Ending
+pub mod Messages
 pub mod Printed
 pub mod Delivered
 pub mod Targets

@@ -1,5 +1,5 @@
 -- How an answer is printed.
-use Rattle.std.specs.Prelude.{◌≡◌, ◌⊎◌, ℕ, true, false, List, ◌++◌, codes, Option, Result, Ok, Err}
+use Rattle.std.specs.Prelude.{◌≡◌, ◌⊎◌, ℕ, true, false, List, [], ◌∷◌, ◌++◌, codes, Option, unwrap_or, Result, Ok, Err}
 use Rattle.std.specs.Io.KnownBytes.{Appends}
 use Rattle.extremes.specs.declared.papers.Papers.{Papers}
 use Rattle.extremes.specs.declared.describe.DescriptionText.{DescriptionText}
@@ -16,6 +16,7 @@ use Rattle.extremes.specs.declared.judgement.Judgement.TheVariants.{Whole, Part}
 use Rattle.extremes.specs.Delivered.{HasBeginning, IsCutOff}
 use Rattle.extremes.specs.Ending.{ending_of}
 use Rattle.extremes.specs.Targets.{Putting, PutsNothing}
+use Rattle.extremes.specs.Messages.{Line, Streams, after_lines, not_written_line, unlisted_warning, warning_lines}
 
 -- what a judgement says of a report and a certificate, without a line feed
 abbrev pub text_of : Judgement → List ℕ
@@ -36,37 +37,56 @@ IsReported papers path puts before after delivery.CertificateFailed =
 IsReported papers path puts before after delivery.ReportFailed =
     puts path papers.certificate.items true × HasBeginning papers.report.items before after
 
--- a text ends done if it was written whole, or as a file that couldn't be written with a beginning of it
-abbrev pub IsShown : List ℕ → Option (List ℕ) → Option (List ℕ) → Ending → Type 0
-IsShown text before after Done = Appends before after text
-IsShown text before after Refused = ⊥
-IsShown text before after Words = ⊥
-IsShown text before after File = HasBeginning text before after
+-- a text ends done if it was written whole, and no line is printed on standard error; or as a file that couldn't be
+-- written with a beginning of it, as a line says
+abbrev pub IsShown : Streams → List ℕ → Ending → Type 0
+IsShown s text Done = Appends s.before s.after text × s.says []
+IsShown s text Refused = ⊥
+IsShown s text Words = ⊥
+IsShown s text File = HasBeginning text s.before s.after × s.says (not_written_line (codes "-") ∷ [])
 
--- report and certificate end done if both are whole, and otherwise as a file that couldn't be written: a certificate
--- that isn't whole and no report, or the certificate whole and a beginning of the report
-abbrev pub ArePrinted : Papers → Option (List ℕ) → Putting → Option (List ℕ) → Option (List ℕ) → Ending → Type 0
-ArePrinted papers path puts before after Done = IsReported papers path puts before after delivery.Done
-ArePrinted papers path puts before after Refused = ⊥
-ArePrinted papers path puts before after Words = ⊥
-ArePrinted papers path puts before after File = IsReported papers path puts before after delivery.CertificateFailed
-    ⊎ IsReported papers path puts before after delivery.ReportFailed
+-- report and certificate end done if both are whole, and no line is printed on standard error; or as a file that
+-- couldn't be written, as a line says: a certificate that isn't whole and no report, or the certificate whole and a
+-- beginning of the report
+abbrev pub ArePrinted : Streams → Papers → Option (List ℕ) → Putting → Ending → Type 0
+ArePrinted s papers path puts Done = IsReported papers path puts s.before s.after delivery.Done × s.says []
+ArePrinted s papers path puts Refused = ⊥
+ArePrinted s papers path puts Words = ⊥
+ArePrinted s papers path puts File =
+    (IsReported papers path puts s.before s.after delivery.CertificateFailed
+    × s.says (not_written_line (unwrap_or path (codes "-")) ∷ []))
+    ⊎ (IsReported papers path puts s.before s.after delivery.ReportFailed
+    × s.says (not_written_line (codes "-") ∷ []))
 
--- a report is printed, with its certificate in the file of a path if there is one; an error writes nothing
-abbrev pub IsPrinted : {F : Type 0} → Result Papers F → Option (List ℕ) → Putting → Option (List ℕ) → Option (List ℕ)
+-- an error prints its line on standard error and nothing on standard output, and the run ends as refused
+pub record IsRefused {F : Type 0} (line : F → Line) (s : Streams) (fault : F) (ending : Ending) : Type 0 where
+  pub ends : ending ≡ Refused
+  pub unprinted : s.after ≡ s.before
+  pub said : s.says (line fault ∷ [])
+
+-- after the warnings and the line on unlisted stations a report is printed, with its certificate in the file of a path
+-- if there is one; an error prints its line alone, and writes nothing
+abbrev pub IsPrinted : {F : Type 0} → (F → Line) → Streams → Result Papers F → List Line → Option (List ℕ) → Putting
     → Ending → Type 0
-IsPrinted (Ok papers) path puts before after ending = ArePrinted papers path puts before after ending
-IsPrinted (Err fault) path puts before after ending = (ending ≡ Refused) × (after ≡ before) × PutsNothing puts
+IsPrinted line s (Ok papers) warnings path puts ending =
+    ArePrinted (after_lines (warnings ++ unlisted_warning papers.unlisted) s) papers path puts ending
+IsPrinted line s (Err fault) warnings path puts ending = IsRefused line s fault ending × PutsNothing puts
 
--- of a description the text is shown; an error writes nothing
-abbrev pub IsTextShown : Result DescriptionText Fault → Option (List ℕ) → Option (List ℕ) → Ending → Type 0
-IsTextShown (Ok text) before after ending = IsShown text.bytes.items before after ending
-IsTextShown (Err fault) before after ending = (ending ≡ Refused) × (after ≡ before)
+-- after the warnings on files of these paths the text of their description is shown; an error prints its line alone
+abbrev pub IsTextShown : (Fault → Line) → Streams → Result DescriptionText Fault → List (List ℕ) → Ending → Type 0
+IsTextShown line s (Ok text) paths ending =
+    IsShown (after_lines (warning_lines paths text.warnings) s) text.bytes.items ending
+IsTextShown line s (Err fault) paths ending = IsRefused line s fault ending
 
--- a judgement is printed as its line and ends the run as it says, or its line is cut off and the run ends as
--- a file that couldn't be written; an error prints nothing and is refused
-abbrev pub IsTold : Result (Judgement × Warnings) Fault → Option (List ℕ) → Option (List ℕ) → Ending → Type 0
-IsTold (Ok judged) before after ending =
-    ((ending ≡ ending_of judged.0) × Appends before after (judgement_line judged.0))
-    ⊎ ((ending ≡ File) × IsCutOff (judgement_line judged.0) before after)
-IsTold (Err fault) before after ending = (ending ≡ Refused) × (after ≡ before)
+-- a judgement is printed as its line and ends the run as it says; or its line is cut off, and the run ends as a file
+-- that couldn't be written, as a line on standard error says
+abbrev pub IsLineTold : Streams → Judgement → Ending → Type 0
+IsLineTold s judgement ending =
+    ((ending ≡ ending_of judgement) × Appends s.before s.after (judgement_line judgement) × s.says [])
+    ⊎ ((ending ≡ File) × IsCutOff (judgement_line judgement) s.before s.after
+    × s.says (not_written_line (codes "-") ∷ []))
+
+-- after the warnings on files of these paths it is printed; an error prints its line alone
+abbrev pub IsTold : (Fault → Line) → Streams → Result (Judgement × Warnings) Fault → List (List ℕ) → Ending → Type 0
+IsTold line s (Ok judged) paths ending = IsLineTold (after_lines (warning_lines paths judged.1) s) judged.0 ending
+IsTold line s (Err fault) paths ending = IsRefused line s fault ending

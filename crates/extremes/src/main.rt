@@ -9,6 +9,7 @@ mod judge;
 mod judgement;
 mod laws;
 mod merge;
+mod messages;
 mod papers;
 mod print;
 mod rank;

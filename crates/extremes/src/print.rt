@@ -1,14 +1,18 @@
 //! What a run prints, and how it ends then.
 
-ghost use Rattle.std.specs.Prelude.{◌≡◌, IfSome, option_map};
+ghost use Rattle.std.specs.Prelude.{◌≡◌, [], ◌∷◌, IfSome, map, option_map, string_bytes};
 ghost use Rattle.extremes.specs.declared.ending.Ending.TheVariants as endings;
-ghost use Rattle.extremes.specs.Printed.{IsPrinted, IsReported, IsShown, IsTextShown, IsTold, judgement_line};
+ghost use Rattle.extremes.specs.Printed.{ArePrinted, IsLineTold, IsPrinted, IsReported, IsShown};
+ghost use Rattle.extremes.specs.Printed.{IsTextShown, IsTold, judgement_line};
 ghost use Rattle.extremes.specs.Targets.{IsPut};
+ghost use Rattle.extremes.specs.Messages.{ArePrintedLines, after_lines, foreign_warning, not_read_line, not_written_line};
+ghost use Rattle.extremes.specs.Messages.{odd_warning, streams, unlisted_warning, warning_lines};
 
 use crate::delivery::{Delivery, deliver, write_to_end, write_whole};
 use crate::describe::DescriptionText;
 use crate::ending::Ending;
 use crate::judgement::{Judgement, ending};
+use crate::messages::Messages;
 use crate::papers::Papers;
 use crate::rank::Ranked;
 use crate::target::Target;
@@ -22,116 +26,163 @@ use std::io::Write;
 const LONGEST_LINE: usize = 128;
 
 /// Prints what a ranking of files returns, and then frees its data.
-pub(crate) fn print_ranked<R: Eprint, T: Target, W: Write>(
-    rt: &R,
+pub(crate) fn print_ranked<M: Messages, T: Target, W: Write>(
+    messages: &mut M,
     ranked: Ranked,
     files: &[String],
     certificate: Option<&str>,
     target: &mut T,
     out: &mut W,
 ) -> Ending
-    ensures { IsPrinted ranked.answer (option_map (λ path. path.now) certificate.entry)
-        (IsPut T.opens T.abandons T.contents target.old target.new)
-        (W.contents out.old) (W.contents out.new) result }
+    ensures { IsPrinted ⟦<Fault as Display>⟧.output
+        (streams (ArePrintedLines M.prints messages.old messages.new) (W.contents out.old) (W.contents out.new))
+        ranked.answer (warning_lines (map string_bytes files.now) ranked.warnings)
+        (option_map (λ path. path.now) certificate.entry)
+        (IsPut T.opens T.abandons T.contents target.old target.new) result }
 {
     let Ranked {
         answer,
         warnings,
         dataset,
     } = ranked;
-    if answer.is_ok() {
-        tell_warnings(rt, warnings, files);
-    }
-    let ending = print_answer(rt, answer, certificate, target, out);
+    let papers = match answer {
+        Ok(papers) => papers,
+        Err(fault) => return refused(messages, fault),
+    };
+    print_warnings(messages, warnings, files);
+    let ending = print_papers(messages, &papers, certificate, target, out);
     drop(dataset);
     ending
 }
 
-pub(crate) fn not_read<R: Eprint>(rt: &R, path: &str) -> Ending
-    ensures { result ≡ endings.File }
+/// Prints that a file can't be read.
+pub(crate) fn not_read<M: Messages>(messages: &mut M, path: &str) -> Ending
+    ensures ending { result ≡ endings.File }
+    ensures line { ArePrintedLines M.prints messages.old messages.new (not_read_line path.now ∷ []) }
 {
-    let _ = eprintln!(rt; "file not read {path}");
+    messages.print(format_args!("file not read {path}"));
     Ending::File
 }
 
-pub(crate) fn refused<R: Eprint, F: Display + Drop>(rt: &R, fault: F) -> Ending
-    ensures { result ≡ endings.Refused }
+/// Prints an error.
+pub(crate) fn refused<M: Messages, F: Display + Drop>(messages: &mut M, fault: F) -> Ending
+    ensures ending { result ≡ endings.Refused }
+    ensures line { ArePrintedLines M.prints messages.old messages.new (F.output fault ∷ []) }
 {
-    let _ = eprintln!(rt; "{fault}");
+    messages.print(fault);
     Ending::Refused
 }
 
-pub(crate) fn not_written<R: Eprint>(rt: &R, path: &str) -> Ending
-    ensures { result ≡ endings.File }
+/// Prints that a file can't be written.
+pub(crate) fn not_written<M: Messages>(messages: &mut M, path: &str) -> Ending
+    ensures ending { result ≡ endings.File }
+    ensures line { ArePrintedLines M.prints messages.old messages.new (not_written_line path.now ∷ []) }
 {
-    let _ = eprintln!(rt; "file not written {path}");
+    messages.print(format_args!("file not written {path}"));
     Ending::File
 }
 
 /// Prints a text that was asked for.
-pub(crate) fn print_text<R: Eprint, W: Write>(rt: &R, text: &[u8], out: &mut W) -> Ending
-    ensures { IsShown text.now (W.contents out.old) (W.contents out.new) result }
+pub(crate) fn print_text<M: Messages, W: Write>(
+    messages: &mut M,
+    text: &[u8],
+    out: &mut W,
+) -> Ending
+    ensures { IsShown
+        (streams (ArePrintedLines M.prints messages.old messages.new) (W.contents out.old) (W.contents out.new))
+        text.now result }
 {
     if write_whole(text, out) {
         Ending::Done
     } else {
-        not_written(rt, "-")
+        not_written(messages, "-")
     }
 }
 
-/// Prints which of the files are foreign and how many lines are odd, if there are any.
-fn tell_warnings<R: Eprint>(rt: &R, warnings: Warnings, files: &[String]) {
-    tell_foreign(rt, warnings.foreign, files);
-    tell_odd(rt, warnings.odd, files);
+/// Prints how many of the files are foreign and how many lines are odd, if there are any.
+fn print_warnings<M: Messages>(messages: &mut M, warnings: Warnings, files: &[String])
+    ensures { ArePrintedLines M.prints messages.old messages.new
+        (warning_lines (map string_bytes files.now) warnings) }
+{
+    print_foreign(messages, warnings.foreign, files);
+    print_odd(messages, warnings.odd, files);
 }
 
-/// Says how many of the files are foreign, and names the first of them by its path, if there is
-/// one.
-fn tell_foreign<R: Eprint>(rt: &R, foreign: Foreign, files: &[String]) {
+/// Prints how many of the files are foreign, and the path of the first of them, if there is one.
+fn print_foreign<M: Messages>(messages: &mut M, foreign: Foreign, files: &[String])
+    ensures { ArePrintedLines M.prints messages.old messages.new
+        (foreign_warning (map string_bytes files.now) foreign) }
+{
     let Foreign { count, first } = foreign;
     if let Some(place) = first {
         if let Some(path) = files.get(place as usize) {
-            let _ = eprintln!(rt; "foreign {count} {path}");
+            messages.print(format_args!("foreign {count} {path}"));
         }
     }
 }
 
-/// Prints how many lines are odd, and names the first of them by the path of its file and its number
-/// there, if there is one.
-fn tell_odd<R: Eprint>(rt: &R, odd: OddLines, files: &[String]) {
+/// Prints how many lines are odd, and of the first of them the path of its file and its number there,
+/// if there is one.
+fn print_odd<M: Messages>(messages: &mut M, odd: OddLines, files: &[String])
+    ensures { ArePrintedLines M.prints messages.old messages.new
+        (odd_warning (map string_bytes files.now) odd) }
+{
     let OddLines { count, first } = odd;
     if let Some(LinePlace { file, line }) = first {
         if let Some(path) = files.get(file as usize) {
-            let _ = eprintln!(rt; "odd {count} {path}:{line}");
+            messages.print(format_args!("odd {count} {path}:{line}"));
         }
+    }
+}
+
+/// Prints how many lines of unlisted stations were skipped, if there are any.
+fn print_unlisted<M: Messages>(messages: &mut M, unlisted: u64)
+    ensures { ArePrintedLines M.prints messages.old messages.new (unlisted_warning unlisted) }
+{
+    if unlisted > 0 {
+        messages.print(format_args!("unlisted {unlisted}"));
     }
 }
 
 /// Prints the report after a line on what was skipped, or prints the error. The certificate
 /// goes to the file of a path, if one is named, and the report after it.
-pub fn print_answer<R: Eprint, T: Target, W: Write, F: Display + Drop>(
-    rt: &R,
+pub fn print_answer<M: Messages, T: Target, W: Write, F: Display + Drop>(
+    messages: &mut M,
     answer: Result<Papers, F>,
     certificate: Option<&str>,
     target: &mut T,
     out: &mut W,
 ) -> Ending
-    ensures { IsPrinted answer (option_map (λ path. path.now) certificate.entry)
-        (IsPut T.opens T.abandons T.contents target.old target.new)
-        (W.contents out.old) (W.contents out.new) result }
+    ensures { IsPrinted F.output
+        (streams (ArePrintedLines M.prints messages.old messages.new) (W.contents out.old) (W.contents out.new))
+        answer [] (option_map (λ path. path.now) certificate.entry)
+        (IsPut T.opens T.abandons T.contents target.old target.new) result }
 {
-    let papers = match answer {
-        Ok(papers) => papers,
-        Err(fault) => return refused(rt, fault),
-    };
-    let unlisted = papers.unlisted;
-    if unlisted > 0 {
-        let _ = eprintln!(rt; "unlisted {unlisted}");
+    match answer {
+        Ok(papers) => print_papers(messages, &papers, certificate, target, out),
+        Err(fault) => refused(messages, fault),
     }
-    match write_papers(&papers, certificate, target, out) {
+}
+
+/// Prints a report after a line on what was skipped. The certificate goes to the file of a path, if
+/// one is named, and the report after it.
+fn print_papers<M: Messages, T: Target, W: Write>(
+    messages: &mut M,
+    papers: &Papers,
+    certificate: Option<&str>,
+    target: &mut T,
+    out: &mut W,
+) -> Ending
+    ensures { ArePrinted (after_lines (unlisted_warning papers.now.unlisted)
+        (streams (ArePrintedLines M.prints messages.old messages.new) (W.contents out.old) (W.contents out.new)))
+        papers.now (option_map (λ path. path.now) certificate.entry)
+        (IsPut T.opens T.abandons T.contents target.old target.new) result }
+{
+    print_unlisted(messages, papers.unlisted);
+    match write_papers(papers, certificate, target, out) {
         Delivery::Done => Ending::Done,
-        Delivery::CertificateFailed => not_written(rt, certificate.unwrap_or("-")),
-        Delivery::ReportFailed => not_written(rt, "-"),
+        Delivery::CertificateFailed => not_written(messages, certificate.unwrap_or("-")),
+        Delivery::ReportFailed => not_written(messages, "-"),
     }
 }
 
@@ -160,44 +211,58 @@ fn write_papers<T: Target, W: Write>(
 }
 
 /// Prints the text of a description of files, or prints the error.
-pub(crate) fn print_description<R: Eprint, W: Write>(
-    rt: &R,
+pub(crate) fn print_description<M: Messages, W: Write>(
+    messages: &mut M,
     described: Result<DescriptionText, Fault>,
     files: &[String],
     out: &mut W,
 ) -> Ending
-    ensures { IsTextShown described (W.contents out.old) (W.contents out.new) result }
+    ensures { IsTextShown ⟦<Fault as Display>⟧.output
+        (streams (ArePrintedLines M.prints messages.old messages.new) (W.contents out.old) (W.contents out.new))
+        described (map string_bytes files.now) result }
 {
     match described {
         Ok(text) => {
-            tell_warnings(rt, text.warnings, files);
-            print_text(rt, &text.bytes, out)
+            print_warnings(messages, text.warnings, files);
+            print_text(messages, &text.bytes, out)
         }
-        Err(fault) => refused(rt, fault),
+        Err(fault) => refused(messages, fault),
     }
 }
 
 /// Prints what is said of a report and a certificate, or prints the error.
-pub(crate) fn print_judgement<R: Eprint, W: Write>(
-    rt: &R,
+pub(crate) fn print_judgement<M: Messages, W: Write>(
+    messages: &mut M,
     judged: Result<(Judgement, Warnings), Fault>,
     files: &[String],
     out: &mut W,
 ) -> Ending
-    ensures { IsTold judged (W.contents out.old) (W.contents out.new) result }
+    ensures { IsTold ⟦<Fault as Display>⟧.output
+        (streams (ArePrintedLines M.prints messages.old messages.new) (W.contents out.old) (W.contents out.new))
+        judged (map string_bytes files.now) result }
 {
-    let (judgement, warnings) = match judged {
-        Ok(judged) => judged,
-        Err(fault) => return refused(rt, fault),
-    };
-    tell_warnings(rt, warnings, files);
-    let Some(line) = line_of(&judgement) else {
-        return not_written(rt, "-");
+    match judged {
+        Ok((judgement, warnings)) => {
+            print_warnings(messages, warnings, files);
+            print_line(messages, &judgement, out)
+        }
+        Err(fault) => refused(messages, fault),
+    }
+}
+
+/// Prints what is said of a report and a certificate as a line.
+fn print_line<M: Messages, W: Write>(messages: &mut M, judgement: &Judgement, out: &mut W) -> Ending
+    ensures { IsLineTold
+        (streams (ArePrintedLines M.prints messages.old messages.new) (W.contents out.old) (W.contents out.new))
+        judgement.now result }
+{
+    let Some(line) = line_of(judgement) else {
+        return not_written(messages, "-");
     };
     if write_to_end(line.as_slice(), out) {
-        ending(&judgement)
+        ending(judgement)
     } else {
-        not_written(rt, "-")
+        not_written(messages, "-")
     }
 }
 

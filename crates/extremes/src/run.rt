@@ -4,11 +4,14 @@ ghost use Rattle.std.specs.Prelude.{◌≡◌, option_map, string_bytes};
 ghost use Rattle.extremes.specs.Commands.{IsCommandRun, IsSampleRanked, environment};
 ghost use Rattle.extremes.specs.Commands.{RunsRanking, RunsMerge, RunsJudging, RunsDescribing};
 ghost use Rattle.extremes.specs.Targets.{IsPut};
+ghost use Rattle.extremes.specs.Messages.{ArePrintedLines, streams};
 
 use crate::ending::Ending;
 use crate::files::{
     Describing, Judging, Ranking, describe_files, judge_files, merge_files, rank_files,
 };
+use crate::merge::MergingFault;
+use crate::messages::{Messages, SystemMessages};
 use crate::papers::Papers;
 use crate::print::{
     not_read, not_written, print_answer, print_description, print_judgement, print_ranked,
@@ -22,6 +25,7 @@ use command_line::{Command, CommandFault, Part, command};
 use ghcn_fields::Memory;
 use rank_input::{Archive, Fault, System};
 use std::alloc::Global;
+use std::fmt::Display;
 use std::fs::File;
 use std::io::Write;
 use std::rt::{Env, Files};
@@ -34,40 +38,52 @@ pub fn run<R: Files + Env + Print + Eprint + Threads + Wait + AllocGlobal + Sync
     rt: &R,
 ) -> Ending {
     let (_input, _output, _errors) = (placeholder(rt), placeholder(rt), placeholder(rt));
+    let mut messages = SystemMessages(rt);
     let words = match words_after_name(rt) {
         Ok(words) => words,
-        Err(error) => return no_words(rt, &error),
+        Err(error) => return no_words(&mut messages, &error),
     };
     match command(rt.alloc(), words) {
         Ok(asked) => {
             let mut target = SystemTarget::new(rt);
-            run_command(rt, &System(rt), asked, &mut target, &mut io::writer(rt))
+            run_command(
+                rt,
+                &System(rt),
+                asked,
+                &mut messages,
+                &mut target,
+                &mut io::writer(rt),
+            )
         }
         Err(CommandFault::Words(text)) => {
             let _ = eprint!(rt; "{text}");
             Ending::Words
         }
-        Err(CommandFault::Version(text)) => print_text(rt, text.as_bytes(), &mut io::writer(rt)),
-        Err(CommandFault::Memory) => refused(rt, Fault::Memory(Memory)),
+        Err(CommandFault::Version(text)) => {
+            print_text(&mut messages, text.as_bytes(), &mut io::writer(rt))
+        }
+        Err(CommandFault::Memory) => refused(&mut messages, Fault::Memory(Memory)),
     }
 }
 
 /// Runs a command over the files of an archive, and prints the report or the verdict. A certificate
-/// goes to a target.
-fn run_command<R: Eprint + Threads + Wait + AllocGlobal + Sync, A: Archive, T: Target, W: Write>(
-    rt: &R,
-    archive: &A,
-    asked: Command,
-    target: &mut T,
-    out: &mut W,
-) -> Ending
+/// goes to a target, and the other lines go to standard error.
+fn run_command<
+    R: Threads + Wait + AllocGlobal + Sync,
+    A: Archive,
+    M: Messages,
+    T: Target,
+    W: Write,
+>(rt: &R, archive: &A, asked: Command, messages: &mut M, target: &mut T, out: &mut W) -> Ending
     ensures { IsCommandRun (environment (A.bytes_of archive.now) (A.opens archive.now)
         (T.one_file target.old) (T.other_text target.old)
         (IsPut T.opens T.abandons T.contents target.old target.new)
-        (W.contents out.old) (W.contents out.new)) asked result }
+        ⟦<Fault as Display>⟧.output ⟦<MergingFault as Display>⟧.output
+        (streams (ArePrintedLines M.prints messages.old messages.new) (W.contents out.old) (W.contents out.new)))
+        asked result }
 {
     match asked {
-        Command::Sample => print_answer(rt, rank_sample(rt.alloc()), None, target, out),
+        Command::Sample => print_answer(messages, rank_sample(rt.alloc()), None, target, out),
         Command::Rank {
             stations,
             query,
@@ -83,13 +99,25 @@ fn run_command<R: Eprint + Threads + Wait + AllocGlobal + Sync, A: Archive, T: T
                 workers,
                 guess,
             };
-            run_ranking(rt, archive, &ranking, &certificate, target, out)
+            run_ranking(rt, archive, &ranking, &certificate, messages, target, out)
         }
         Command::Merge {
             query,
             certificate,
             parts,
-        } => run_merge(rt, archive, &query, &parts, &certificate, target, out),
+        } => {
+            let alloc = rt.alloc();
+            run_merge(
+                alloc,
+                archive,
+                &query,
+                &parts,
+                &certificate,
+                messages,
+                target,
+                out,
+            )
+        }
         Command::Check {
             stations,
             query,
@@ -109,69 +137,79 @@ fn run_command<R: Eprint + Threads + Wait + AllocGlobal + Sync, A: Archive, T: T
                 papers,
                 part,
             };
-            run_judging(rt, archive, &judging, out)
+            run_judging(rt.alloc(), archive, &judging, messages, out)
         }
         Command::Describe { stations, files } => {
             let describing = Describing { stations, files };
-            run_describing(rt, archive, &describing, out)
+            run_describing(rt.alloc(), archive, &describing, messages, out)
         }
     }
 }
 
 /// Ranks files that are named, and prints the report. The certificate goes to the file of a path,
 /// if one is named.
-fn run_ranking<R: Eprint + Threads + Wait + AllocGlobal + Sync, A: Archive, T: Target, W: Write>(
+fn run_ranking<
+    R: Threads + Wait + AllocGlobal + Sync,
+    A: Archive,
+    M: Messages,
+    T: Target,
+    W: Write,
+>(
     rt: &R,
     archive: &A,
     ranking: &Ranking,
     certificate: &Option<String>,
+    messages: &mut M,
     target: &mut T,
     out: &mut W,
 ) -> Ending
     ensures { RunsRanking (environment (A.bytes_of archive.now) (A.opens archive.now)
         (T.one_file target.old) (T.other_text target.old)
         (IsPut T.opens T.abandons T.contents target.old target.new)
-        (W.contents out.old) (W.contents out.new))
+        ⟦<Fault as Display>⟧.output ⟦<MergingFault as Display>⟧.output
+        (streams (ArePrintedLines M.prints messages.old messages.new) (W.contents out.old) (W.contents out.new)))
         ranking.now (option_map string_bytes certificate.now) result }
 {
     let certificate = path_of(certificate);
     if let Some(path) = certificate {
         if is_in_use(target, path, &ranking.stations, &ranking.files) {
-            return not_written(rt, path);
+            return not_written(messages, path);
         }
     }
     match rank_files(rt, archive, ranking) {
-        Ok(ranked) => print_ranked(rt, ranked, &ranking.files, certificate, target, out),
-        Err(path) => not_read(rt, path),
+        Ok(ranked) => print_ranked(messages, ranked, &ranking.files, certificate, target, out),
+        Err(path) => not_read(messages, path),
     }
 }
 
 /// Merges the reports and certificates of parts that are named, and prints the report. The certificate goes to the
 /// file of a path, if one is named.
-fn run_merge<R: Eprint + AllocGlobal, A: Archive, T: Target, W: Write>(
-    rt: &R,
+fn run_merge<A: Archive, M: Messages, T: Target, W: Write>(
+    alloc: Global,
     archive: &A,
     query: &str,
     parts: &[Part],
     certificate: &Option<String>,
+    messages: &mut M,
     target: &mut T,
     out: &mut W,
 ) -> Ending
     ensures { RunsMerge (environment (A.bytes_of archive.now) (A.opens archive.now)
         (T.one_file target.old) (T.other_text target.old)
         (IsPut T.opens T.abandons T.contents target.old target.new)
-        (W.contents out.old) (W.contents out.new))
+        ⟦<Fault as Display>⟧.output ⟦<MergingFault as Display>⟧.output
+        (streams (ArePrintedLines M.prints messages.old messages.new) (W.contents out.old) (W.contents out.new)))
         query.now parts.now (option_map string_bytes certificate.now) result }
 {
     let certificate = path_of(certificate);
     if let Some(path) = certificate {
         if is_paper_or_output(target, path, parts) {
-            return not_written(rt, path);
+            return not_written(messages, path);
         }
     }
-    match merge_files(rt.alloc(), archive, query, parts) {
-        Ok(merged) => print_answer(rt, merged, certificate, target, out),
-        Err(path) => not_read(rt, path),
+    match merge_files(alloc, archive, query, parts) {
+        Ok(merged) => print_answer(messages, merged, certificate, target, out),
+        Err(path) => not_read(messages, path),
     }
 }
 
@@ -183,34 +221,38 @@ fn path_of(certificate: &Option<String>) -> Option<&str>
 }
 
 /// Checks a report and a certificate against files that are named, and prints the verdict.
-fn run_judging<R: Eprint + AllocGlobal, A: Archive, W: Write>(
-    rt: &R,
+fn run_judging<A: Archive, M: Messages, W: Write>(
+    alloc: Global,
     archive: &A,
     judging: &Judging,
+    messages: &mut M,
     out: &mut W,
 ) -> Ending
-    ensures { RunsJudging (A.bytes_of archive.now) (A.opens archive.now) judging.now
-        (W.contents out.old) (W.contents out.new) result }
+    ensures { RunsJudging (A.bytes_of archive.now) (A.opens archive.now) ⟦<Fault as Display>⟧.output
+        (streams (ArePrintedLines M.prints messages.old messages.new) (W.contents out.old) (W.contents out.new))
+        judging.now result }
 {
-    match judge_files(rt.alloc(), archive, judging) {
-        Ok(judged) => print_judgement(rt, judged, &judging.files, out),
-        Err(path) => not_read(rt, path),
+    match judge_files(alloc, archive, judging) {
+        Ok(judged) => print_judgement(messages, judged, &judging.files, out),
+        Err(path) => not_read(messages, path),
     }
 }
 
 /// Describes files that are named, and prints the description.
-fn run_describing<R: Eprint + AllocGlobal, A: Archive, W: Write>(
-    rt: &R,
+fn run_describing<A: Archive, M: Messages, W: Write>(
+    alloc: Global,
     archive: &A,
     describing: &Describing,
+    messages: &mut M,
     out: &mut W,
 ) -> Ending
-    ensures { RunsDescribing (A.bytes_of archive.now) (A.opens archive.now) describing.now
-        (W.contents out.old) (W.contents out.new) result }
+    ensures { RunsDescribing (A.bytes_of archive.now) (A.opens archive.now) ⟦<Fault as Display>⟧.output
+        (streams (ArePrintedLines M.prints messages.old messages.new) (W.contents out.old) (W.contents out.new))
+        describing.now result }
 {
-    match describe_files(rt.alloc(), archive, describing) {
-        Ok(described) => print_description(rt, described, &describing.files, out),
-        Err(path) => not_read(rt, path),
+    match describe_files(alloc, archive, describing) {
+        Ok(described) => print_description(messages, described, &describing.files, out),
+        Err(path) => not_read(messages, path),
     }
 }
 
@@ -227,11 +269,11 @@ fn words_after_name<R: Env + AllocGlobal>(rt: &R) -> io::Result<Vec<String>> {
 }
 
 /// Prints why there are no arguments: memory was refused, or one of them isn't text.
-fn no_words<R: Eprint>(rt: &R, error: &io::Error) -> Ending {
+fn no_words<M: Messages>(messages: &mut M, error: &io::Error) -> Ending {
     if error.kind() == io::ErrorKind::OutOfMemory {
-        return refused(rt, Fault::Memory(Memory));
+        return refused(messages, Fault::Memory(Memory));
     }
-    let _ = eprintln!(rt; "an argument isn't UTF-8 text");
+    messages.print("an argument isn't UTF-8 text");
     Ending::Words
 }
 

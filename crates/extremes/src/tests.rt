@@ -5,6 +5,7 @@ mod gated;
 mod growths;
 mod judged;
 mod merged;
+mod messages;
 mod pieces;
 mod words;
 
@@ -13,6 +14,7 @@ use crate::print::print_answer;
 use crate::rank::{rank, rank_serial};
 use crate::sample;
 use crate::system_target::SystemTarget;
+use messages::KeptLines;
 use rank_crew::Open;
 use rank_input::Fault;
 
@@ -58,17 +60,19 @@ fn the_right_report(rt: HostRuntime) {
 #[test]
 fn reports_are_printed_whole(rt: HostRuntime) {
     let (mut target, mut out) = (SystemTarget::new(&rt), Vec::new(rt.alloc()));
+    let mut messages = KeptLines::new(rt.alloc());
     let ranked = rank_serial(rt.alloc(), STATIONS, &[DAILY], "top 3 highest TMAX", None);
     assert_eq!(rt;
-        print_answer(&rt, ranked, None, &mut target, &mut out),
+        print_answer(&mut messages, ranked, None, &mut target, &mut out),
         Ending::Done
     );
     let faulty = rank_serial(rt.alloc(), STATIONS, &[DAILY], "top 3 highest", None);
     assert_eq!(rt;
-        print_answer(&rt, faulty, None, &mut target, &mut out),
+        print_answer(&mut messages, faulty, None, &mut target, &mut out),
         Ending::Refused
     );
     assert_eq!(rt; out.as_slice(), REPORT);
+    assert_eq!(rt; messages.text.as_str(), "refused 9 QueryEnds\n");
 }
 
 #[test]

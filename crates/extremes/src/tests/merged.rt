@@ -21,9 +21,10 @@ fn parts_are_merged(rt: HostRuntime) -> Result<(), Fail> {
         })?;
     }
     let (mut target, mut out) = (SystemTarget::new(&rt), Vec::new(alloc));
+    let mut messages = KeptLines::new(alloc);
     let merged = merge_texts(alloc, " top 3  highest TMAX", parts.as_slice());
     assert_eq!(rt;
-        print_answer(&rt, merged, None, &mut target, &mut out),
+        print_answer(&mut messages, merged, None, &mut target, &mut out),
         Ending::Done
     );
     assert_eq!(rt; out.as_slice(), REPORT);
@@ -46,10 +47,14 @@ fn parts_are_merged(rt: HostRuntime) -> Result<(), Fail> {
         let told = expected.to_string(alloc)?;
         assert_eq!(rt; told.as_str(), text);
         assert_eq!(rt;
-            print_answer(&rt, refused, None, &mut target, &mut out),
+            print_answer(&mut messages, refused, None, &mut target, &mut out),
             Ending::Refused
         );
     }
     assert_eq!(rt; out.as_slice(), REPORT);
+    assert_eq!(rt;
+        messages.text.as_str(),
+        "refused 9 QueryEnds\nrefused part 1 OtherQuery\n"
+    );
     Ok(())
 }

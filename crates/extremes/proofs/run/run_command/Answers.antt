@@ -1,15 +1,22 @@
-use Rattle.std.proofs.Common.{sym, subst}
+use Rattle.std.proofs.Common.{◌≡◌, [], sym, subst}
+use Rattle.std.specs.Prelude.{None, Result}
+use Rattle.rank_input.specs.declared.fault.Fault.{Fault}
 use Rattle.command_line.specs.declared.asked.Command.{Command}
-use Rattle.extremes.specs.Commands.{IsCommandRun, environment}
-use Rattle.extremes.specs.Targets.{IsPut}
+use Rattle.command_line.specs.declared.asked.Command.TheVariants.{Sample}
+use Rattle.extremes.specs.declared.papers.Papers.{Papers}
+use Rattle.extremes.specs.declared.ending.Ending.{Ending}
+use Rattle.extremes.specs.Printed.{IsPrinted}
+use Rattle.extremes.specs.Commands.{Environment, IsCommandRun, IsSampleRanked}
 use Rattle.extremes.proofs.run.run_command.Goals as goal
+
+-- a run that prints the ranking of the built-in texts is one of the sample
+sample-run : (e : Environment) (asked : Command) (ending : Ending) (answer : Result Papers Fault) → asked ≡ Sample
+    → IsSampleRanked answer → IsPrinted e.line e.streams answer [] None e.puts ending → IsCommandRun e asked ending
+sample-run e asked ending answer same ranked printed =
+    subst (λ (a : Command). IsCommandRun e a ending) (sym same)
+    (record { answer = answer; ranked = ranked; printed = printed })
 
 -- the built-in texts are ranked
 pub returns-in-Sample : goal.returns-in-Sample
 returns-in-Sample g c =
-    let e = environment (g.A.Archive.bytes_of c.args.archive.now) (g.A.Archive.opens c.args.archive.now)
-    (g.T.Target.one_file c.args.target.now) (g.T.Target.other_text c.args.target.now)
-    (IsPut g.T.Target.opens g.T.Target.abandons g.T.Write.contents c.args.target.now c.print_answer.new.target)
-    (g.W.Write.contents c.args.out.now) (g.W.Write.contents c.print_answer.new.out) in
-    subst (λ (a : Command). IsCommandRun e a c.print_answer.result) (sym c.in-Sample.is)
-    (record { answer = c.rank_sample.result; ranked = c.rank_sample.ensures; printed = c.print_answer.ensures })
+    sample-run _ _ _ c.rank_sample.result c.in-Sample.is c.rank_sample.ensures c.print_answer.ensures

@@ -1,4 +1,6 @@
 use Rattle.std.proofs.Common.{inl, inr, refl}
+use Rattle.extremes.specs.Messages.{ArePrintedLines, streams}
+use Rattle.extremes.proofs.PrintedLines.{told_of}
 use Rattle.extremes.proofs.run.run_judging.Goals as goal
 
 -- the judgement is printed
@@ -7,7 +9,10 @@ returns-in-Ok g c =
     inr (record {
       answer = c.in-Ok.judged;
       judged = c.in-Ok.ensures.judges;
-      told = c.print_judgement.ensures;
+      told = told_of
+          (streams (ArePrintedLines g.M.Messages.prints c.args.messages.now c.print_judgement.new.messages)
+          (g.W.Write.contents c.args.out.now) (g.W.Write.contents c.print_judgement.new.out))
+          c.deref.result.now c.args.judging.now.files.items c.print_judgement.result c.deref.ensures.value _ _ c.print_judgement.ensures;
     })
 
 -- or a file can't be read
@@ -15,6 +20,7 @@ pub returns-in-Err : goal.returns-in-Err
 returns-in-Err g c = inl (record {
   path = c.in-Err.path.now;
   stops = c.in-Err.ensures.stopped;
-  ends = c.not_read.ensures;
+  ends = c.not_read.ensures.ending;
   unprinted = refl;
+  said = c.not_read.ensures.line;
 })

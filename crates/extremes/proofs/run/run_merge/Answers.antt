@@ -1,5 +1,7 @@
 use Rattle.std.proofs.Common.{inl, refl, subst}
 use Rattle.extremes.specs.Commands.{merge_uses}
+use Rattle.extremes.specs.Messages.{ArePrintedLines}
+use Rattle.extremes.specs.Targets.{IsPaperOrOutput}
 use Rattle.extremes.proofs.Comparing.{ends-at-out}
 use Rattle.extremes.proofs.run.run_merge.Goals as goal
 
@@ -10,6 +12,8 @@ returns-then-is_paper_or_output g c =
     c.args.parts.now in
     inl (
       refl,
-      ends-at-out uses _ _ _ _ _ c.in-Some.is c.path_of-certificate.ensures
-          (subst (uses c.in-Some.path.now) c.if-is_paper_or_output.true c.is_paper_or_output.ensures) c.not_written.ensures,
+      ends-at-out uses (ArePrintedLines g.M.Messages.prints c.args.messages.now c.not_written.new.messages)
+          _ _ _ _ _ c.in-Some.is c.path_of-certificate.ensures
+          (subst (uses c.in-Some.path.now) c.if-is_paper_or_output.true c.is_paper_or_output.ensures)
+          c.not_written.ensures.line c.not_written.ensures.ending,
     )

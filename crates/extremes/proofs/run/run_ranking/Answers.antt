@@ -1,6 +1,9 @@
-use Rattle.std.proofs.Common.{inl, refl}
+use Rattle.std.proofs.Common.{inl, inr, refl}
 use Rattle.extremes.specs.Commands.{ranking_uses}
-use Rattle.extremes.proofs.Comparing.{ends-at-out, used-as}
+use Rattle.extremes.specs.Messages.{ArePrintedLines, streams}
+use Rattle.extremes.proofs.Comparing.{ends-at-out, none-unused, some-unused, used-as}
+use Rattle.extremes.proofs.PrintedLines.{printed-as}
+use Rattle.extremes.proofs.run.run_ranking.Goals.{in-Some+else-is_in_use, in_default}
 use Rattle.extremes.proofs.run.run_ranking.Goals as goal
 
 -- the certificate's file is in use
@@ -12,6 +15,32 @@ returns-then-is_in_use g c =
     c.deref-in-Some.ensures.value c.if-is_in_use.true c.is_in_use.ensures in
     inl (
       refl,
-      ends-at-out (ranking_uses shares holds c.args.ranking.now) _ _ _ _ _ c.in-Some.is
-          c.path_of-certificate.ensures used c.not_written.ensures,
+      ends-at-out (ranking_uses shares holds c.args.ranking.now)
+          (ArePrintedLines g.M.Messages.prints c.args.messages.now c.not_written.new.messages) _ _ _ _ _ c.in-Some.is
+          c.path_of-certificate.ensures used c.not_written.ensures.line c.not_written.ensures.ending,
     )
+
+-- it isn't, and the ranking is printed
+pub returns-in-Ok : goal.returns-in-Ok
+returns-in-Ok g c =
+    let shares = g.T.Target.one_file c.args.target.now in
+    let holds = g.T.Target.other_text c.args.target.now in
+    let uses = ranking_uses shares holds c.args.ranking.now in
+    inr (inr (
+      elim c.match-certificate.branch [
+        | in-Some+else-is_in_use w ↦ some-unused uses _ _ c.path_of-certificate.ensures _ w.in-Some.is
+            (used-as (shares w.in-Some.path.now) (holds w.in-Some.path.now) _ _ _ _ _ _ w.deref.ensures
+            w.deref-in-Some.ensures.value w.if-is_in_use.false w.is_in_use.ensures)
+        | in_default w ↦ none-unused uses _ _ c.path_of-certificate.ensures w.in_default.not-Some
+      ],
+      record {
+        answer = c.in-Ok.ranked.answer;
+        warnings = c.in-Ok.ranked.warnings;
+        ranked = c.in-Ok.ensures.ranks;
+        printed = printed-as _
+            (streams (ArePrintedLines g.M.Messages.prints c.args.messages.now c.print_ranked.new.messages)
+            (g.W.Write.contents c.args.out.now) (g.W.Write.contents c.print_ranked.new.out))
+            c.in-Ok.ranked.answer c.deref-in-Ok.result.now c.args.ranking.now.files.items c.in-Ok.ranked.warnings
+            _ _ _ c.print_ranked.result c.deref-in-Ok.ensures.value c.path_of-certificate.ensures c.print_ranked.ensures;
+      },
+    ))

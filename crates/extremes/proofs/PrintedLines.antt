@@ -1,0 +1,191 @@
+-- Lines that are printed one after the other.
+use Rattle.std.proofs.Common.{◌≡◌, ℕ, zero, suc, ◌<◌, List, [], ◌∷◌, ◌++◌, length, map, Option, None, Some}
+use Rattle.std.proofs.Common.{refl, sym, ap, subst, ◌∙◌, inl, inr, arith, append_assoc, Bor}
+use Rattle.std.proofs.lemmas.Option.{slice_get-map, slice_get_past, slice_get_read}
+use Rattle.std.specs.Prelude.{codes, option_map, Result, Ok, String, string_bytes}
+use Rattle.std.specs.Fmt.{decimal}
+use Rattle.std.specs.List.{slice_get}
+use Rattle.std.specs.Option.{option_and_then}
+use Rattle.std.specs.Slice.{IsItemAt}
+use Rattle.ghcn_series.specs.declared.counts.Foreign.{Foreign}
+use Rattle.ghcn_series.specs.declared.counts.OddLines.{OddLines}
+use Rattle.ghcn_series.specs.declared.counts.LinePlace.{LinePlace}
+use Rattle.ghcn_series.specs.declared.counts.Warnings.{Warnings}
+use Rattle.rank_input.specs.declared.fault.Fault.{Fault}
+use Rattle.extremes.specs.declared.papers.Papers.{Papers}
+use Rattle.extremes.specs.declared.ending.Ending.{Ending}
+use Rattle.extremes.specs.declared.ending.Ending.TheVariants.{Done, Refused, Words, File}
+use Rattle.extremes.specs.Targets.{Putting}
+use Rattle.extremes.specs.declared.describe.DescriptionText.{DescriptionText}
+use Rattle.extremes.specs.declared.judgement.Judgement.{Judgement}
+use Rattle.extremes.specs.Printed.{ArePrinted, IsPrinted, IsTextShown, IsTold}
+use Rattle.extremes.specs.Messages.{Line, LinePrinting, ArePrintedLines, Streams, streams, after_lines, line_naming}
+use Rattle.extremes.specs.Messages.{warning_lines}
+use Rattle.extremes.specs.Messages.{foreign_text, foreign_warning, odd_text, odd_warning, odd_warning_at, unlisted_warning}
+
+module _ {M : Type 0} (prints : LinePrinting M) where
+  -- lines that are printed after others are printed with them
+  pub lines-then : (before between after : M) (first lines : List Line)
+      → ArePrintedLines prints before between first → ArePrintedLines prints between after lines
+      → ArePrintedLines prints before after (first ++ lines)
+  lines-then before between after [] lines was is =
+      subst (λ m. ArePrintedLines prints m after lines) (sym was) is
+  lines-then before between after (line ∷ first) lines was is =
+      (was.0, was.1, lines-then was.0 between after first lines was.2 is)
+
+  -- a line that is printed is printed alone
+  pub line-alone : (before after : M) (text : List ℕ) (lines : List Line) → lines ≡ Some text ∷ []
+      → prints before (Some text) after → ArePrintedLines prints before after lines
+  line-alone before after text lines same is =
+      subst (λ l. ArePrintedLines prints before after l) (sym same) (after, is, refl)
+
+  -- and no line is printed if nothing is
+  pub line-none : (m : M) (lines : List Line) → lines ≡ [] → ArePrintedLines prints m m lines
+  line-none m lines same = subst (λ l. ArePrintedLines prints m m l) (sym same) refl
+
+-- the line on some lines of unlisted stations
+pub unlisted-some : (n : ℕ) → 0 < n → unlisted_warning n ≡ Some (codes "unlisted " ++ decimal n) ∷ []
+unlisted-some zero some = absurd (omega (arith, some))
+unlisted-some (suc n) some = refl
+
+-- what isn't some is none
+pub none-found : {X : Type 0} (found : Option X) → ((x : X) → found ≡ Some x → ⊥) → found ≡ None
+none-found None absent = refl
+none-found (Some x) absent = absurd (absent x refl)
+
+-- what is found at a place among strings is found there among their bytes
+paths-at : {A : Type 0} (files : List (String A)) (place : ℕ) (found : Option (Bor (String A)))
+    → IsItemAt files place found
+    → slice_get (map string_bytes files) place ≡ option_map (λ path. string_bytes path.now) found
+paths-at files place None is =
+    slice_get-map string_bytes files place ∙ ap (option_map string_bytes) (slice_get_past files place is.3)
+paths-at files place (Some path) is = slice_get-map string_bytes files place
+    ∙ ap (option_map string_bytes) (slice_get_read files (length files) place path.now refl is.3.0 is.1)
+
+-- the line on foreign files, by what is at the place of the first
+foreign-at : (paths : List (List ℕ)) (foreign : Foreign) (place : ℕ) (found : Option (List ℕ))
+    → foreign.first ≡ Some place → slice_get paths place ≡ found
+    → foreign_warning paths foreign ≡ line_naming (foreign_text foreign.count) found
+foreign-at paths foreign place found first is =
+    ap (λ f. line_naming (foreign_text foreign.count) (option_and_then (slice_get paths) f)) first
+    ∙ ap (λ path. line_naming (foreign_text foreign.count) path) is
+
+-- the line on odd lines, by what is at the place of the first
+odd-at : (paths : List (List ℕ)) (odd : OddLines) (place : LinePlace) (found : Option (List ℕ))
+    → odd.first ≡ Some place → slice_get paths place.file ≡ found
+    → odd_warning paths odd ≡ line_naming (odd_text odd.count place.line) found
+odd-at paths odd place found first is =
+    ap (λ f. odd_warning_at paths odd.count f) first
+    ∙ ap (λ path. line_naming (odd_text odd.count place.line) path) is
+
+-- the texts of these lines, from their ends
+foreign-nested : (count : ℕ) (path : List ℕ)
+    → foreign_text count path ≡ codes "foreign " ++ (decimal count ++ (codes " " ++ path))
+foreign-nested count path = append_assoc (codes "foreign " ++ decimal count) (codes " ") path
+    ∙ append_assoc (codes "foreign ") (decimal count) (codes " " ++ path)
+
+odd-nested : (count line : ℕ) (path : List ℕ) → odd_text count line path
+    ≡ codes "odd " ++ (decimal count ++ (codes " " ++ (path ++ (codes ":" ++ decimal line))))
+odd-nested count line path =
+    append_assoc (codes "odd " ++ decimal count ++ codes " " ++ path) (codes ":") (decimal line)
+    ∙ append_assoc (codes "odd " ++ decimal count ++ codes " ") path (codes ":" ++ decimal line)
+    ∙ append_assoc (codes "odd " ++ decimal count) (codes " ") (path ++ (codes ":" ++ decimal line))
+    ∙ append_assoc (codes "odd ") (decimal count) (codes " " ++ (path ++ (codes ":" ++ decimal line)))
+
+module _ {M A : Type 0} (prints : LinePrinting M) (files : List (String A)) (found : Option (Bor (String A))) where
+  -- the line on foreign files is printed with the path that is found
+  pub foreign-printed : (before after : M) (foreign : Foreign) (place : ℕ) (path : Bor (String A))
+      → foreign.first ≡ Some place → IsItemAt files place found → found ≡ Some path
+      → prints before (Some (codes "foreign " ++ (decimal foreign.count ++ (codes " " ++ string_bytes path.now)))) after
+      → ArePrintedLines prints before after (foreign_warning (map string_bytes files) foreign)
+  foreign-printed before after foreign place path first is some printed = line-alone prints before after _ _
+      (foreign-at (map string_bytes files) foreign place _ first (paths-at files place found is)
+      ∙ ap (λ f. line_naming (foreign_text foreign.count) (option_map (λ path. string_bytes path.now) f)) some)
+      (subst (λ t. prints before (Some t) after) (sym (foreign-nested foreign.count (string_bytes path.now))) printed)
+
+  -- and none if no path is found
+  pub foreign-unprinted : (m : M) (foreign : Foreign) (place : ℕ)
+      → foreign.first ≡ Some place → IsItemAt files place found → ((path : Bor (String A)) → found ≡ Some path → ⊥)
+      → ArePrintedLines prints m m (foreign_warning (map string_bytes files) foreign)
+  foreign-unprinted m foreign place first is absent = line-none prints m _
+      (foreign-at (map string_bytes files) foreign place _ first (paths-at files place found is)
+      ∙ ap (λ f. line_naming (foreign_text foreign.count) (option_map (λ path. string_bytes path.now) f))
+      (none-found found absent))
+
+  -- the line on odd lines is printed with the path that is found
+  pub odd-printed : (before after : M) (odd : OddLines) (place : LinePlace) (path : Bor (String A))
+      → odd.first ≡ Some place → IsItemAt files place.file found → found ≡ Some path
+      → prints before (Some (codes "odd " ++ (decimal odd.count ++ (codes " " ++ (string_bytes path.now ++ (codes ":"
+      ++ decimal place.line)))))) after
+      → ArePrintedLines prints before after (odd_warning (map string_bytes files) odd)
+  odd-printed before after odd place path first is some printed = line-alone prints before after _ _
+      (odd-at (map string_bytes files) odd place _ first (paths-at files place.file found is)
+      ∙ ap (λ f. line_naming (odd_text odd.count place.line) (option_map (λ path. string_bytes path.now) f)) some)
+      (subst (λ t. prints before (Some t) after) (sym (odd-nested odd.count place.line (string_bytes path.now))) printed)
+
+  -- and none if no path is found
+  pub odd-unprinted : (m : M) (odd : OddLines) (place : LinePlace)
+      → odd.first ≡ Some place → IsItemAt files place.file found → ((path : Bor (String A)) → found ≡ Some path → ⊥)
+      → ArePrintedLines prints m m (odd_warning (map string_bytes files) odd)
+  odd-unprinted m odd place first is absent = line-none prints m _
+      (odd-at (map string_bytes files) odd place _ first (paths-at files place.file found is)
+      ∙ ap (λ f. line_naming (odd_text odd.count place.line) (option_map (λ path. string_bytes path.now) f))
+      (none-found found absent))
+
+module _ {M : Type 0} (prints : LinePrinting M) (held given : Option (List ℕ)) (before between after : M)
+    (first : List Line) (printed : ArePrintedLines prints before between first) where
+  -- lines that are printed after the first are printed with them
+  with-first : (lines : List Line) → ArePrintedLines prints between after lines
+      → ArePrintedLines prints before after (first ++ lines)
+  with-first lines is = lines-then prints before between after first lines printed is
+
+  -- after more of them
+  with-both : (more lines : List Line) → ArePrintedLines prints between after (more ++ lines)
+      → ArePrintedLines prints before after (first ++ more ++ lines)
+  with-both more lines is = subst (λ l. ArePrintedLines prints before after l) (sym (append_assoc first more lines))
+      (with-first (more ++ lines) is)
+
+  -- so papers are printed after the first lines
+  papers-after : (papers : Papers) (path : Option (List ℕ)) (puts : Putting) (more : List Line) (ending : Ending)
+      → ArePrinted (after_lines more (streams (ArePrintedLines prints between after) held given)) papers path puts ending
+      → ArePrinted (after_lines (first ++ more) (streams (ArePrintedLines prints before after) held given)) papers path
+      puts ending
+  papers-after papers path puts more Done is = (is.0, with-both more [] is.1)
+  papers-after papers path puts more Refused is = is
+  papers-after papers path puts more Words is = is
+  papers-after papers path puts more File (inl is) = inl (is.0, with-both more _ is.1)
+  papers-after papers path puts more File (inr is) = inr (is.0, with-both more _ is.1)
+
+  -- and an answer that isn't an error
+  pub answer-after : {F : Type 0} (line : F → Line) (answer : Result Papers F) (papers : Papers)
+      (path : Option (List ℕ)) (puts : Putting) (ending : Ending) → answer ≡ Ok papers
+      → ArePrinted (after_lines (unlisted_warning papers.unlisted) (streams (ArePrintedLines prints between after) held given))
+      papers path puts ending
+      → IsPrinted line (streams (ArePrintedLines prints before after) held given) answer first path puts ending
+  answer-after {F} line answer papers path puts ending same is =
+      subst (λ (a : Result Papers F). IsPrinted line (streams (ArePrintedLines prints before after) held given) a first path
+      puts ending) (sym same) (papers-after papers path puts (unlisted_warning papers.unlisted) ending is)
+
+module _ {A : Type 0} (s : Streams) (files named : List (String A)) (ending : Ending) (same : files ≡ named) where
+  -- what is told of files is told of the same files
+  pub told_of : (line : Fault → Line) (judged : Result (Judgement × Warnings) Fault)
+      → IsTold line s judged (map string_bytes files) ending → IsTold line s judged (map string_bytes named) ending
+  told_of line judged = subst (λ (fs : List (String A)). IsTold line s judged (map string_bytes fs) ending) same
+
+  -- and what is shown of them is shown of the same files
+  pub shown_of : (line : Fault → Line) (described : Result DescriptionText Fault)
+      → IsTextShown line s described (map string_bytes files) ending
+      → IsTextShown line s described (map string_bytes named) ending
+  shown_of line described =
+      subst (λ (fs : List (String A)). IsTextShown line s described (map string_bytes fs) ending) same
+
+-- what is printed of files is printed of the same files, with the certificate in the file of the same path
+pub printed-as : {A F : Type 0} (line : F → Line) (s : Streams) (answer : Result Papers F) (files named : List (String A))
+    (warnings : Warnings) (path other : Option (List ℕ)) (puts : Putting) (ending : Ending) → files ≡ named → path ≡ other
+    → IsPrinted line s answer (warning_lines (map string_bytes files) warnings) path puts ending
+    → IsPrinted line s answer (warning_lines (map string_bytes named) warnings) other puts ending
+printed-as {A} line s answer files named warnings path other puts ending same_files same_path is =
+    subst (λ (fs : List (String A)). IsPrinted line s answer (warning_lines (map string_bytes fs) warnings) other puts ending)
+    same_files
+    (subst (λ (p : Option (List ℕ)). IsPrinted line s answer (warning_lines (map string_bytes files) warnings) p puts ending)
+    same_path is)

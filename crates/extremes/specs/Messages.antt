@@ -1,0 +1,83 @@
+-- What is printed on standard error: lines, each by its text.
+use Rattle.std.specs.Prelude.{ℕ, zero, suc, List, [], ◌∷◌, ◌++◌, codes, Option, None, Some}
+use Rattle.std.specs.List.{FoldsTo, slice_get}
+use Rattle.std.specs.Option.{option_and_then}
+use Rattle.std.specs.Fmt.{decimal}
+use Rattle.ghcn_series.specs.declared.counts.Foreign.{Foreign}
+use Rattle.ghcn_series.specs.declared.counts.LinePlace.{LinePlace}
+use Rattle.ghcn_series.specs.declared.counts.OddLines.{OddLines}
+use Rattle.ghcn_series.specs.declared.counts.Warnings.{Warnings}
+
+-- the text of a line, without its line feed, if it is known
+abbrev pub Line : Type 0
+Line = Option (List ℕ)
+
+-- how printing a line may change what prints it
+abbrev pub LinePrinting : Type 0 → Type 1
+LinePrinting M = M → Line → M → Type 0
+
+-- which lines are printed, all of them, in order
+abbrev pub Saying : Type 1
+Saying = List Line → Type 0
+
+-- those that took what prints from one state to another, one after the other
+abbrev pub ArePrintedLines : {M : Type 0} → LinePrinting M → M → M → Saying
+ArePrintedLines prints before after lines = FoldsTo prints before lines after
+
+-- which lines standard error was given, and what standard output was given before, and after
+pub record Streams : Type 1 where
+  pub says : Saying
+  pub before : Option (List ℕ)
+  pub after : Option (List ℕ)
+
+-- streams of these
+abbrev pub streams : Saying → Option (List ℕ) → Option (List ℕ) → Streams
+streams says before after = record { says = says; before = before; after = after }
+
+-- the streams once standard error was given these lines
+abbrev pub after_lines : List Line → Streams → Streams
+after_lines first s = streams (λ lines. s.says (first ++ lines)) s.before s.after
+
+-- the line that names a file by its path, if there is one
+abbrev pub line_naming : (List ℕ → List ℕ) → Option (List ℕ) → List Line
+line_naming text None = []
+line_naming text (Some path) = Some (text path) ∷ []
+
+-- that this number of files are foreign, and the path of the first
+abbrev pub foreign_text : ℕ → List ℕ → List ℕ
+foreign_text count path = codes "foreign " ++ decimal count ++ codes " " ++ path
+
+-- that this number of lines are odd, and of the first its number and the path of its file
+abbrev pub odd_text : ℕ → ℕ → List ℕ → List ℕ
+odd_text count line path = codes "odd " ++ decimal count ++ codes " " ++ path ++ codes ":" ++ decimal line
+
+-- the line on foreign files of these paths, if there are any
+abbrev pub foreign_warning : List (List ℕ) → Foreign → List Line
+foreign_warning paths foreign =
+    line_naming (foreign_text foreign.count) (option_and_then (slice_get paths) foreign.first)
+
+-- the line on this number of odd lines, of which the first is at a place, if there are any
+abbrev pub odd_warning_at : List (List ℕ) → ℕ → Option LinePlace → List Line
+odd_warning_at paths count None = []
+odd_warning_at paths count (Some first) = line_naming (odd_text count first.line) (slice_get paths first.file)
+
+-- the line on odd lines in files of these paths, if there are any
+abbrev pub odd_warning : List (List ℕ) → OddLines → List Line
+odd_warning paths odd = odd_warning_at paths odd.count odd.first
+
+-- the lines on what a run warns of in files of these paths: the foreign files, and then the odd lines
+abbrev pub warning_lines : List (List ℕ) → Warnings → List Line
+warning_lines paths warnings = foreign_warning paths warnings.foreign ++ odd_warning paths warnings.odd
+
+-- the line on this number of lines of unlisted stations, if there are any
+abbrev pub unlisted_warning : ℕ → List Line
+unlisted_warning zero = []
+unlisted_warning (suc n) = Some (codes "unlisted " ++ decimal (suc n)) ∷ []
+
+-- that the file of a path can't be read
+abbrev pub not_read_line : List ℕ → Line
+not_read_line path = Some (codes "file not read " ++ path)
+
+-- that it can't be written
+abbrev pub not_written_line : List ℕ → Line
+not_written_line path = Some (codes "file not written " ++ path)

@@ -1,0 +1,147 @@
+//! The lines on standard error.
+
+use super::*;
+use crate::describe::DescriptionText;
+use crate::judgement::Judgement;
+use crate::messages::Messages;
+use crate::papers::Papers;
+use crate::print::{not_read, print_description, print_judgement, print_ranked};
+use crate::rank::Ranked;
+use ghcn_series::{Foreign, LinePlace, OddLines, Warnings};
+use rank_check::Verdict;
+use std::alloc::{AllocError, Global};
+use std::fmt::{Display, Write};
+use std::test::Fail;
+
+/// The lines that were printed, as long as there is memory.
+#[derive(Drop)]
+pub(super) struct KeptLines {
+    pub(super) text: String,
+}
+
+impl KeptLines {
+    pub(super) fn new(alloc: Global) -> KeptLines {
+        KeptLines {
+            text: String::new(alloc),
+        }
+    }
+}
+
+impl Messages for KeptLines {
+    ghost use Rattle.std.specs.Prelude.{⊤};
+
+    ghost prints = { λ _ _ _. ⊤ };
+
+    fn print<D: Display + Drop>(&mut self, text: D) {
+        let _ = writeln!(self.text, "{text}");
+    }
+}
+
+/// The paths of that many files.
+fn paths(alloc: Global, count: u64) -> Result<Vec<String>, AllocError> {
+    (0..count)
+        .map(|number| format!(in alloc; "file {number}.dly"))
+        .try_collect(alloc)
+}
+
+/// This number of foreign files and of odd lines; the first of both are in one file.
+fn warnings(foreign: u64, odd: u64, file: u64) -> Warnings {
+    Warnings {
+        foreign: Foreign {
+            count: foreign,
+            first: if foreign > 0 { Some(file) } else { None },
+        },
+        odd: OddLines {
+            count: odd,
+            first: if odd > 0 {
+                Some(LinePlace { file, line: 12 })
+            } else {
+                None
+            },
+        },
+    }
+}
+
+#[test]
+fn lines_beside_a_report(rt: HostRuntime) -> Result<(), Fail> {
+    let alloc = rt.alloc();
+    let files = paths(alloc, 300)?;
+    let cases = [
+        (0, 0, 0, 0, None, ""),
+        (0, 0, 0, 1, None, "unlisted 1\n"),
+        (1, 0, 0, 0, None, "foreign 1 file 0.dly\n"),
+        (0, 1, 1, 0, None, "odd 1 file 1.dly:12\n"),
+        (100, 0, 256, 0, None, "foreign 100 file 256.dly\n"),
+        (
+            2,
+            7,
+            299,
+            3000,
+            None,
+            "foreign 2 file 299.dly\nodd 7 file 299.dly:12\nunlisted 3000\n",
+        ),
+        (2, 7, 1, 3, Some(Fault::QueryEnds), "refused 9 QueryEnds\n"),
+        (
+            2,
+            7,
+            1,
+            3,
+            Some(Fault::Memory(ghcn_fields::Memory)),
+            "refused 3 Memory\n",
+        ),
+    ];
+    for (foreign, odd, file, unlisted, fault, expected) in cases {
+        let answer = match fault {
+            Some(fault) => Err(fault),
+            None => Ok(Papers {
+                report: Vec::new(alloc),
+                certificate: Vec::new(alloc),
+                unlisted,
+            }),
+        };
+        let ranked = Ranked {
+            answer,
+            warnings: warnings(foreign, odd, file),
+            dataset: None,
+        };
+        let mut messages = KeptLines::new(alloc);
+        let (mut target, mut out) = (SystemTarget::new(&rt), Vec::new(alloc));
+        print_ranked(
+            &mut messages,
+            ranked,
+            files.as_slice(),
+            None,
+            &mut target,
+            &mut out,
+        );
+        assert_eq!(rt; messages.text.as_str(), expected);
+    }
+    Ok(())
+}
+
+#[test]
+fn lines_beside_a_description_and_a_verdict(rt: HostRuntime) -> Result<(), Fail> {
+    let alloc = rt.alloc();
+    let files = paths(alloc, 2)?;
+    let expected = "foreign 2 file 1.dly\nodd 7 file 1.dly:12\n";
+    let text = DescriptionText {
+        bytes: Vec::new(alloc),
+        warnings: warnings(2, 7, 1),
+    };
+    let (mut messages, mut out) = (KeptLines::new(alloc), Vec::new(alloc));
+    print_description(&mut messages, Ok(text), files.as_slice(), &mut out);
+    assert_eq!(rt; messages.text.as_str(), expected);
+    let judged = (Judgement::Whole(Verdict::Accepted), warnings(2, 7, 1));
+    let mut messages = KeptLines::new(alloc);
+    print_judgement(&mut messages, Ok(judged), files.as_slice(), &mut out);
+    assert_eq!(rt; messages.text.as_str(), expected);
+    assert_eq!(rt; out.as_slice(), b"accepted\n".as_slice());
+    Ok(())
+}
+
+#[test]
+fn lines_of_a_file(rt: HostRuntime) {
+    let mut messages = KeptLines::new(rt.alloc());
+    assert_eq!(rt; not_read(&mut messages, "no such file.dly"), Ending::File);
+    assert_eq!(rt; messages.text.as_str(), "file not read no such file.dly\n");
+}
