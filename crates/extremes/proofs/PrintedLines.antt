@@ -145,7 +145,7 @@ module _ {M : Type 0} (prints : LinePrinting M) (held given : Option (List ℕ))
   with-both more lines is = subst (λ l. ArePrintedLines prints before after l) (sym (append_assoc first more lines))
       (with-first (more ++ lines) is)
 
-  -- so papers are printed after the first lines
+  -- so reports and certificates are printed after the first lines
   papers-after : (papers : Papers) (path : Option (List ℕ)) (puts : Putting) (more : List Line) (ending : Ending)
       → ArePrinted (after_lines more (streams (ArePrintedLines prints between after) held given)) papers path puts ending
       → ArePrinted (after_lines (first ++ more) (streams (ArePrintedLines prints before after) held given)) papers path
@@ -167,7 +167,7 @@ module _ {M : Type 0} (prints : LinePrinting M) (held given : Option (List ℕ))
       puts ending) (sym same) (papers-after papers path puts (unlisted_warning papers.unlisted) ending is)
 
 module _ {A : Type 0} (s : Streams) (files named : List (String A)) (ending : Ending) (same : files ≡ named) where
-  -- what is told of files is told of the same files
+  -- what is printed of files is printed of the same files
   pub told_of : (line : Fault → Line) (judged : Result (Judgement × Warnings) Fault)
       → IsTold line s judged (map string_bytes files) ending → IsTold line s judged (map string_bytes named) ending
   told_of line judged = subst (λ (fs : List (String A)). IsTold line s judged (map string_bytes fs) ending) same

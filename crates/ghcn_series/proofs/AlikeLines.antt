@@ -1,4 +1,4 @@
--- Lines that are alike have the same columns, and the same stands on them.
+-- Lines that are alike have the same columns, and have the same on them.
 use Rattle.std.proofs.Common.{◌≡◌, ℕ, ◌+◌, ◌<◌, ◌≤◌, ◌⊎◌, inl, inr, min, Bool, true, false, cond}
 use Rattle.std.proofs.Common.{List, length, take, drop}
 use Rattle.std.proofs.Common.{refl, sym, ap, ◌∙◌, length-take, arith}
@@ -94,11 +94,11 @@ same_form a b is =
     ap (λ (code : List ℕ). is_code code && is_blank (drop 269 a)) (same_code a b is)
     ∙ ap (λ (t : Bool). is_code (columns 18 21 b) && t) is.behind
 
--- what stands on a line, by three tests
+-- what is on a line, by three tests
 kind_by : Bool → Bool → Bool → LineKind
 kind_by blank element form = cond blank Blank (cond element OfElement (cond form Other Odd))
 
--- the same stands on both
+-- the same is on both
 pub same_kind : (a b : List ℕ) → AreAlike a b → line_kind a ≡ line_kind b
 unfolding kind_by
 same_kind a b is =

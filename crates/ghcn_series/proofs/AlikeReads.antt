@@ -1,4 +1,4 @@
--- Readers read and refuse lines as they stand before their line feeds, and with them each line that is alike.
+-- Readers read and refuse lines as they are before their line feeds, and with them each line that is alike.
 use Rattle.std.proofs.Common.{◌≡◌, ℕ, true, false}
 use Rattle.std.proofs.Common.{List, [], ◌∷◌}
 use Rattle.std.proofs.Common.{refl, sym, ◌∙◌, subst}
@@ -11,7 +11,7 @@ use Rattle.ghcn_series.specs.DailyFaults.{FileLine, file_line, one_line}
 use Rattle.ghcn_series.specs.LinesRead.{Reading, Reads, Refuses, ReadsLike, RefusesLike, ReadsText, RefusesText}
 use Rattle.ghcn_series.proofs.AlikeLines.{same_blank}
 
--- a blank line as it stands before its line feed adds no line
+-- a blank line as it is before its line feed adds no line
 no_line : (file line : ℕ) (text bytes : List ℕ)
     → AreAlike (strip_carriage_return text) (strip_carriage_return bytes)
     → is_blank (strip_carriage_return bytes) ≡ true → one_line file line text ≡ []
@@ -37,7 +37,7 @@ module _ {L : Type 0} {has_read : Reading L} where
     };
   }
 
-  -- a line without its end is read as it stands before its line feed
+  -- a line without its end is read as it is before its line feed
   pub text-read : (old new : L) (file line : ℕ) (bytes : List ℕ) → is_blank (strip_carriage_return bytes) ≡ false
       → ReadsLike has_read old new file line (strip_carriage_return bytes) → ReadsText has_read old new file line bytes
   text-read old new file line bytes some reads = record {

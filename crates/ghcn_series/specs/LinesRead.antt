@@ -38,7 +38,7 @@ pub record RefusesLike {L : Type 0} (has_read : Reading L) (old : L) (file line 
   pub holds : (like : List ℕ) → AreAlike like bytes
       → Refuses has_read old (file_line file (line, like) ∷ []) fault
 
--- a reader reads a line as it stands before its line feed, and each that is like it, unless they are blank
+-- a reader reads a line as it is before its line feed, and each that is like it, unless they are blank
 pub record ReadsText {L : Type 0} (has_read : Reading L) (old new : L) (file line : ℕ) (bytes : List ℕ) : Type 0 where
   pub holds : (text : List ℕ) → AreAlike (strip_carriage_return text) (strip_carriage_return bytes)
       → Reads has_read old new (one_line file line text)

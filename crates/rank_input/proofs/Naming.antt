@@ -17,13 +17,13 @@ use Rattle.rank_input.specs.NamingStops.{IsNothing, StopsAmong, StopsAfterWords,
 -- ---- a list, cut at one of its elements
 
 module _ {X : Type 0} where
-  -- what stands before a place, what stands there, and what follows it
+  -- what comes before a place, what is there, and what follows it
   pub cut : (xs : List X) (i : ℕ) (d : X) → i < length xs → xs ≡ take i xs ++ get_or xs i d ∷ drop (suc i) xs
   cut [] i d lt = absurd (omega arith)
   cut (x ∷ xs) zero d lt = refl
   cut (x ∷ xs) (suc i) d lt = ap (λ (ys : List X). x ∷ ys) (cut xs i d (omega arith))
 
-  -- what stands before an element, the element, and what follows it
+  -- what comes before an element, the element, and what follows it
   pub cut-at : (xs : List X) (i : ℕ) (x : X) → i < length xs → get_or xs i x ≡ x
       → xs ≡ take i xs ++ x ∷ drop (suc i) xs
   cut-at xs i x lt at = cut xs i x lt ∙ ap (λ y. take i xs ++ y ∷ drop (suc i) xs) at
@@ -48,7 +48,7 @@ module _ {X : Type 0} where
         ∙ ap (λ (ys : List X). map f ys) (first-more xs i x lt ∙ ap (λ y. take i xs ++ y ∷ []) at)
         ∙ map-append f (take i xs) (x ∷ [])
 
-    -- what stands before an element of another list
+    -- what comes before an element of another list
     pub cut-map : (xs : List X) (i : ℕ) (x : X) → i < length xs → get_or xs i x ≡ x
         → map f xs ≡ map f (take i xs) ++ f x ∷ map f (drop (suc i) xs)
     cut-map xs i x lt at = ap (λ (ys : List X). map f ys) (cut-at xs i x lt at)

@@ -15,7 +15,7 @@ use std::{fs, io};
 /// How many bytes of a daily file are read at once.
 const PIECE: usize = 1 << 16;
 
-/// What stands at a path.
+/// What is at a path.
 #[derive(Clone, Copy, Debug, PartialEq, Eq)]
 pub enum Place {
     Folder,
@@ -49,7 +49,7 @@ pub trait Archive {
         ensures opened { OnOk result (opens self.now path.now true) }
         ensures failed { OnErr result (opens self.now path.now false) };
 
-    /// What stands at a path.
+    /// What is at a path.
     fn look(&self, path: &str) -> Place
         ensures { IsPlaceOf (names_of self.now path.now) result };
 

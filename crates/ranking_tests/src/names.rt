@@ -8,7 +8,7 @@ use std::alloc::{AllocError, Global};
 use std::io;
 use std::test::Fail;
 
-/// What stands beside paths.
+/// Paths, and a text for each.
 type Texts = &'static [(&'static str, &'static [u8])];
 
 /// Files with their bytes, and folders with the names in them, each ended by a NUL.
@@ -61,7 +61,7 @@ impl Archive for InMemory {
     }
 }
 
-/// The text that stands beside a path, if one does.
+/// The text of a path, if it has one.
 fn beside(texts: Texts, path: &str) -> Option<&'static [u8]>
     ensures { option_map (λ t. t.now) result ≡ beside texts.now path.now }
 {
