@@ -13,3 +13,4 @@ pub mod Sorting
 pub mod Counting
 pub mod Floor
 pub mod Groups
+pub mod FaultTexts

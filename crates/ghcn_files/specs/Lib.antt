@@ -7,3 +7,4 @@ pub mod Months
 pub mod Heads
 pub mod Rows
 pub mod Flags
+pub mod FaultTexts

@@ -17,4 +17,5 @@ pub mod Packed
 pub mod Parts
 pub mod JoinedFiles
 pub mod Said
+pub mod FaultTexts
 pub mod Laws

@@ -11,3 +11,4 @@ pub mod Asks
 pub mod FaultPlaces
 pub mod FaultKinds
 pub mod Laws
+pub mod FaultTexts
