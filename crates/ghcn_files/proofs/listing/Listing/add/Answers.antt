@@ -3,7 +3,7 @@ use Rattle.std.proofs.lemmas.Bool.{lt-ltb, le-ltb}
 use Rattle.ghcn_files.specs.StationLines.{id_of}
 use Rattle.ghcn_files.proofs.Adding.{fault_of_right_line, id_there, station_of-right}
 use Rattle.ghcn_files.proofs.ById.{has_place, not_found}
-use Rattle.ghcn_files.proofs.stations.Stations.add.Goals as goal
+use Rattle.ghcn_files.proofs.listing.Listing.add.Goals as goal
 
 -- a line whose ID a station has
 pub returns-then-is_listed-clause-err : goal.returns-then-is_listed-clause-err

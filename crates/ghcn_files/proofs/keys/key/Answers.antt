@@ -1,4 +1,4 @@
-use Rattle.ghcn_files.proofs.stations.key.Goals as goal
+use Rattle.ghcn_files.proofs.keys.key.Goals as goal
 
 -- an ID is eleven bytes
 pub returns-clause-bytes : goal.returns-clause-bytes

@@ -5,15 +5,15 @@ use Rattle.std.proofs.lemmas.List.{length_push}
 use Rattle.ghcn_fields.specs.Lines.{numbered_lines}
 use Rattle.ghcn_fields.specs.Refusals.{IsRefusal}
 use Rattle.ghcn_files.specs.Listed.{listed, is_memory, IsFirstRefusal}
-use Rattle.ghcn_files.proofs.RisingIds.{nothing_listed}
+use Rattle.ghcn_files.proofs.Adding.{nothing_kept}
 use Rattle.ghcn_files.proofs.Errors.{err_given}
 use Rattle.ghcn_files.proofs.ReadLines.{HasRead, past_blank, past_line, at_end, ends_by}
-use Rattle.ghcn_files.proofs.stations.Stations.read.Goals as goal
+use Rattle.ghcn_files.proofs.listing.Listing.read.Goals as goal
 
 -- nothing is kept at first
-pub invariant_of-stations : goal.invariant_of-stations
-invariant_of-stations c =
-    nothing_listed c.new.result.items c.new-2.result.items c.new.ensures.items c.new-2.ensures.items
+pub invariant_of-listing : goal.invariant_of-listing
+invariant_of-listing c =
+    nothing_kept c.new.result.items c.new-2.result.entries c.new.ensures.items c.new-2.ensures.empty
 
 -- a blank line changes nothing
 pub loop-number-preserved : goal.loop-number-preserved
@@ -27,7 +27,7 @@ loop-number-preserved c =
     record {
       can = tt;
       finite = tt;
-      read = subst (λ n. HasRead (numbered_lines c.args.text.now) n c.loop-number.stations)
+      read = subst (λ n. HasRead (numbered_lines c.args.text.now) n c.loop-number.listing)
           (sym (length_push c.loop-number.yielded (c.in-Some.number, c.in-Some.line))) read;
     }
 
@@ -79,4 +79,4 @@ returns-clause-ok c =
     (c.into_iter-number-iterator.ensures.into_iter_gives ∙ c.lines-number-items.ensures) in
     let end =
     YieldsList-end given c.loop-number.yielded _ c.loop-number.yielded_by _ _ c.in-None.is c.next.ensures.steps in
-    at_end c.args.text.now (length c.loop-number.yielded) c.loop-number.stations end.1 c.loop-number.invariant.read
+    at_end c.args.text.now (length c.loop-number.yielded) c.loop-number.listing end.1 c.loop-number.invariant.read

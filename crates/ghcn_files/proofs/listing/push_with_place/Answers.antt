@@ -4,7 +4,7 @@ use Rattle.ghcn_files.specs.declared.station.Station.{Station}
 use Rattle.ghcn_files.specs.KeptStations.{AreKept, key_cmp, key_of, kept_place}
 use Rattle.ghcn_files.specs.StationLines.{station_of}
 use Rattle.ghcn_files.proofs.Adding.{kept_more}
-use Rattle.ghcn_files.proofs.stations.push_with_place.Goals as goal
+use Rattle.ghcn_files.proofs.listing.push_with_place.Goals as goal
 
 -- the place of the station's ID is kept with it
 pub returns-in-Ok-clause-kept : goal.returns-in-Ok-clause-kept
