@@ -56,11 +56,11 @@ no_blank_front false [] part some digits = absurd (omega arith)
 no_blank_front false (b ∷ bytes) part some digits = grind (arith, nat_tests)
 
 -- so no blank is taken off it
-after_blanks-spells : (places : ℕ) (text : List ℕ) (v : ℤ) → Spells places text v → after_blanks text ≡ text
+pub after_blanks-spells : (places : ℕ) (text : List ℕ) (v : ℤ) → Spells places text v → after_blanks text ≡ text
 after_blanks-spells places text v s = grind (arith, nat_tests, no_blank_front)
 
 -- blanks at the front are taken off
-after_blanks-replicate : (n : ℕ) (text : List ℕ) → after_blanks (replicate n 32 ++ text) ≡ after_blanks text
+pub after_blanks-replicate : (n : ℕ) (text : List ℕ) → after_blanks (replicate n 32 ++ text) ≡ after_blanks text
 after_blanks-replicate zero text = refl
 after_blanks-replicate (suc n) text = after_blanks-replicate n text
 

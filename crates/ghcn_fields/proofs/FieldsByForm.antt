@@ -26,25 +26,25 @@ by_form bytes =
     field_by_form (is_number_form bytes) (list_any is_minus bytes) (digits_behind 0 bytes) (is_blank bytes)
 
 -- after a digit, or a minus, only digits come
-digits_from : (c : ℕ) (bytes : List ℕ) → (is_ascii_digit c ≡ true
+pub digits_from : (c : ℕ) (bytes : List ℕ) → (is_ascii_digit c ≡ true
     → is_number_form (c ∷ bytes) ≡ list_all is_ascii_digit (c ∷ bytes))
     → (is_ascii_digit c && is_number_form (c ∷ bytes)) ≡ list_all is_ascii_digit (c ∷ bytes)
 digits_from c bytes on = grind arith
 
 -- digits to the end
-digits_on : (b : ℕ) (bytes : List ℕ) → is_ascii_digit b ≡ true
+pub digits_on : (b : ℕ) (bytes : List ℕ) → is_ascii_digit b ≡ true
     → is_number_form (b ∷ bytes) ≡ list_all is_ascii_digit (b ∷ bytes)
 digits_on b [] d = rw d refl
 digits_on b (c ∷ bytes) d = let more = digits_on c bytes in grind (arith, nat_tests)
 
 -- digits alone write their number
-digits_behind-digits : (n : ℕ) (bytes : List ℕ) → list_all is_ascii_digit bytes ≡ true
+pub digits_behind-digits : (n : ℕ) (bytes : List ℕ) → list_all is_ascii_digit bytes ≡ true
     → digits_behind n bytes ≡ digits_value_after 10 n bytes
 digits_behind-digits n [] all = refl
 digits_behind-digits n (b ∷ bytes) all = grind (arith, nat_tests, digits_behind-digits (n * 10 + digit_value b) bytes)
 
 -- digits have no minus among them
-digits_no_minus : (bytes : List ℕ) → list_all is_ascii_digit bytes ≡ true → list_any is_minus bytes ≡ false
+pub digits_no_minus : (bytes : List ℕ) → list_all is_ascii_digit bytes ≡ true → list_any is_minus bytes ≡ false
 digits_no_minus [] all = refl
 digits_no_minus (b ∷ bytes) all = grind (arith, nat_tests, digits_no_minus bytes)
 

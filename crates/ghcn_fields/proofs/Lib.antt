@@ -13,6 +13,7 @@ pub mod FirstLine
 pub mod Examples
 pub mod FieldsByForm
 pub mod FieldsByKind
+pub mod PointedFields
 pub mod CountingLaws
 pub mod FieldLanes
 pub mod ClearLanes

@@ -1,15 +1,14 @@
 -- Where bytes are above a line feed, by lanes.
-use Rattle.std.proofs.Common.{◌≡◌, ℕ, ◌+◌, ◌-◌, ◌^◌, ◌<◌, ◌≤◌, Bool, true, cond, List, [], ◌∷◌, map, ◌%◌, length, take}
-use Rattle.std.proofs.Common.{drop, get_or, Some, refl, sym, ap, ◌∙◌, subst, arith, ltb, w8}
+use Rattle.std.proofs.Common.{◌≡◌, ℕ, ◌+◌, ◌-◌, ◌^◌, ◌<◌, ◌≤◌, Bool, true, cond, List, [], ◌∷◌, map, ◌%◌, length}
+use Rattle.std.proofs.Common.{get_or, refl, sym, ap, ◌∙◌, subst, arith, ltb, w8}
 use Rattle.std.specs.Prelude.{◌&&◌, ◌==◌, nat_lt, replicate}
 use Rattle.std.specs.List.{list_all}
 use Rattle.std.proofs.lemmas.Bool.Decides.{nat_tests}
-use Rattle.std.proofs.lemmas.List.{length-map, take-take}
+use Rattle.std.proofs.lemmas.List.{length-map}
 use Rattle.std.proofs.lemmas.Simd.{tops_compared, zip2_splat_left, length-zip2, length-sel_l, get_or-chunk}
 use Rattle.std.proofs.lemmas.Simd.{length-chunk}
 use Rattle.std.proofs.lemmas.Grind.{common_steps}
 use lib.Lanes.{mask_l, top, zip2, sel_l, chunk}
-use Rattle.memchr.specs.Find.{IsFirstByte, is_byte}
 use Rattle.ghcn_fields.specs.Lines.{are_above}
 use Rattle.ghcn_fields.proofs.FieldLanes.{sixteen_set, taken}
 
@@ -61,28 +60,3 @@ above_mask xs many =
     ap (λ (ms : List Bool). mask_l ms % 2 ^ 64 == 65535)
     (tops_compared w8 ltb (replicate 16 10) xs ∙ zip2_splat_left ltb 10 16 xs many)
     ∙ sixteen_set tests long ∙ each_test xs
-
--- sixteen bytes of a part that begins at a place are those from there on
-pub sixteen_from : (from n : ℕ) (bytes : List ℕ) → 16 ≤ n → chunk 0 16 (take n (drop from bytes)) ≡ chunk from 16 bytes
-sixteen_from from n bytes le = take-take 16 n (drop from bytes) le
-
--- a byte of the front of a text is one of the text
-front-byte : (front text : List ℕ) (k : ℕ) → k < 270 → front ≡ take 270 text
-    → (get_or front k 0 == 10) ≡ (get_or text k 0 == 10)
-front-byte front text k lt same =
-    let at : 0 + k ≡ k = omega arith in
-    ap (λ (xs : List ℕ). get_or xs k 0 == 10) same
-    ∙ ap (λ (b : ℕ). b == 10) (get_or-chunk 0 270 text k 0 lt)
-    ∙ ap (λ (n : ℕ). get_or text n 0 == 10) at
-
--- what is first in the front of a text is first in the text
-pub front-feed : (front text : List ℕ) → 270 ≤ length text → front ≡ take 270 text
-    → IsFirstByte (is_byte 10) front (Some 269) → IsFirstByte (is_byte 10) text (Some 269)
-front-feed front text long same first = (
-  record {
-    low = omega arith;
-    high = omega (arith, long);
-    before = λ k low lt is. first.0.before k low lt (front-byte front text k (omega (arith, lt)) same ∙ is);
-  },
-  sym (front-byte front text 269 (omega arith) same) ∙ first.1,
-)

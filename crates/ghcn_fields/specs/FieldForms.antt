@@ -1,8 +1,10 @@
 -- A number field by its columns: which bytes may be side by side, and what each adds to the number.
 use Rattle.std.specs.Prelude.{◌≡◌, ℕ, ◌+◌, ◌*◌, ◌-◌, ◌/◌, ◌%◌, ◌<◌, Bool, true, false, ◌&&◌, ◌||◌, ◌==◌}
-use Rattle.std.specs.Prelude.{if◌then◌else◌, nat_le, List, [], ◌∷◌, ◌++◌, ℤ, pos, neg_ℤ}
+use Rattle.std.specs.Prelude.{if◌then◌else◌, nat_le, List, [], ◌∷◌, ◌++◌, ℤ, pos, neg_ℤ, Option, None, Some}
 use Rattle.std.specs.Char.{is_ascii_digit}
 use Rattle.std.specs.List.{list_any}
+use Rattle.ghcn_fields.specs.declared.field.Field.{Field}
+use Rattle.ghcn_fields.specs.declared.field.Field.TheVariants.{Number}
 use Rattle.ghcn_fields.specs.declared.value.Form.{Form}
 use Rattle.ghcn_fields.specs.declared.value.Form.TheVariants.{Blanks, Plain, Negative, Malformed}
 use Rattle.ghcn_fields.specs.Bytes.{blank_byte, is_blank}
@@ -68,6 +70,20 @@ is_malformed Blanks = false
 is_malformed Plain = false
 is_malformed Negative = false
 is_malformed Malformed = true
+
+-- the form of numbers without a minus
+abbrev pub is_plain : Form → Bool
+is_plain Blanks = false
+is_plain Plain = true
+is_plain Negative = false
+is_plain Malformed = false
+
+-- the number of a size in a field of this form, if that is the form of a number
+abbrev pub field_of_size : Form → ℕ → Option Field
+field_of_size Blanks n = None
+field_of_size Plain n = Some (Number (pos n))
+field_of_size Negative n = Some (Number (neg_ℤ (pos n)))
+field_of_size Malformed n = None
 
 -- the number of a magnitude in a field of this form, or another one if it has none
 abbrev pub number_by : Form → ℕ → ℤ → ℤ

@@ -5,6 +5,7 @@
 
 mod date;
 mod day;
+mod decimal;
 mod field;
 mod lanes;
 mod laws;
@@ -16,6 +17,7 @@ mod visible;
 
 pub use date::{read_date, write_date};
 pub use day::{Day, days_in_month};
+pub use decimal::{four_places_field, tenths_field};
 pub use field::{Field, after_blanks, int_field, scaled_field};
 pub use lanes::{are_clear, are_set, bad_columns, four_numbers, good_columns, has_bad_field};
 pub use laws::{days_have_dates, fields_have_numbers};

@@ -1,6 +1,6 @@
 //! The lines of a text. A line feed ends a line, and a carriage return before it belongs to the end.
 
-ghost use Rattle.std.specs.Prelude.{◌≡◌, ◌++◌, ◌∷◌, IfSome, IsNone, Some, true, length};
+ghost use Rattle.std.specs.Prelude.{◌≡◌, ◌≤◌, ◌<◌, ◌++◌, ◌∷◌, IfSome, IsNone, Some, true, length};
 ghost use Rattle.std.specs.Str.Lines.{strip_carriage_return};
 ghost use Rattle.ghcn_fields.specs.Bytes as bytes;
 ghost use Rattle.ghcn_fields.specs.Lines.{numbered_lines, HasNoLineFeed};
@@ -12,7 +12,10 @@ use std::marker::Model;
 use std::simd::prelude::*;
 
 /// The columns of a whole line of a daily file.
-const COLUMNS: usize = 269;
+const DAILY_COLUMNS: usize = 269;
+
+/// The columns of a whole line of the station list.
+const LISTED_COLUMNS: usize = 85;
 
 /// The lines of a text that are still to come, each with its number, from 1, and without its end.
 #[derive(Drop)]
@@ -57,7 +60,7 @@ impl<'a> Iterator for Lines<'a> {
             return None;
         }
         self.given += 1;
-        match memchr(b'\n', text) {
+        match line_feed(text, LISTED_COLUMNS) {
             Some(end) => {
                 self.text = &text[end + 1..];
                 Some((self.given, without_return(&text[..end])))
@@ -93,31 +96,37 @@ pub fn split_line(text: &[u8]) -> Option<(&[u8], &[u8])>
     ensures first { IfSome result (λ parts. HasNoLineFeed parts.0.now) }
     ensures none { IsNone result → HasNoLineFeed text.now }
 {
-    let end = line_feed(text)?;
+    let end = line_feed(text, DAILY_COLUMNS)?;
     Some((&text[..end], &text[end + 1..]))
 }
 
-/// The place of the first line feed of a text. Most lines of daily files have 269 columns, so that the place
-/// after that many is looked at first.
-fn line_feed(text: &[u8]) -> Option<usize>
+/// The place of the first line feed of a text. The place after that many columns, which most lines have, is looked
+/// at first.
+#[inline(always)]
+fn line_feed(text: &[u8], columns: usize) -> Option<usize>
+    requires { 16 ≤ columns }
     ensures { IsFirstByte (is_byte 10) text.now result }
 {
-    match text.first_chunk() {
-        Some(front) if ends_whole(front) => Some(COLUMNS),
-        _ => memchr(b'\n', text),
+    if columns < text.len() && ends_after(text, columns) {
+        Some(columns)
+    } else {
+        memchr(b'\n', text)
     }
 }
 
-/// Whether the last byte is a line feed, and each other one is above it. Lanes of sixteen bytes are joined by
-/// their least, and the last ones overlap those before.
-fn ends_whole(bytes: &[u8; COLUMNS + 1]) -> bool
-    ensures { result ≡ true → IsFirstByte (is_byte 10) bytes.now (Some 269) }
+/// Whether the byte after that many columns is a line feed, and each of these is above it. Lanes of sixteen bytes
+/// are joined by their least, and the last ones overlap those before.
+#[inline(always)]
+fn ends_after(text: &[u8], columns: usize) -> bool
+    requires some { 16 ≤ columns }
+    requires within { columns < length text.now }
+    ensures { result ≡ true → IsFirstByte (is_byte 10) text.now (Some columns) }
 {
-    let mut least = u8x16::from_slice(&bytes[COLUMNS - 16..]);
-    for part in 0..COLUMNS / 16 {
-        least = least.simd_min(u8x16::from_slice(&bytes[16 * part..]));
+    let mut least = u8x16::from_slice(&text[columns - 16..]);
+    for part in 0..columns / 16 {
+        least = least.simd_min(u8x16::from_slice(&text[16 * part..]));
     }
-    are_above(least) & (bytes[COLUMNS] == b'\n')
+    are_above(least) & (text[columns] == b'\n')
 }
 
 /// Whether each lane is above a line feed.

@@ -13,7 +13,7 @@ use crate::field::{Field, signed_field};
 
 /// What the kinds of a field's bytes are together.
 #[derive(Clone, Copy)]
-enum Form {
+pub(crate) enum Form {
     /// Blanks alone.
     Blanks,
     /// Blanks or none, then digits.
@@ -25,7 +25,7 @@ enum Form {
 }
 
 /// The first bit of the kinds: no five digits write as much.
-const KINDS: u32 = 1 << 17;
+pub(crate) const KINDS: u32 = 1 << 17;
 
 /// Reads a whole number of five columns: blanks, an optional `-`, then digits up to the last one.
 pub fn value_field(column: &[u8; 5]) -> Field
@@ -79,7 +79,7 @@ fn number_by(form: Form, magnitude: u32, other: i32) -> i32
 }
 
 /// What five bytes add.
-fn sum_of(column: &[u8; 5]) -> u32
+pub(crate) fn sum_of(column: &[u8; 5]) -> u32
     ensures { IsSum result column.now }
 {
     let [a, b, c, d, e] = *column;
@@ -87,7 +87,7 @@ fn sum_of(column: &[u8; 5]) -> u32
 }
 
 /// What five kinds are together; the first column's is the last digit in base 4.
-fn form_of(kinds: u32) -> Form
+pub(crate) fn form_of(kinds: u32) -> Form
     requires { kinds < 1024 }
     ensures { result ≡ form_of_kinds kinds }
 {

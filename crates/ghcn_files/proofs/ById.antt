@@ -160,7 +160,7 @@ pub cmp_itself : (n : ℕ) → nat_cmp n n ≡ Equal
 cmp_itself n = grind (arith, nat_tests)
 
 -- and so does a key
-key_itself : (k : ℕ × ℕ) → is_eq (key_cmp k k) ≡ true
+pub key_itself : (k : ℕ × ℕ) → is_eq (key_cmp k k) ≡ true
 key_itself k = ap (λ (o : Ordering). is_eq (ordering_then o (nat_cmp k.1 k.1))) (cmp_itself k.0)
     ∙ ap is_eq (cmp_itself k.1)
 

@@ -16,7 +16,8 @@ pub mod Ranges
 pub mod StationTests
 pub mod PrintedText
 pub mod Adding
-pub mod RisingIds
+pub mod OrderedKeys
+pub mod Gathered
 pub mod ReadLines
 pub mod GroupValues
 pub mod Rows

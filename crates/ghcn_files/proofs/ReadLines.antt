@@ -32,11 +32,11 @@ filter-append (x ∷ xs) ys = by_blank (not (is_blank x.1)) (filter-append xs ys
     by_blank false e = e
 
 -- a blank line is left out
-not_blank-blank : (l : Numbered) → is_blank l.1 ≡ true → not_blank (l ∷ []) ≡ []
+pub not_blank-blank : (l : Numbered) → is_blank l.1 ≡ true → not_blank (l ∷ []) ≡ []
 not_blank-blank l e = ap (λ (b : Bool). cond (not b) (l ∷ []) []) e
 
 -- any other line stays
-not_blank-line : (l : Numbered) (ls : List Numbered) → is_blank l.1 ≡ false → not_blank (l ∷ ls) ≡ l ∷ not_blank ls
+pub not_blank-line : (l : Numbered) (ls : List Numbered) → is_blank l.1 ≡ false → not_blank (l ∷ ls) ≡ l ∷ not_blank ls
 not_blank-line l ls e = ap (λ (b : Bool). cond (not b) (l ∷ not_blank ls) (not_blank ls)) e
 
 -- how far a loop has come: the first k lines have no error, and their stations are held
@@ -49,7 +49,7 @@ pub at_start : (all : List Numbered) → HasRead all 0 []
 at_start all = record { held_is = refl; right = no_fault-nil station_fault }
 
 -- the lines so far, with one more
-lines_more : (all : List Numbered) (k : ℕ) (l : Numbered) → k < length all → l ≡ get_or all k l
+pub lines_more : (all : List Numbered) (k : ℕ) (l : Numbered) → k < length all → l ≡ get_or all k l
     → not_blank (take (k + 1) all) ≡ not_blank (take k all) ++ not_blank (l ∷ [])
 lines_more all k l lt is =
     ap not_blank (take_more all k l lt ∙ ap (λ (x : Numbered). take k all ++ x ∷ []) (sym is))
@@ -68,7 +68,7 @@ past_blank all k held l lt is blank h =
     }
 
 -- the stations of lines and one more
-stations-push : (ls : List Numbered) (l : Numbered) → stations_of (ls ++ l ∷ []) ≡ stations_of ls ++ station_of l.1 ∷ []
+pub stations-push : (ls : List Numbered) (l : Numbered) → stations_of (ls ++ l ∷ []) ≡ stations_of ls ++ station_of l.1 ∷ []
 stations-push [] l = refl
 stations-push (x ∷ xs) l = ap (λ (ss : List Station). station_of x.1 ∷ ss) (stations-push xs l)
 

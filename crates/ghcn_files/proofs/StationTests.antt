@@ -1,10 +1,9 @@
 -- The tests of a line of the station list, one after the other.
-use Rattle.std.proofs.Common.{◌≡◌, ℕ, ◌≤◌, Bool, true, cond, List, length, take, drop, map, Option, Some, None, sym, ap}
-use Rattle.std.proofs.Common.{◌∙◌, arith}
+use Rattle.std.proofs.Common.{◌≡◌, ℕ, ◌≤◌, Bool, true, cond, List, length, map, Option, Some, None, ap}
+use Rattle.std.proofs.Common.{◌∙◌}
 use Rattle.std.specs.Prelude.{not, ℤ}
 use Rattle.std.proofs.lemmas.Bool.{le-leb}
 use Rattle.ghcn_fields.specs.Lines.{columns}
-use Rattle.ghcn_fields.specs.Numbers.{scaled_field}
 use Rattle.ghcn_files.specs.declared.station.StationId.{StationId}
 use Rattle.ghcn_files.specs.declared.fault.StationWhy.{StationWhy}
 use Rattle.ghcn_files.specs.declared.fault.StationWhy.TheVariants.{Short, BadId, BadLatitude, BadLongitude}
@@ -12,17 +11,6 @@ use Rattle.ghcn_files.specs.declared.fault.StationWhy.TheVariants.{BadElevation}
 use Rattle.ghcn_files.specs.Ids.{is_id}
 use Rattle.ghcn_files.specs.StationLines.{id_of, latitude, longitude, elevation, is_latitude, is_longitude, is_bad}
 use Rattle.ghcn_files.specs.StationLines.{number_of, numbers_of, unless_missing, printable, station_of, line_why}
-use Rattle.ghcn_files.proofs.ColumnSlices.{columns-slice}
-
--- the latitude of a line that is long enough
-pub latitude_slice : (line : List ℕ) → 30 ≤ length line → scaled_field 4 (take 8 (drop 12 line)) ≡ latitude line
-latitude_slice line long = ap (scaled_field 4)
-    (sym (columns-slice 13 20 12 20 line (omega arith) (omega arith) (omega arith) (omega arith)))
-
--- its longitude
-pub longitude_slice : (line : List ℕ) → 30 ≤ length line → scaled_field 4 (take 9 (drop 21 line)) ≡ longitude line
-longitude_slice line long = ap (scaled_field 4)
-    (sym (columns-slice 22 30 21 30 line (omega arith) (omega arith) (omega arith) (omega arith)))
 
 -- the first test that fails, by how each test came out
 abbrev pub why_by : Bool → Bool → Bool → Bool → Bool → Option StationWhy
@@ -34,8 +22,8 @@ why_by long id north east bad =
 pub record Tested (line : List ℕ) (id north east bad : Bool) : Type 0 where
   pub long : 30 ≤ length line
   pub id_is : is_id (columns 1 11 line) ≡ id
-  pub north_is : is_latitude (scaled_field 4 (take 8 (drop 12 line))) ≡ north
-  pub east_is : is_longitude (scaled_field 4 (take 9 (drop 21 line))) ≡ east
+  pub north_is : is_latitude (latitude line) ≡ north
+  pub east_is : is_longitude (longitude line) ≡ east
   pub bad_is : is_bad (elevation line) ≡ bad
 
 -- the first test that fails is that of how the tests came out
@@ -48,9 +36,9 @@ line_why-tested {line} {id} {north} {east} {bad} t =
     (le-leb 30 (length line) t.long)
     ∙ ap (λ (b : Bool). why_by true b in_north in_east (is_bad (elevation line))) t.id_is
     ∙ ap (λ (b : Bool). why_by true id b in_east (is_bad (elevation line)))
-    (ap is_latitude (sym (latitude_slice line t.long)) ∙ t.north_is)
+    t.north_is
     ∙ ap (λ (b : Bool). why_by true id north b (is_bad (elevation line)))
-    (ap is_longitude (sym (longitude_slice line t.long)) ∙ t.east_is)
+    t.east_is
     ∙ ap (λ (b : Bool). why_by true id north east b) t.bad_is
 
 -- the numbers of a line, one by one

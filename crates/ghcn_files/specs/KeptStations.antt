@@ -1,9 +1,11 @@
 -- How stations are kept while a list is read: with the places of their IDs, one line after the other.
-use Rattle.std.specs.Prelude.{◌≡◌, ℕ, Bool, true, ◌<◌, ◌-◌, take, drop, get_or, List, [], ◌∷◌, ◌++◌, length, map}
-use Rattle.std.specs.Prelude.{Option, None, Some, slice_get}
+use Rattle.std.specs.Prelude.{◌≡◌, ℕ, suc, ◌<◌, take, drop, get_or, List, [], ◌∷◌, ◌++◌, length}
+use Rattle.std.specs.Prelude.{Option, None, Some}
 use Rattle.std.specs.declared.cmp.Ordering.{Ordering}
-use Rattle.std.specs.List.Sorted.{IsSortedByKey}
-use Rattle.std.specs.Ordering.{nat_cmp, ordering_then, is_lt}
+use Rattle.std.specs.declared.cmp.Ordering.TheVariants.{Less}
+use Rattle.std.specs.List.{AllAdjacentBelow}
+use Rattle.std.specs.List.Sorted.{IsPermutation}
+use Rattle.std.specs.Ordering.{nat_cmp, ordering_then}
 use Rattle.std.specs.Int.{from_be_bytes, w32, w64}
 use Rattle.std.specs.BTreeMap.{BTreeMap, is_at}
 use Rattle.std.specs.Map.{lookup}
@@ -35,29 +37,33 @@ pub record AreKept (stations : List Station) (places : List ((ℕ × ℕ) × ℕ
   pub list : AreListed stations
   pub own : (id : StationId) → AreEleven id.0 → kept_place places id ≡ place_of stations id
 
--- the keys of the stations' IDs never fall
-abbrev pub Rise : List Station → Type 0
-Rise stations = IsSortedByKey (λ s. key_of s.id.0) key_cmp stations
+-- the key of an ID beside a place
+abbrev pub key_with_place : StationId → ℕ → ℕ × ℕ × ℕ
+key_with_place id place = ((key_of id.0).0, (key_of id.0).1, place)
 
--- the key of an ID is greater than that of a station, if there is one
-abbrev pub is_past : Option Station → StationId → Bool
-is_past None id = true
-is_past (Some s) id = is_lt (key_cmp (key_of s.id.0) (key_of id.0))
+-- the key without the place
+abbrev pub id_key : ℕ × ℕ × ℕ → ℕ × ℕ
+id_key key = (key.0, key.1)
 
--- the key of an ID is greater than that of the last station
-abbrev pub is_behind : List Station → StationId → Bool
-is_behind stations id = is_past (slice_get stations (length stations - 1)) id
+-- the keys of stations beside their places, which are counted from a number on
+abbrev pub keys_from : ℕ → List Station → List (ℕ × ℕ × ℕ)
+keys_from n [] = []
+keys_from n (s ∷ ss) = key_with_place s.id n ∷ keys_from (suc n) ss
 
--- stations are kept with the keys of their IDs, which rise
-pub record AreRising (stations : List Station) (keys : List (ℕ × ℕ)) : Type 0 where
+-- each key is below the next, whatever the places
+abbrev pub Rise : List (ℕ × ℕ × ℕ) → Type 0
+Rise keys = AllAdjacentBelow (λ a b. key_cmp (id_key a) (id_key b) ≡ Less) keys (length keys)
+
+-- stations are kept with the keys of their IDs, which are put in order
+pub record AreOrdered (stations : List Station) (keys : List (ℕ × ℕ × ℕ)) : Type 0 where
   pub list : AreListed stations
-  pub rise : Rise stations
-  pub own : keys ≡ map (λ s. key_of s.id.0) stations
+  pub rise : Rise keys
+  pub own : IsPermutation (keys_from 0 stations) keys
 
--- stations are kept with the places of their IDs, or with the keys of these if they rise
-abbrev pub AreKeptBy : List Station → List (ℕ × ℕ) → Option (BTreeMap (ℕ × ℕ) ℕ) → Type 0
+-- stations are kept with the places of their IDs, or with the keys of these in order
+abbrev pub AreKeptBy : List Station → List (ℕ × ℕ × ℕ) → Option (BTreeMap (ℕ × ℕ) ℕ) → Type 0
 AreKeptBy stations keys (Some places) = AreKept stations places.entries
-AreKeptBy stations keys None = AreRising stations keys
+AreKeptBy stations keys None = AreOrdered stations keys
 
 -- a line adds its station: it has no error after any lines that list those held
 pub record Adds (held : List Station) (l : Numbered) (more : List Station) : Type 0 where

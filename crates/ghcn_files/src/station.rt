@@ -6,7 +6,7 @@
 //!  22-30  longitude        42-71  name
 //! ```
 
-ghost use Rattle.std.specs.Prelude.{◌≡◌, ◌≤◌, ◌+◌, ◌-◌, ◌≤ℤ◌, pos, neg_ℤ, int_le, ◌&&◌, Some, None, length};
+ghost use Rattle.std.specs.Prelude.{◌≡◌, ◌∷◌, ◌≤◌, ◌+◌, ◌-◌, ◌≤ℤ◌, pos, neg_ℤ, int_le, ◌&&◌, Some, None, length};
 ghost use Rattle.std.specs.Prelude.{map, if◌then◌else◌, take, IfOk, OnOk, IfErr};
 ghost use Rattle.std.specs.List.{list_all};
 ghost use Rattle.std.proofs.Common.{refl, rules};
@@ -14,6 +14,7 @@ ghost use Rattle.std.specs.Cmp.{on_po, unsigned_po};
 ghost use Rattle.std.specs.Cmp.Rules.{comparing};
 ghost use Rattle.std.specs.Cmp.Lexicographic.{lists_agrees, lists_po, slice_cmp, slice_partial_cmp};
 ghost use Rattle.std.specs.Ordering.{nat_cmp, on};
+ghost use Rattle.ghcn_fields.specs.Bytes.{blank_byte};
 ghost use Rattle.ghcn_fields.specs.Lines as lines;
 ghost use Rattle.ghcn_fields.specs.Numbers as numbers;
 ghost use Rattle.ghcn_files.specs.Ids.{is_id, is_visible, same_id};
@@ -21,9 +22,9 @@ ghost use Rattle.ghcn_files.specs.StationLines as stations;
 
 use crate::StationWhy;
 use crate::columns::{columns, columns_filled, columns_in};
+use crate::keys::key;
 use crate::missing::{is_bad, unless_missing};
-use crate::stations::key;
-use ghcn_fields::{Field, eleven_are_visible, scaled_field};
+use ghcn_fields::{Field, eleven_are_visible, four_places_field, tenths_field};
 use std::cmp::Ordering;
 
 /// The columns up to the longitude's last: what follows may be left out.
@@ -143,13 +144,13 @@ impl Numbers {
         let Some(_) = StationId::of_line(line) else {
             return Err(StationWhy::BadId);
         };
-        let Some(latitude) = degrees(MOST_NORTH, &line[12..20]) else {
+        let Some(latitude) = degrees(MOST_NORTH, &after_blank(columns(line, 13))) else {
             return Err(StationWhy::BadLatitude);
         };
-        let Some(longitude) = degrees(MOST_EAST, &line[21..30]) else {
+        let Some(longitude) = degrees(MOST_EAST, &columns(line, 22)) else {
             return Err(StationWhy::BadLongitude);
         };
-        let elevation = scaled_field(&columns::<6>(line, 32), 1);
+        let elevation = tenths_field(&columns(line, 32));
         if is_bad(elevation) {
             return Err(StationWhy::BadElevation);
         }
@@ -180,12 +181,20 @@ impl Station {
     }
 }
 
+/// Eight columns after a blank.
+fn after_blank(columns: [u8; 8]) -> [u8; 9]
+    ensures { result ≡ blank_byte ∷ columns }
+{
+    let [a, b, c, d, e, f, g, h] = columns;
+    [b' ', a, b, c, d, e, f, g, h]
+}
+
 /// The ten-thousandths of a degree of a field, if it has a number at most a limit away from 0.
-fn degrees(limit: i32, field: &[u8]) -> Option<i32>
+fn degrees(limit: i32, field: &[u8; 9]) -> Option<i32>
     requires { pos 0 ≤ℤ limit }
     ensures { result ≡ stations.number_within (neg_ℤ limit) limit (numbers.scaled_field 4 field.now) }
 {
-    match scaled_field(field, 4) {
+    match four_places_field(field) {
         Field::Number(number) if is_within(limit, number) => Some(number),
         _ => None,
     }

@@ -27,7 +27,7 @@ returns-in-Number c =
     let within = within_bits c.args.limit c.in-Number.number _ _ true (to_z-of_z c.ranges.limit) (to_z-of_z fits)
     (sym c.is_within.ensures ∙ c.if-is_within.true) in
     ap Some (to_z-of_z fits) ∙ number_if c.args.limit c.in-Number.number _ true
-    (sym c.scaled_field.ensures.value ∙ c.in-Number.is) within
+    (sym c.four_places_field.ensures.value ∙ c.in-Number.is) within
 
 -- and one beyond it
 pub returns-in_default : goal.returns-in_default
@@ -35,4 +35,4 @@ returns-in_default c =
     let fits = ((c.in-Number.ensures.number c.in-Number.number).0 refl).1 in
     let within = within_bits c.args.limit c.in-Number.number _ _ false (to_z-of_z c.ranges.limit) (to_z-of_z fits)
     (sym c.is_within.ensures ∙ c.if-is_within.false) in
-    number_if c.args.limit c.in-Number.number _ false (sym c.scaled_field.ensures.value ∙ c.in-Number.is) within
+    number_if c.args.limit c.in-Number.number _ false (sym c.four_places_field.ensures.value ∙ c.in-Number.is) within
