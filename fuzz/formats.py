@@ -295,14 +295,14 @@ class Words:
 
 
 def read_score(words):
-    """The kind, the element, a number, and the words of the canonical text. The number is that of a window's days, or
-    the least value of a hot day."""
-    kind = words.one_of(b"highest", b"lowest", b"sum", b"dry", b"wet", b"hot")
+    """The kind, the element, a number, and the words of the canonical text. The number is that of a window's days, the
+    least value of a hot day, or the greatest one of a cold day."""
+    kind = words.one_of(b"highest", b"lowest", b"sum", b"dry", b"wet", b"hot", b"cold")
     if kind in (b"dry", b"wet"):
         return kind, b"PRCP", 0, [kind]
-    if kind == b"hot":
-        least = words.degrees()
-        return kind, b"TMAX", least, [kind, one_decimal(least)]
+    if kind in (b"hot", b"cold"):
+        limit = words.degrees()
+        return kind, b"TMAX" if kind == b"hot" else b"TMIN", limit, [kind, one_decimal(limit)]
     window = words.limited(366) if kind == b"sum" else 0
     element = words.one_of(*{b"highest": ELEMENTS, b"lowest": TEMPERATURES, b"sum": FALLS}[kind])
     return kind, element, window, [kind, b"%d" % window, element] if window else [kind, element]
@@ -385,6 +385,8 @@ def runs(days):
 def is_in_spell(query, value):
     if query.kind == b"hot":
         return value >= query.number
+    if query.kind == b"cold":
+        return value <= query.number
     return (value < 10) == (query.kind == b"dry")
 
 
@@ -411,7 +413,7 @@ def has_decimal(query):
 
 
 def unit(query):
-    if query.kind in (b"dry", b"wet", b"hot"):
+    if query.kind in (b"dry", b"wet", b"hot", b"cold"):
         return b"days"
     return b"C" if query.element in TEMPERATURES else b"mm"
 

@@ -21,7 +21,14 @@ BAD_WORDS = (b"top", b"0", b"1001", b"1000", b"00001", b"366", b"367", b"-1", b"
              b"1..2..3", b"-1..2",
              b".5", b"5.", b"2020-02-30", b"2019-02-29", b"0000-01-01", b"0001-01-01", b"9999-12-31", b"2020-7-1",
              b"2020-07-01x", b"ZZ", b"Z", b"ZZZ", b"\xc3\xa9", b"x\ty")
+# Of cases after this one the query may have a word that no query had before.
+LAST_WITHOUT_COLD = 20_000
+NEW_BAD_WORDS = (*BAD_WORDS, b"cold", b"cold", b"-10", b"-0.5")
 DEGREES = (b"30", b"0", b"-0", b"0.9", b"1.0", b"020.5", b"-10.0", b"-29.9", b"100", b"-100")
+KINDS = (b"highest", b"highest", b"lowest", b"sum", b"dry", b"wet", b"hot")
+NEW_KINDS = (*KINDS, b"cold", b"cold")
+# The scores of spells whose days are told by degrees, and their elements.
+DEGREES_OF = {b"hot": b"TMAX", b"cold": b"TMIN"}
 GUESSES = (0, 1, 55, -100, 300, 2**31, -2**31)
 
 # A run starts threads from that many bytes of daily files on.
@@ -125,11 +132,11 @@ def date(rng):
     return b"%04d-%02d-%02d" % (year, rng.randint(1, 12), rng.randint(1, 28))
 
 
-def score(rng):
-    """The words of a score, and its element."""
-    kind = rng.choice((b"highest", b"highest", b"lowest", b"sum", b"dry", b"wet", b"hot"))
-    if kind == b"hot":
-        return [kind, rng.choice(DEGREES)], b"TMAX"
+def score(rng, kinds):
+    """The words of a score of one of these kinds, and its element."""
+    kind = rng.choice(kinds)
+    if kind in DEGREES_OF:
+        return [kind, rng.choice(DEGREES)], DEGREES_OF[kind]
     if kind in (b"dry", b"wet"):
         return [kind], b"PRCP"
     window = [rng.choice((b"1", b"2", b"3", b"5", b"30", b"031", b"366"))] if kind == b"sum" else []
@@ -160,12 +167,12 @@ def query_words(rng, names, asked):
     return words
 
 
-def query(rng, names, asked):
+def query(rng, names, asked, bad_words):
     words = query_words(rng, names, asked)
     if rng.random() < 0.2:
         for _ in range(rng.randint(1, 2)):
             at = rng.randrange(len(words) + 1)
-            other = [rng.choice(BAD_WORDS)]
+            other = [rng.choice(bad_words)]
             words[at:at + rng.randrange(2)] = rng.choice(([], other, other, words[at:at + 1] * 2))
         if rng.random() < 0.2:
             words = words[:rng.randrange(len(words) + 1)]
@@ -186,7 +193,8 @@ def case(number):
     rng = random.Random(number)
     names = rng.sample(IDS, rng.choice((0, 2, 3, 4, 5, 5, 5)))
     stations = [station_line(rng, it) for it in names]
-    asked, element = score(rng)
+    kinds, bad_words = (KINDS, BAD_WORDS) if number <= LAST_WITHOUT_COLD else (NEW_KINDS, NEW_BAD_WORDS)
+    asked, element = score(rng, kinds)
     daily = daily_lines(rng, names, element)
     for _ in range(rng.choice((0, 0, 1, 1, 2))):
         if rng.random() < 0.3:
@@ -195,4 +203,4 @@ def case(number):
             daily = changed(rng, daily)
     cuts = sorted(rng.randrange(len(daily) + 1) for _ in range(rng.randint(0, 2)))
     files = [daily[a:b] for a, b in zip([0] + cuts, cuts + [len(daily)])] if daily or rng.random() < 0.5 else []
-    return Case(query(rng, names, asked), text(rng, stations), [text(rng, it) for it in files], options(rng))
+    return Case(query(rng, names, asked, bad_words), text(rng, stations), [text(rng, it) for it in files], options(rng))

@@ -81,6 +81,7 @@ pub const RANK_HELP: &str = "Queries:
            sum N FALL              greatest sums of N days in a row, 1 to 366, of PRCP or SNOW
            dry, wet                longest spells of days below 1 mm, or of at least 1 mm
            hot T                   longest spells of days whose TMAX is at least T, -100 to 100 degrees
+           cold T                  longest spells of days whose TMIN is at most T
   REGION   box S W N E             degrees; over the date line if W is greater than E
            country CC              NOAA's code, the first two letters of the ID: GM is Germany
            state SS                the state's letters in the station list

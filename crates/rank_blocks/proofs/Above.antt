@@ -3,7 +3,7 @@ use Rattle.rank_blocks.proofs.Cited.{◌≡◌, ℕ, ◌*◌, ◌<◌, ◌≤◌
 use Rattle.rank_blocks.proofs.Cited.{ap, ◌∙◌, subst, arith, ℤ, pos, neg_ℤ, ◌≤ℤ◌, ◌+ℤ◌, ◌*ℤ◌, ◌&&◌, ◌-ℤ◌, Contains}
 use Rattle.rank_blocks.proofs.Cited.{filter_map, option_map, AllByRecursion, ints, clamps, All-contains, block_of}
 use Rattle.rank_blocks.proofs.Cited.{is_day, Element, DayValue, Usable, IsSeries, is_value, Score, Highest, Lowest, Sum}
-use Rattle.rank_blocks.proofs.Cited.{Dry, Wet, Hot, Asked, score_element, IsAsked, admits_day, Days, Windows, Spells}
+use Rattle.rank_blocks.proofs.Cited.{Dry, Wet, Hot, Cold, Asked, score_element, IsAsked, admits_day, Days, Windows, Spells}
 use Rattle.rank_blocks.proofs.Cited.{shape, test_of, is_such, window_total, begun, candidate, candidates_among}
 use Rattle.rank_blocks.proofs.Cited.{admitted, run_from, run_len, calendar_len, counted, total, blocks_total, is_among_blocks}
 use Rattle.rank_blocks.proofs.Cited.{is_reached, days_reached, blocks_of_window, holds_such, IsGreatest, IsDayScore}
@@ -156,3 +156,4 @@ above-for Dry q s z series falls of_z = spells-under (test_of spells.Dry) (is_su
 above-for Wet q s z series falls of_z = spells-under (test_of spells.Wet) (is_such _ (days_reached q s)) q s z
     (reached-such (test_of spells.Wet) q s) of_z
 above-for (Hot t) q s z series falls of_z = spells-in_blocks (test_of (spells.Hot t)) q s z of_z
+above-for (Cold t) q s z series falls of_z = spells-in_blocks (test_of (spells.Cold t)) q s z of_z

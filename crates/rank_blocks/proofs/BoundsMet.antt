@@ -1,9 +1,9 @@
 -- The bound of a series is found from its summaries.
 use Rattle.rank_blocks.proofs.Cited.{rules, ◌≡◌, ℕ, Bool, List, map, filter, sym, subst, arith, ℤ, pos, ◌≤ℤ◌, ◌*ℤ◌}
 use Rattle.rank_blocks.proofs.Cited.{unwrap_or, int_min, ints, block_of, greatest, Usable, Element, Score, Sum, Dry}
-use Rattle.rank_blocks.proofs.Cited.{Wet, Hot, Asked, IsAsked, test_of, Spell, BlockRange, Summary, days_reached}
+use Rattle.rank_blocks.proofs.Cited.{Wet, Hot, Cold, Asked, IsAsked, test_of, Spell, BlockRange, Summary, days_reached}
 use Rattle.rank_blocks.proofs.Cited.{is_reached, blocks_of_window, holds_such, bound, IsAskedOf, IsGreatest, IsDayScore}
-use Rattle.rank_blocks.proofs.Cited.{IsBlocksTotal, IsRunLength, IsBoundFor, IsBound, IsRangeOf, in_range, summaries_in}
+use Rattle.rank_blocks.proofs.Cited.{IsBlocksBound, IsBlocksTotal, IsRunLength, IsBoundFor, IsBound, IsRangeOf, in_range, summaries_in}
 use Rattle.rank_blocks.proofs.Cited.{IsTotalFrom, counts, days_in_range, AreOfBlocks, AreSummaries, HasDay, HasDays}
 use Rattle.rank_blocks.proofs.Cited.{HasSum, from_each, true}
 use Rattle.rank_scores.specs.Morsels.{IsAbove}
@@ -35,6 +35,7 @@ abbrev pub score_of : Spell → Score
 score_of kinds.Dry = Dry
 score_of kinds.Wet = Wet
 score_of (kinds.Hot t) = Hot t
+score_of (kinds.Cold t) = Cold t
 
 module _ (r : BlockRange) (q : Asked) (s : Usable) (ms : List Summary) (of : IsRangeOf r q)
     (asked_of : IsAskedOf q s) where
@@ -52,15 +53,22 @@ module _ (r : BlockRange) (q : Asked) (s : Usable) (ms : List Summary) (of : IsR
       subst (λ (P : ℤ → Bool). IsGreatest (IsDayScore f (filter (λ x. P (block_of x.0)) s.days)) z) (range-is r q of)
       (greatest-of_blocks f (in_range r) s ms z are (rw is most))
 
+  -- the longest run of the days in blocks that hold a day which passes is 32 times that of the blocks
+  blocks-met : (test : ℤ → Bool) (z : ℤ)
+      → IsGreatest (IsRunLength (λ d. holds_such test (days_reached q s) (block_of d))) z
+      → IsBlocksBound (holds_such test (days_reached q s)) z
+  blocks-met test z longest =
+      let such : ℤ → Bool = holds_such test (days_reached q s) in
+      let found = blocks-computed test q s asked_of.series in
+      search (rules, arith, ints, found, greatest-unique, days-greatest)
+
   -- the longest run of the days that count is what the bound of spells asks for
   run-met : (k : Spell) (z : ℤ) → IsGreatest (IsRunLength (counts k (days_reached q s))) z
       → IsBoundFor (score_of k) q s z
   run-met kinds.Dry z longest = longest
   run-met kinds.Wet z longest = longest
-  run-met (kinds.Hot t) z longest =
-      let such : ℤ → Bool = holds_such (test_of (kinds.Hot t)) (days_reached q s) in
-      let found = blocks-computed (test_of (kinds.Hot t)) q s asked_of.series in
-      search (rules, arith, ints, found, greatest-unique, days-greatest)
+  run-met (kinds.Hot t) z longest = blocks-met (test_of (kinds.Hot t)) z longest
+  run-met (kinds.Cold t) z longest = blocks-met (test_of (kinds.Cold t)) z longest
 
   -- the bound of spells, from the summaries
   pub spell-met : (k : Spell) (z : ℤ) → q.score ≡ score_of k → AreSummaries q.score s ms
@@ -75,6 +83,7 @@ module _ (r : BlockRange) (q : Asked) (s : Usable) (ms : List Summary) (of : IsR
       has-days kinds.Dry are = are
       has-days kinds.Wet are = are
       has-days (kinds.Hot t) are = are
+      has-days (kinds.Cold t) are = are
 
   module _ (are : AreOfBlocks (HasSum s.days) s ms) where
     -- no total of a block is below zero, if no value is

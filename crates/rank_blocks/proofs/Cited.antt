@@ -34,7 +34,7 @@ pub use Rattle.ghcn_series.specs.Series.{DayValue, IsSeries, Usable, is_value, v
 pub use Rattle.rank_query.specs.Admits.{admits_day}
 pub use Rattle.rank_query.specs.Asked.{Asked, IsAsked, score_element}
 pub use Rattle.rank_query.specs.declared.score.Score.{Score}
-pub use Rattle.rank_query.specs.declared.score.Score.TheVariants.{Dry, Highest, Hot, Lowest, Sum, Wet}
+pub use Rattle.rank_query.specs.declared.score.Score.TheVariants.{Cold, Dry, Highest, Hot, Lowest, Sum, Wet}
 pub use Rattle.rank_scores.proofs.Rising.{admitted-rise, from_both, from_each, rise-filter, rise-from_by_day, values_stand}
 pub use Rattle.rank_scores.proofs.Runs.{counted}
 pub use Rattle.rank_scores.proofs.Totals.{total-days}

@@ -3,7 +3,7 @@ use Rattle.rank_blocks.proofs.Cited.{rules, ◌≡◌, ℕ, zero, suc, ◌<◌, 
 use Rattle.rank_blocks.proofs.Cited.{inr, refl, ◌∙◌, arith, ℤ, pos, neg_ℤ, ◌+ℤ◌, ◌-ℤ◌, ◌≤ℤ◌, ◌<ℤ◌, Contains}
 use Rattle.rank_blocks.proofs.Cited.{flat_map, AllByRecursion, range_with_len, ints, Contains-append_left}
 use Rattle.rank_blocks.proofs.Cited.{Contains-append_right, le-max_left, le-max_right, block_of, first_day, last_day}
-use Rattle.rank_blocks.proofs.Cited.{Element, DayValue, Usable, IsSeries, Score, Highest, Lowest, Sum, Dry, Wet, Hot}
+use Rattle.rank_blocks.proofs.Cited.{Element, DayValue, Usable, IsSeries, Score, Highest, Lowest, Sum, Dry, Wet, Hot, Cold}
 use Rattle.rank_blocks.proofs.Cited.{Asked, IsAsked, admits_day, test_of, is_such, admitted, run_len, longest_run}
 use Rattle.rank_blocks.proofs.Cited.{calendar_len, counted, days_reached, is_reached, blocks_total, is_among_blocks}
 use Rattle.rank_blocks.proofs.Cited.{greatest_by, blocks_of_window, first_blocks, greatest_total, spell_bound}
@@ -44,6 +44,7 @@ unique-for (Sum n e) q s y z of_y of_z = sum-unique q s n y z of_y of_z
 unique-for Dry q s y z of_y of_z = greatest-unique _ y z of_y of_z
 unique-for Wet q s y z of_y of_z = greatest-unique _ y z of_y of_z
 unique-for (Hot t) q s y z of_y of_z = blocks-unique _ y z of_y of_z
+unique-for (Cold t) q s y z of_y of_z = blocks-unique _ y z of_y of_z
 
 -- ---- days
 
@@ -175,7 +176,7 @@ blocks-greatest test q s series =
     (λ x has. let day = reached-valid q s series x has in
     (block-rises first_day x.0 day.0, omega (arith, ints, block-rises x.0 last_day day.1)))
 
--- 32 times the number of blocks is the bound of hot spells
+-- 32 times the number of blocks is the bound of hot and of cold spells
 pub blocks-computed : (test : ℤ → Bool) (q : Asked) (s : Usable) → IsSeries s
     → IsBlocksBound (holds_such test (days_reached q s)) (blocks_bound test (days_reached q s))
 blocks-computed test q s series = grind (arith, ints, blocks-greatest test q s series)
@@ -197,6 +198,7 @@ computed-for (Sum n e) q s series some falls = record {
 computed-for Dry q s series some falls = run-greatest (test_of spells.Dry) q s series
 computed-for Wet q s series some falls = run-greatest (test_of spells.Wet) q s series
 computed-for (Hot t) q s series some falls = blocks-computed (test_of (spells.Hot t)) q s series
+computed-for (Cold t) q s series some falls = blocks-computed (test_of (spells.Cold t)) q s series
 
 -- the bound as it is computed is the bound by what it is greatest of
 pub computed-IsBound : (q : Asked) (s : Usable) → IsAsked q → IsAskedOf q s → IsBound q s (bound q s)

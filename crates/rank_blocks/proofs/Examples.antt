@@ -1,6 +1,6 @@
 -- Worked bounds, by computation.
 use Rattle.rank_blocks.proofs.Cited.{◌≡◌, ℕ, zero, suc, List, [], ◌∷◌, refl, Some, None, Option, codes, ℤ, pos, neg_ℤ}
-use Rattle.rank_blocks.proofs.Cited.{◌+ℤ◌, Element, DayValue, Usable, Score, Highest, Lowest, Sum, Dry, Wet, Hot, Asked}
+use Rattle.rank_blocks.proofs.Cited.{◌+ℤ◌, Element, DayValue, Usable, Score, Highest, Lowest, Sum, Dry, Wet, Hot, Cold, Asked}
 use Rattle.rank_blocks.proofs.Cited.{run_from, bound}
 use Rattle.ghcn_files.specs.declared.element.Element.TheVariants.{Tmax, Tmin, Prcp}
 use Rattle.rank_query.specs.Asked.{top}
@@ -99,3 +99,11 @@ hot_blocks : (bound (ask (Hot (pos 300)) None) (series Tmax ((pos 18463, pos 300
     × (bound (ask (Hot (pos 400)) None) (series Tmax ((pos 18444, pos 300) ∷ [])) ≡ pos 0)
 unfolding run_from
 hot_blocks = (refl, refl, refl)
+
+-- cold days of one block, by its least value and not by its greatest, of two blocks, and none
+cold_blocks : (bound (ask (Cold (neg_ℤ (pos 100))) None) (series Tmin ((pos 18262, neg_ℤ (pos 100))
+    ∷ (pos 18263, neg_ℤ (pos 105)) ∷ (pos 18264, neg_ℤ (pos 99)) ∷ (pos 18265, neg_ℤ (pos 110)) ∷ [])) ≡ pos 32)
+    × (bound (ask (Cold (pos 0)) None) (series Tmin ((pos 18463, pos 0) ∷ (pos 18464, neg_ℤ (pos 1)) ∷ [])) ≡ pos 64)
+    × (bound (ask (Cold (neg_ℤ (pos 1))) None) (series Tmin ((pos 18444, pos 0) ∷ [])) ≡ pos 0)
+unfolding run_from
+cold_blocks = (refl, refl, refl)

@@ -1,11 +1,11 @@
 -- Blocks that hold a day whose value passes, and how they and their days follow one another.
 use Rattle.rank_blocks.proofs.Cited.{◌≡◌, ℕ, zero, suc, ◌*◌, ◌/◌, ◌%◌, ◌<◌, ◌≤◌, Bool, true, List, [], ◌∷◌, filter}
-use Rattle.rank_blocks.proofs.Cited.{refl, sym, ap, ◌∙◌, subst, arith, ℤ, pos, ◌+ℤ◌, ◌&&◌, int_le, Contains, int_eq}
+use Rattle.rank_blocks.proofs.Cited.{refl, sym, ap, ◌∙◌, subst, arith, ℤ, pos, neg_ℤ, ◌+ℤ◌, ◌&&◌, int_le, Contains, int_eq}
 use Rattle.rank_blocks.proofs.Cited.{int_max, AllByRecursion, Decides-int_eq, ints, clamps, block_of, DayValue, test_of}
 use Rattle.rank_blocks.proofs.Cited.{is_such, Spell, block_start, days_in, holds_such, AreBitsOf, has_bit, IsGreatest}
 use Rattle.rank_blocks.proofs.Cited.{IsDayScore, IsRunLength, counts, and_from, int_eq-yes, false_from_ne_true}
 use Rattle.rank_blocks.proofs.Cited.{block-of_place, block-holds, cases_Bool, inl, inr}
-use Rattle.rank_scores.specs.declared.spell.Spell.TheVariants.{Dry, Wet, Hot}
+use Rattle.rank_scores.specs.declared.spell.Spell.TheVariants.{Dry, Wet, Hot, Cold}
 use Rattle.rank_blocks.proofs.DaysInBlocks.{distance, block-rises}
 use Rattle.rank_blocks.proofs.Members.{of_each, any_in, any_of, of_kept, in_kept, from_kept}
 use Rattle.rank_blocks.proofs.ReachedDays.{such-filter, such-kept, such-in}
@@ -40,21 +40,50 @@ module _ (test : ℤ → Bool) where
       let found = holds-in (filter (λ x. p (block_of x.0)) days) b e in
       grind (arith, ints, of_kept (λ x. p (block_of x.0)) days found.0 found.1, found.2, holds-filter p days b)
 
--- a block holds a hot day if its greatest value is hot
-holds-greatest : (t : ℤ) (days : List DayValue) (b z : ℤ) → IsGreatest (IsDayScore (λ v. v) (days_in days b)) z
-    → holds_such (test_of (Hot t)) days b ≡ int_le t z
-holds-greatest t days b z of_z = elim (cases_Bool (int_le t z)) [
-  | inl e ↦
-      let day = from_kept (λ x. x.1) (λ x. int_eq (block_of x.0) b) days z of_z.is_one in
-      any_of (λ x. int_eq (block_of x.0) b && int_le t x.1) days day.0 day.1.0
-      (and_from _ _ day.1.1 (ap (int_le t) day.2 ∙ e)) ∙ sym e
-  | inr e ↦
-      false_from_ne_true (holds_such (test_of (Hot t)) days b) (λ holds.
-      let day = holds-in (test_of (Hot t)) days b holds in
-      let most = of_z.is_most day.0.1 (in_kept (λ x. x.1) (λ x. int_eq (block_of x.0) b) days day.0 day.1
-      (int_eq-yes (block_of day.0.0) b day.2)) in
-      grind (arith, ints, most, day.3, e)) ∙ sym e
-]
+  -- all that is true of the block of each day is true of one that holds one
+  holds-among : (Q : ℤ → Type 0) (days : List DayValue) (b : ℤ) → AllByRecursion (λ x. Q (block_of x.0)) days
+      → holds_such test days b ≡ true → Q b
+  holds-among Q days b all e =
+      let day = holds-in days b e in
+      subst Q day.2 (of_each (λ x. Q (block_of x.0)) days all day.0 day.1)
+
+-- a value passes if what a measure makes of it isn't below a least number
+abbrev IsFrom : (ℤ → ℤ) → ℤ → (ℤ → Bool) → Type 0
+IsFrom f least test = (v : ℤ) → test v ≡ int_le least (f v)
+
+module _ (f : ℤ → ℤ) (least : ℤ) (test : ℤ → Bool) (from : IsFrom f least test) (days : List DayValue) (b z : ℤ)
+    (of_z : IsGreatest (IsDayScore f (days_in days b)) z) where
+  -- a block holds a day whose value passes if the greatest that the measure makes of its values isn't below that number
+  holds-greatest : holds_such test days b ≡ int_le least z
+  holds-greatest = elim (cases_Bool (int_le least z)) [
+    | inl e ↦
+        let day = from_kept (λ x. f x.1) (λ x. int_eq (block_of x.0) b) days z of_z.is_one in
+        any_of (λ x. int_eq (block_of x.0) b && test x.1) days day.0 day.1.0
+        (and_from _ _ day.1.1 (from day.0.1 ∙ ap (int_le least) day.2 ∙ e)) ∙ sym e
+    | inr e ↦
+        false_from_ne_true (holds_such test days b) (λ holds.
+        let day = holds-in test days b holds in
+        let most = of_z.is_most (f day.0.1) (in_kept (λ x. f x.1) (λ x. int_eq (block_of x.0) b) days day.0 day.1
+        (int_eq-yes (block_of day.0.0) b day.2)) in
+        grind (arith, ints, most, day.3, e, from day.0.1)) ∙ sym e
+  ]
+
+  -- then all its days count, and otherwise none
+  pub block-bits : (word : ℕ) → ((j : ℕ) → j < 32 → has_bit word j ≡ int_le least z)
+      → AreBitsOf (λ d. holds_such test days (block_of d)) b word
+  block-bits word all = λ i lt. all i lt ∙ sym holds-greatest ∙ ap (holds_such test days) (sym (block-of_place b i lt))
+
+-- two numbers are in the order of the negated ones exchanged
+pub int_le-neg : (a b : ℤ) → int_le a b ≡ int_le (neg_ℤ b) (neg_ℤ a)
+int_le-neg a b = grind (arith, ints)
+
+-- a hot day isn't below the degrees
+pub from-hot : (t : ℤ) → IsFrom (λ v. v) t (test_of (Hot t))
+from-hot t v = refl
+
+-- a cold day negated isn't below the degrees negated
+pub from-cold : (t : ℤ) → IsFrom neg_ℤ (neg_ℤ t) (test_of (Cold t))
+from-cold t v = int_le-neg v t
 
 -- ---- days that count for a spell
 
@@ -64,6 +93,7 @@ pub counts-filter : (k : Spell) (p : ℤ → Bool) (days : List DayValue) (d : �
 counts-filter Dry p days d inside = such-filter (test_of Dry) (λ n. p (block_of n)) days d inside
 counts-filter Wet p days d inside = such-filter (test_of Wet) (λ n. p (block_of n)) days d inside
 counts-filter (Hot t) p days d inside = holds-filter (test_of (Hot t)) p days (block_of d) inside
+counts-filter (Cold t) p days d inside = holds-filter (test_of (Cold t)) p days (block_of d) inside
 
 -- a day that counts among them lies in one of the blocks
 pub counts-kept : (k : Spell) (p : ℤ → Bool) (days : List DayValue) (d : ℤ)
@@ -71,20 +101,15 @@ pub counts-kept : (k : Spell) (p : ℤ → Bool) (days : List DayValue) (d : ℤ
 counts-kept Dry p days d e = such-kept (test_of Dry) (λ n. p (block_of n)) days d e
 counts-kept Wet p days d e = such-kept (test_of Wet) (λ n. p (block_of n)) days d e
 counts-kept (Hot t) p days d e = holds-kept (test_of (Hot t)) p days (block_of d) e
+counts-kept (Cold t) p days d e = holds-kept (test_of (Cold t)) p days (block_of d) e
 
 -- a day that counts lies in the block of one of the days, and all that is true of each of these is true of it
 pub counts-among : (k : Spell) (Q : ℤ → Type 0) (days : List DayValue) (d : ℤ)
     → AllByRecursion (λ x. Q (block_of x.0)) days → counts k days d ≡ true → Q (block_of d)
 counts-among Dry Q days d all e = of_each (λ x. Q (block_of x.0)) days all _ (such-in (test_of Dry) days d e).1
 counts-among Wet Q days d all e = of_each (λ x. Q (block_of x.0)) days all _ (such-in (test_of Wet) days d e).1
-counts-among (Hot t) Q days d all e =
-    let day = holds-in (test_of (Hot t)) days (block_of d) e in
-    subst Q day.2 (of_each (λ x. Q (block_of x.0)) days all day.0 day.1)
-
--- if a block's greatest value is hot, all its days count, and otherwise none
-pub hot-bits : (t : ℤ) (days : List DayValue) (b z : ℤ) (word : ℕ) → IsGreatest (IsDayScore (λ v. v) (days_in days b)) z
-    → ((j : ℕ) → j < 32 → has_bit word j ≡ int_le t z) → AreBitsOf (counts (Hot t) days) b word
-hot-bits t days b z word of_z all = grind (arith, ints, holds-greatest, block-of_place)
+counts-among (Hot t) Q days d all e = holds-among (test_of (Hot t)) Q days (block_of d) all e
+counts-among (Cold t) Q days d all e = holds-among (test_of (Cold t)) Q days (block_of d) all e
 
 -- ---- blocks in a row, and their days
 

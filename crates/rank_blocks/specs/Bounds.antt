@@ -9,7 +9,7 @@ use Rattle.ghcn_fields.specs.Days.{block_of}
 use Rattle.ghcn_fields.specs.Sorting.{greatest}
 use Rattle.ghcn_series.specs.Series.{DayValue, Usable}
 use Rattle.rank_query.specs.declared.score.Score.{Score}
-use Rattle.rank_query.specs.declared.score.Score.TheVariants.{Highest, Lowest, Sum, Dry, Wet, Hot}
+use Rattle.rank_query.specs.declared.score.Score.TheVariants.{Highest, Lowest, Sum, Dry, Wet, Hot, Cold}
 use Rattle.rank_query.specs.Asked.{Asked}
 use Rattle.rank_scores.specs.Candidates.{is_such, test_of}
 use Rattle.rank_scores.specs.declared.spell.Spell.TheVariants as spells
@@ -46,7 +46,7 @@ spell_bound test days = pos (longest_run (is_such test days) (map (λ x. x.0) da
 abbrev pub holds_such : (ℤ → Bool) → List DayValue → ℤ → Bool
 holds_such test days b = list_any (λ x. int_eq (block_of x.0) b && test x.1) days
 
--- the bound of hot spells: 32 times the most blocks in a row that hold a day which passes, 0 if none does
+-- the bound of hot and of cold spells: 32 times the most blocks in a row that hold a day which passes, 0 if none does
 abbrev pub blocks_bound : (ℤ → Bool) → List DayValue → ℤ
 blocks_bound test days = pos (32 * longest_run (holds_such test days) (map (λ x. block_of x.0) days))
 
@@ -58,6 +58,7 @@ bound_for (Sum n e) q s = sum_bound q s n
 bound_for Dry q s = spell_bound (test_of spells.Dry) (days_reached q s)
 bound_for Wet q s = spell_bound (test_of spells.Wet) (days_reached q s)
 bound_for (Hot t) q s = blocks_bound (test_of (spells.Hot t)) (days_reached q s)
+bound_for (Cold t) q s = blocks_bound (test_of (spells.Cold t)) (days_reached q s)
 
 -- the bound of a series under a query
 abbrev pub bound : Asked → Usable → ℤ

@@ -4,7 +4,7 @@ use Rattle.std.specs.List.{Contains}
 use Rattle.std.specs.Int.{int_min}
 use Rattle.ghcn_series.specs.Series.{DayValue, Usable}
 use Rattle.rank_query.specs.declared.score.Score.{Score}
-use Rattle.rank_query.specs.declared.score.Score.TheVariants.{Highest, Lowest, Sum, Dry, Wet, Hot}
+use Rattle.rank_query.specs.declared.score.Score.TheVariants.{Highest, Lowest, Sum, Dry, Wet, Hot, Cold}
 use Rattle.rank_query.specs.Asked.{Asked}
 use Rattle.rank_scores.specs.Candidates.{is_such, test_of}
 use Rattle.rank_scores.specs.declared.spell.Spell.TheVariants as spells
@@ -51,6 +51,7 @@ IsBoundFor (Sum n e) q s z = IsSumBound q s n z
 IsBoundFor Dry q s z = IsGreatest (IsRunLength (is_such (test_of spells.Dry) (days_reached q s))) z
 IsBoundFor Wet q s z = IsGreatest (IsRunLength (is_such (test_of spells.Wet) (days_reached q s))) z
 IsBoundFor (Hot t) q s z = IsBlocksBound (holds_such (test_of (spells.Hot t)) (days_reached q s)) z
+IsBoundFor (Cold t) q s z = IsBlocksBound (holds_such (test_of (spells.Cold t)) (days_reached q s)) z
 
 -- z is the bound of the series under the query
 abbrev pub IsBound : Asked → Usable → ℤ → Type 0

@@ -5,7 +5,7 @@ use Rattle.ghcn_series.specs.Series.{DayValue}
 use Rattle.rank_query.specs.Asked.{Asked}
 use Rattle.rank_scores.specs.Candidates.{is_such, test_of}
 use Rattle.rank_scores.specs.declared.spell.Spell.{Spell}
-use Rattle.rank_scores.specs.declared.spell.Spell.TheVariants.{Dry, Wet, Hot}
+use Rattle.rank_scores.specs.declared.spell.Spell.TheVariants.{Dry, Wet, Hot, Cold}
 use Rattle.rank_blocks.specs.declared.range.BlockRange.{BlockRange}
 use Rattle.rank_blocks.specs.declared.summary.Summary.{Summary}
 use Rattle.rank_blocks.specs.Blocks.{period_of, total, is_among_blocks}
@@ -38,11 +38,13 @@ days_in_range r days = filter (λ x. in_range r (block_of x.0)) days
 abbrev pub summaries_in : BlockRange → List Summary → List Summary
 summaries_in r ms = filter (λ m. in_range r m.number) ms
 
--- the day counts for a spell: it is dry or wet, or its block holds a hot day, since no summary has which days are hot
+-- the day counts for a spell: it is dry or wet, or its block holds a hot or cold day, since no summary has which days
+-- are hot or cold
 abbrev pub counts : Spell → List DayValue → ℤ → Bool
 counts Dry days d = is_such (test_of Dry) days d
 counts Wet days d = is_such (test_of Wet) days d
 counts (Hot t) days d = holds_such (test_of (Hot t)) days (block_of d)
+counts (Cold t) days d = holds_such (test_of (Cold t)) days (block_of d)
 
 -- the total of w blocks from one on
 abbrev pub summaries_total : List Summary → ℕ → ℤ → ℤ

@@ -6,7 +6,7 @@ use Rattle.std.specs.Ordering.{int_cmp}
 use Rattle.ghcn_fields.specs.Days.{block_of, first_day}
 use Rattle.ghcn_series.specs.Series.{DayValue, Usable, IsSeries}
 use Rattle.rank_query.specs.declared.score.Score.{Score}
-use Rattle.rank_query.specs.declared.score.Score.TheVariants.{Highest, Lowest, Sum, Dry, Wet, Hot}
+use Rattle.rank_query.specs.declared.score.Score.TheVariants.{Highest, Lowest, Sum, Dry, Wet, Hot, Cold}
 use Rattle.rank_scores.specs.declared.spell.Spell.{Spell}
 use Rattle.rank_scores.specs.declared.spell.Spell.TheVariants as spells
 use Rattle.rank_blocks.specs.declared.summary.Summary.{Summary}
@@ -36,6 +36,7 @@ IsSummary (Sum n e) days m = HasSum days m
 IsSummary Dry days m = HasDays spells.Dry days m
 IsSummary Wet days m = HasDays spells.Wet days m
 IsSummary (Hot t) days m = HasDays (spells.Hot t) days m
+IsSummary (Cold t) days m = HasDays (spells.Cold t) days m
 
 -- each block that holds a usable day has one summary, of which this is true, by block number
 pub record AreOfBlocks (P : Summary → Type 0) (s : Usable) (ms : List Summary) : Type 0 where

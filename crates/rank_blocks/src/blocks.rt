@@ -72,7 +72,7 @@ fn bound_of(blocks: &[Summary], query: &Query) -> i64
             greatest_day(blocks, range),
             greatest_total(blocks, range, window_blocks(n)),
         ),
-        Score::Dry | Score::Wet | Score::Hot(_) => longest_run(blocks, range),
+        Score::Dry | Score::Wet | Score::Hot(_) | Score::Cold(_) => longest_run(blocks, range),
     }
 }
 

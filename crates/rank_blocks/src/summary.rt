@@ -48,11 +48,12 @@ impl Summary {
             Score::Sum(..) => of_sum(number, greatest_value(word, values) as i64, total(values)),
             Score::Dry => of_days(number, dry_days(word, values)),
             Score::Wet => of_days(number, wet_days(word, values)),
-            // Which days are hot isn't kept: a block with a hot day has 32.
+            // Which days are hot or cold isn't kept: a block with such a day has 32.
             Score::Hot(least) => of_days(
                 number,
                 all_or_none(greatest_value(word, values) >= least),
             ),
+            Score::Cold(most) => of_days(number, all_or_none(least_value(word, values) <= most)),
         }
     }
 

@@ -1,17 +1,17 @@
 -- Worked verdicts, by computation.
 use Rattle.std.proofs.Common.{◌≡◌, ℕ, Bool, true, false, List, [], ◌∷◌, ◌++◌, refl, Option, None, Some}
-use Rattle.std.specs.Prelude.{codes, pos, ℤ}
+use Rattle.std.specs.Prelude.{codes, pos, neg_ℤ, ℤ}
 use Rattle.std.specs.Fmt.{digits}
 use Rattle.jiff_core.specs.Calendar.{days_from_civil, day_count, days_of_years, days_of_months}
 use Rattle.ghcn_fields.specs.Dates.{year_and_rest, month_and_day}
-use Rattle.ghcn_files.specs.declared.element.Element.TheVariants.{Tmax}
+use Rattle.ghcn_files.specs.declared.element.Element.TheVariants.{Tmax, Tmin}
 use Rattle.ghcn_files.specs.StationLines.{station_of}
 use Rattle.ghcn_series.specs.Series.{DayValue, Usable, Contents}
-use Rattle.rank_query.specs.declared.score.Score.TheVariants.{Highest}
+use Rattle.rank_query.specs.declared.score.Score.TheVariants.{Highest, Cold}
 use Rattle.rank_query.specs.Asked.{Asked, top}
 use Rattle.rank_query.specs.Words.{says}
 use Rattle.rank_query.specs.Readers.{keyword}
-use Rattle.rank_query.specs.WordValues.{number, element}
+use Rattle.rank_query.specs.WordValues.{number, element, heat}
 use Rattle.rank_query.specs.Reading.{no_score_at, score_at, region_at, season_at, period_at, read_words}
 use Rattle.rank_query.specs.Reading.{read_query}
 use Rattle.rank_check.specs.declared.verdict.Paper.TheVariants.{Report, Certificate}
@@ -24,6 +24,7 @@ use Rattle.rank_check.specs.declared.verdict.Verdict.TheVariants.{Accepted, Refu
 use Rattle.ghcn_fields.specs.Faults.{first_failing}
 use Rattle.ghcn_files.specs.declared.station.Station.{Station}
 use Rattle.rank_scores.specs.declared.candidate.Candidate.{Candidate}
+use Rattle.rank_scores.specs.Runs.{run_from}
 use Rattle.rank_papers.specs.Report.{Named}
 use Rattle.rank_papers.specs.Certificate.{Entry}
 use Rattle.rank_check.specs.Tests.{verdict}
@@ -356,3 +357,34 @@ alone_in_turn : (alone at_bravo of_alpha (line false at_alpha (pos 311)) 2 own_r
     × (first_failing (piece_tests (ask 3) at_alpha (Some of_alpha) (line true at_alpha (pos 310)) 2
     ((worst, codes "ALPHA") ∷ (second, codes "ALPHA") ∷ []) (Some second)) ≡ Some NoBound)
 alone_in_turn = (refl, refl, refl, refl, refl)
+
+-- ---- cold spells
+
+-- a series of daily minima
+abbrev frost : List ℕ → List DayValue → Usable
+frost id days = record { id = record { 0 = id }; element = Tmin; days = days }
+
+-- two stations: of one the third day isn't as cold as -10 degrees, and of the other two days are, from a leap day on
+abbrev frosts : Contents
+frosts = record {
+  stations = station_of (codes "ZZA00000001  10.0000   20.0000  100.0    ALPHA")
+      ∷ station_of (codes "ZZA00000002  11.0000   21.0000  100.0    BRAVO")
+      ∷ [];
+  series = frost (codes "ZZA00000001") ((pos 18262, neg_ℤ (pos 100)) ∷ (pos 18263, neg_ℤ (pos 105))
+      ∷ (pos 18264, neg_ℤ (pos 99)) ∷ (pos 18265, neg_ℤ (pos 110)) ∷ [])
+      ∷ frost (codes "ZZA00000002") ((pos 18321, neg_ℤ (pos 150)) ∷ (pos 18322, neg_ℤ (pos 120)) ∷ [])
+      ∷ [];
+  unlisted = 0;
+}
+
+-- the three longest of their spells, by length, then by ID
+cold_accepted : verdict (top 3 (Cold (neg_ℤ (pos 100)))) frosts
+    (text (codes "extremes report 1" ∷ codes "query top 3 cold -10.0"
+    ∷ codes "1 ZZA00000001 2020-01-01 2020-01-02 2 days ALPHA"
+    ∷ codes "2 ZZA00000002 2020-02-29 2020-03-01 2 days BRAVO"
+    ∷ codes "3 ZZA00000001 2020-01-04 2020-01-04 1 days ALPHA" ∷ codes "end 3" ∷ []))
+    (text (codes "extremes certificate 2" ∷ codes "query top 3 cold -10.0" ∷ codes "kth 1"
+    ∷ codes "scan ZZA00000001 32 2" ∷ codes "scan ZZA00000002 32 1" ∷ codes "end 2" ∷ [])) ≡ Accepted
+unfolding digits year_and_rest month_and_day read_query read_words keyword says number heat score_at no_score_at
+    region_at season_at period_at days_from_civil day_count days_of_years days_of_months run_from
+cold_accepted = refl

@@ -11,7 +11,7 @@ use Rattle.ghcn_fields.specs.Days.{is_day, is_within}
 use Rattle.ghcn_files.specs.declared.station.StationId.{StationId}
 use Rattle.ghcn_series.specs.Series.{DayValue, Usable, value_on}
 use Rattle.rank_query.specs.declared.score.Score.{Score}
-use Rattle.rank_query.specs.declared.score.Score.TheVariants.{Highest, Lowest, Sum, Dry, Wet, Hot}
+use Rattle.rank_query.specs.declared.score.Score.TheVariants.{Highest, Lowest, Sum, Dry, Wet, Hot, Cold}
 use Rattle.rank_query.specs.Asked.{Asked, IsAsked, is_score, is_fall}
 use Rattle.rank_query.specs.Admits.{admits_day, period_holds, season_holds}
 use Rattle.rank_scores.specs.declared.candidate.Candidate.{Candidate}
@@ -178,6 +178,7 @@ module _ (q : Asked) (days : List DayValue) where
   asked_ends Dry right x day = spell_ends (test_of spells.Dry) x
   asked_ends Wet right x day = spell_ends (test_of spells.Wet) x
   asked_ends (Hot t) right x day = spell_ends (test_of (spells.Hot t)) x
+  asked_ends (Cold t) right x day = spell_ends (test_of (spells.Cold t)) x
 
   -- what begins on some days begins and ends on days of the calendar
   each_begun : (id : StationId) (sh : Shape) (xs : List DayValue) → AllByRecursion (λ x. is_day x.0 ≡ true) xs

@@ -18,7 +18,7 @@ use Rattle.ghcn_fields.specs.NumberTexts.{tenths_of}
 use Rattle.ghcn_fields.proofs.Digits.{natural-from}
 use Rattle.ghcn_files.specs.Ids.{is_visible}
 use Rattle.rank_query.specs.declared.score.Score.{Score}
-use Rattle.rank_query.specs.declared.score.Score.TheVariants.{Highest, Lowest, Sum, Dry, Wet, Hot}
+use Rattle.rank_query.specs.declared.score.Score.TheVariants.{Highest, Lowest, Sum, Dry, Wet, Hot, Cold}
 use Rattle.rank_query.specs.Asked.{Asked}
 use Rattle.rank_query.specs.Spelling.{IsNumeralOf}
 use Rattle.rank_query.proofs.PrintedWords.{decimal_numeral}
@@ -148,6 +148,7 @@ value_of-twice (Sum n e) z = refl
 value_of-twice Dry z = refl
 value_of-twice Wet z = refl
 value_of-twice (Hot t) z = refl
+value_of-twice (Cold t) z = refl
 
 -- a number inside 64 bits has a magnitude inside 64 bits
 magnitude_fits : (z : ℤ) → FitsSigned w64 z → unsigned_abs z < 2 ^ 64
@@ -165,6 +166,7 @@ value_fits (Sum n e) z h = magnitude_fits z h
 value_fits Dry z h = magnitude_fits z h
 value_fits Wet z h = magnitude_fits z h
 value_fits (Hot t) z h = magnitude_fits z h
+value_fits (Cold t) z h = magnitude_fits z h
 
 -- a score is read of the value that is printed for it
 pub score_in-text : (q : Asked) (z : ℤ) → FitsSigned w64 z

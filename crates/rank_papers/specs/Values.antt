@@ -5,7 +5,7 @@ use Rattle.ghcn_fields.specs.NumberTexts.{tenths}
 use Rattle.ghcn_files.specs.declared.element.Element.{Element}
 use Rattle.ghcn_files.specs.declared.element.Element.TheVariants.{Prcp, Snow, Snwd, Tmax, Tmin}
 use Rattle.rank_query.specs.declared.score.Score.{Score}
-use Rattle.rank_query.specs.declared.score.Score.TheVariants.{Highest, Lowest, Sum, Dry, Wet, Hot}
+use Rattle.rank_query.specs.declared.score.Score.TheVariants.{Highest, Lowest, Sum, Dry, Wet, Hot, Cold}
 use Rattle.rank_papers.specs.declared.measure.Measure.{Measure}
 use Rattle.rank_papers.specs.declared.measure.Measure.TheVariants.{Degrees, Millimetres, WholeMillimetres, Days}
 
@@ -25,6 +25,7 @@ measure_of_score (Sum n e) = element_measure e
 measure_of_score Dry = Days
 measure_of_score Wet = Days
 measure_of_score (Hot t) = Days
+measure_of_score (Cold t) = Days
 
 -- that many raw units, in the unit that is printed: tenths have one decimal
 abbrev pub value_text : Measure → ℤ → List ℕ
@@ -48,3 +49,4 @@ value_of (Sum n e) score = score
 value_of Dry score = score
 value_of Wet score = score
 value_of (Hot t) score = score
+value_of (Cold t) score = score

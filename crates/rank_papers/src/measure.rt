@@ -24,7 +24,7 @@ pub(crate) fn measure_of(score: Score) -> Measure
     match score {
         Score::Highest(element) | Score::Lowest(element) | Score::Sum(_, element) =>
             element_measure(element),
-        Score::Dry | Score::Wet | Score::Hot(_) => Measure::Days,
+        Score::Dry | Score::Wet | Score::Hot(_) | Score::Cold(_) => Measure::Days,
     }
 }
 

@@ -2,7 +2,7 @@
 use Rattle.rank_query.proofs.Cited.{◌≡◌, ℕ, ◌<◌, ◌≤◌, ◌^◌, true, ◌++◌, length, codes, IsTrue, refl}
 use Rattle.rank_query.proofs.Cited.{length-append, arith, Some, None, ℤ, pos, neg_ℤ, ◌≤ℤ◌, Option, AllByRecursion}
 use Rattle.rank_query.proofs.Cited.{and_parts, nat_tests, ints, is_within, Score, Highest, Lowest}
-use Rattle.rank_query.proofs.Cited.{Sum, Dry, Wet, Hot, Region, Everywhere, Inside, Country, State, Only, Asked}
+use Rattle.rank_query.proofs.Cited.{Sum, Dry, Wet, Hot, Cold, Region, Everywhere, Inside, Country, State, Only, Asked}
 use Rattle.rank_query.proofs.Cited.{IsAsked, is_score, is_fall, is_heat, is_month, is_season, is_region, score_words}
 use Rattle.rank_query.proofs.Cited.{region_words, season_words, period_words, query_words, query_text}
 use Rattle.rank_query.proofs.Cited.{SpellsWord, IsSpelling, QueryWord, Exactly, Count, Tenths, Edge, Months}
@@ -49,7 +49,7 @@ count_printed low high n few within =
     let fits = small low high n few within in
     record { short = decimal_word n fits.0 fits.1; spelt = decimal_numeral n fits.1 }
 
--- with degrees from which on a day is hot
+-- with degrees by which a day is hot or cold
 tenths_printed : (t : ℤ) → is_heat t ≡ true → IsPrinted (Tenths t)
 tenths_printed t is =
     let it = tenths_text t (grind (arith, ints)) (grind (arith, ints)) in record { short = it.short; spelt = it.spelt }
@@ -80,6 +80,7 @@ score_printed (Sum n e) is =
 score_printed Dry is = ((known_printed (codes "dry") refl, tt), omega arith)
 score_printed Wet is = ((known_printed (codes "wet") refl, tt), omega arith)
 score_printed (Hot t) is = ((known_printed (codes "hot") refl, (tenths_printed t is, tt)), omega arith)
+score_printed (Cold t) is = ((known_printed (codes "cold") refl, (tenths_printed t is, tt)), omega arith)
 
 -- a code is such a word
 code_printed : (len : ℕ) (code : List ℕ) → 1 ≤ len → len ≤ 11 → is_code len code ≡ true → IsPrinted (Exactly code)

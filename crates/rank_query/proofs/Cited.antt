@@ -41,7 +41,7 @@ pub use Rattle.ghcn_files.specs.declared.element.Element.TheVariants.{Prcp, Snow
 pub use Rattle.jiff_core.specs.Calendar.{days_in_month}
 unfoldable pub use Rattle.jiff_core.specs.Calendar.{day_count, days_from_civil, days_of_months, days_of_years}
 pub use Rattle.memchr.specs.Find.{IsFirstByte, is_byte}
-pub use Rattle.rank_query.specs.Asked.{Asked, IsAsked, is_code, is_fall, is_period}
+pub use Rattle.rank_query.specs.Asked.{Asked, IsAsked, is_code, is_fall, is_heat, is_period}
 pub use Rattle.rank_query.specs.Asked.{is_region, is_score, is_season, is_temperature}
 pub use Rattle.rank_query.specs.FaultKinds.{IsFaultAmong, edge, has_form, is_behind_box, is_behind_first_day, is_date_word}
 pub use Rattle.rank_query.specs.FaultKinds.{is_decimal, is_number, other, place_behind}
@@ -52,13 +52,13 @@ pub use Rattle.rank_query.specs.QueryTexts.{query_text, query_words, region_word
 pub use Rattle.rank_query.specs.QueryTexts.{word_text}
 pub use Rattle.rank_query.specs.Readers.{Read, by_word, made_into, one_word, or_fault, ◌>>=◌}
 unfoldable pub use Rattle.rank_query.specs.Readers.{keyword}
-pub use Rattle.rank_query.specs.Reading.{all_year_at, always_at, between_at, country_at, dry_at, everywhere_at}
-pub use Rattle.rank_query.specs.Reading.{highest_at, hot_at, latitude_from, longitude, lowest_at, months_at}
-pub use Rattle.rank_query.specs.Reading.{nothing_more, state_at, station_at, wet_at}
+pub use Rattle.rank_query.specs.Reading.{all_year_at, always_at, between_at, cold_at, country_at, dry_at}
+pub use Rattle.rank_query.specs.Reading.{everywhere_at, highest_at, hot_at, latitude_from, longitude, lowest_at}
+pub use Rattle.rank_query.specs.Reading.{months_at, nothing_more, state_at, station_at, wet_at}
 unfoldable pub use Rattle.rank_query.specs.Reading.{box_at, days_at, no_score_at, period_at, read_query, read_words}
 unfoldable pub use Rattle.rank_query.specs.Reading.{region_at, score_at, season_at, sum_at}
 pub use Rattle.rank_query.specs.Spelling.{IsNumeralOf, IsSpelling, SpellsQuery, SpellsWord}
-pub use Rattle.rank_query.specs.WordValues.{both_numbers, is_heat, is_month, is_point, natural_behind, tenths_in}
+pub use Rattle.rank_query.specs.WordValues.{both_numbers, is_month, is_point, natural_behind, tenths_in}
 pub use Rattle.rank_query.specs.WordValues.{two_numbers}
 unfoldable pub use Rattle.rank_query.specs.WordValues.{code, date, degrees, element, heat, months, number}
 pub use Rattle.rank_query.specs.Words.{Word, is_separator, numbered_words, words_of}
@@ -69,4 +69,4 @@ pub use Rattle.rank_query.specs.declared.fault.QueryFault.TheVariants.{QueryEnds
 pub use Rattle.rank_query.specs.declared.region.Region.{Region}
 pub use Rattle.rank_query.specs.declared.region.Region.TheVariants.{Country, Everywhere, Inside, Only, State}
 pub use Rattle.rank_query.specs.declared.score.Score.{Score}
-pub use Rattle.rank_query.specs.declared.score.Score.TheVariants.{Dry, Highest, Hot, Lowest, Sum, Wet}
+pub use Rattle.rank_query.specs.declared.score.Score.TheVariants.{Cold, Dry, Highest, Hot, Lowest, Sum, Wet}

@@ -2,7 +2,7 @@
 use Rattle.rank_query.proofs.Cited.{◌≡◌, ℕ, true, false, [], ◌∷◌, ◌++◌, refl, inl, inr, Some, None, Ok, Err, replicate}
 use Rattle.rank_query.proofs.Cited.{codes, arith, pos, neg_ℤ, ℤ, map, repeat, ints, days_from_civil, day_count}
 use Rattle.rank_query.proofs.Cited.{days_of_years, days_of_months, year_and_rest, month_and_day, Tmax, Tmin, Prcp}
-use Rattle.rank_query.proofs.Cited.{Score, Highest, Lowest, Sum, Dry, Wet, Hot, Region, Inside, Country}
+use Rattle.rank_query.proofs.Cited.{Score, Highest, Lowest, Sum, Dry, Wet, Hot, Cold, Region, Inside, Country}
 use Rattle.rank_query.proofs.Cited.{State, Only, QueryTooLong, UnexpectedWord, QueryEnds, OutOfLimits, BadDate, BadBox}
 use Rattle.rank_query.specs.Asked.{top}
 use Rattle.rank_query.proofs.Cited.{EmptyPeriod, Asked, query_text, words_of, says, keyword, number, element, heat}
@@ -177,6 +177,16 @@ heats_refused : (read_query (codes "top 1 hot 100.1") ≡ Err (OutOfLimits 4))
 unfolding read_query read_words keyword says number heat score_at no_score_at region_at season_at period_at
 heats_refused = (refl, refl, refl, refl, refl, refl, refl)
 
+-- degrees of cold days are written as those of hot ones, and "cold" needs them
+colds_read : (read_query (codes "top 3 cold -10") ≡ Ok (top 3 (Cold (neg_ℤ (pos 100)))))
+    × (read_query (codes "top 1 cold 0.5") ≡ Ok (top 1 (Cold (pos 5))))
+    × (read_query (codes "top 1 cold -100.1") ≡ Err (OutOfLimits 4))
+    × (read_query (codes "top 1 cold 100.1") ≡ Err (OutOfLimits 4))
+    × (read_query (codes "top 1 cold -10.05") ≡ Err (UnexpectedWord 4))
+    × (read_query (codes "top 1 cold") ≡ Err QueryEnds) × (read_query (codes "top 1 colder 0") ≡ Err (UnexpectedWord 3))
+unfolding read_query read_words keyword says number heat score_at no_score_at region_at season_at period_at
+colds_read = (refl, refl, refl, refl, refl, refl, refl)
+
 -- dry days of some months
 abbrev dry_in : ℕ × ℕ → Asked
 dry_in s = record (top 1 Dry) { season = Some s }
@@ -255,8 +265,9 @@ edges_behind = refl
 
 -- degrees and months
 others_behind : map place_behind ((codes "hot" ∷ codes "1" ∷ []) ∷ (codes "30" ∷ codes "hot" ∷ [])
+    ∷ (codes "cold" ∷ codes "1" ∷ []) ∷ (codes "30" ∷ codes "cold" ∷ [])
     ∷ (codes "months" ∷ codes "dry" ∷ []) ∷ (codes "1..2" ∷ codes "months" ∷ []) ∷ [])
-    ≡ a_heat ∷ another ∷ a_season ∷ another ∷ []
+    ≡ a_heat ∷ another ∷ a_heat ∷ another ∷ a_season ∷ another ∷ []
 others_behind = refl
 
 -- of a period: "to" may be a country too
@@ -327,8 +338,9 @@ canonical_texts : (query_text (top 1000 (Highest Tmax)) ≡ codes "top 1000 high
     × (query_text (top 7 Wet) ≡ codes "top 7 wet") × (query_text (top 1 (Hot (pos 0))) ≡ codes "top 1 hot 0.0")
     × (query_text (top 2 (Hot (neg_ℤ (pos 5)))) ≡ codes "top 2 hot -0.5")
     × (query_text (top 2 (Hot (pos 300))) ≡ codes "top 2 hot 30.0")
+    × (query_text (top 3 (Cold (neg_ℤ (pos 100)))) ≡ codes "top 3 cold -10.0")
 unfolding digits
-canonical_texts = (refl, refl, refl, refl, refl, refl, refl, refl)
+canonical_texts = (refl, refl, refl, refl, refl, refl, refl, refl, refl)
 
 -- with a season
 season_text : query_text (dry_in (12, 2)) ≡ codes "top 1 dry months 12..2"

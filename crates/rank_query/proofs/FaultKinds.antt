@@ -5,19 +5,19 @@ use Rattle.rank_query.proofs.Cited.{◌++◌, length, reverse, Option, Some, Non
 use Rattle.rank_query.proofs.Cited.{ap, ◌∙◌, subst, is_some, arith, nat_lt, ℤ, pos, neg_ℤ, int_le, AllByRecursion}
 use Rattle.rank_query.proofs.Cited.{map-append, length-map, length-reverse, reverse-reverse, read_date}
 use Rattle.rank_query.proofs.Cited.{is_within, natural, scaled_field, Element, element_of, is_number_within, number_of}
-use Rattle.rank_query.proofs.Cited.{Score, Highest, Lowest, Sum, Dry, Wet, Hot, Region, Everywhere, Inside, Country}
+use Rattle.rank_query.proofs.Cited.{Score, Highest, Lowest, Sum, Dry, Wet, Hot, Cold, Region, Everywhere, Inside, Country}
 use Rattle.rank_query.proofs.Cited.{State, Only, QueryFault, QueryTooLong, UnexpectedWord, QueryEnds, OutOfLimits}
 use Rattle.rank_query.proofs.Cited.{BadDate, BadBox, EmptyPeriod, Asked, is_temperature, is_fall, is_heat, is_month}
 use Rattle.rank_query.proofs.Cited.{is_code, Word, says, words_of, numbered_words, ◌>>=◌, Read, keyword, one_word}
 use Rattle.rank_query.proofs.Cited.{made_into, by_word, number, element, heat, months, degrees, code, date, tenths_in}
-use Rattle.rank_query.proofs.Cited.{two_numbers, no_score_at, sum_at, hot_at}
+use Rattle.rank_query.proofs.Cited.{two_numbers, no_score_at, sum_at}
 use Rattle.rank_query.proofs.Cited.{score_at, box_at, everywhere_at, region_at}
 use Rattle.rank_query.proofs.Cited.{months_at, all_year_at, season_at, days_at, between_at, always_at, period_at}
 use Rattle.rank_query.proofs.Cited.{nothing_more, read_words, read_query, place_behind, edge, other, has_form}
 use Rattle.rank_query.proofs.Cited.{is_decimal, is_behind_box, is_behind_first_day, IsFaultAmong}
 use Rattle.rank_query.proofs.Cited.{cases_Bool}
 use mathlib.Core.List.{reverse_aux}
-use Rattle.rank_query.specs.FaultKinds.{number as a_number, date as a_date, IsFaultOf}
+use Rattle.rank_query.specs.FaultKinds.{number as a_number, heat as a_heat, date as a_date, IsFaultOf}
 use Rattle.rank_query.proofs.ReadingSteps.{said, unnumbered, unnumbered-enumerate_from, tested, tested_err, test_err}
 use Rattle.rank_query.proofs.ReadingSteps.{test_ok, or_fault_err}
 use Rattle.rank_query.proofs.Spellings.{asked}
@@ -234,11 +234,15 @@ sum_row = λ past ws g fault e next.
     (λ v x rest is e.
     further behind v rest fault (next (v.1 ∷ behind) (Sum n x) rest (element_settled is_fall v x behind is) e))))
 
--- degrees from which on a day is hot
-hot_row : Row Score (codes "hot") hot_at
+-- after a word, degrees by which a day is hot or cold
+heat_row : (text : List ℕ) (make : ℤ → Score) → ((past : List (List ℕ)) → place_behind (text ∷ past) ≡ a_heat)
+    → ((past : List (List ℕ)) → is_behind_box 2 (text ∷ past) ≡ false)
+    → ((past : List (List ℕ)) → is_behind_first_day (text ∷ past) ≡ false)
+    → Row Score text (λ ws. made_into make (one_word heat ws))
 unfolding heat
-hot_row = made_row (codes "hot") heat Hot (λ past. limited_kind tenths_in is_heat (codes "hot" ∷ past) (λ word. refl))
-    (λ past w t is. settled_word w.1 (codes "hot" ∷ past) (heat_no_keyword w t is) refl refl)
+heat_row text make place box day = made_row text heat make
+    (λ past. limited_kind tenths_in is_heat (text ∷ past) (λ word. ap (λ p. has_form p word) (place past)))
+    (λ past w t is. settled_word w.1 (text ∷ past) (heat_no_keyword w t is) (box past) (day past))
 
 -- a word alone
 word_row : {A : Type 0} (text : List ℕ) (y : A) → ((past : List (List ℕ)) → IsSettled (text ∷ past))
@@ -262,7 +266,16 @@ score_part =
         element_row (codes "lowest") is_temperature Lowest (λ past. refl),
         (
           sum_row,
-          (word_row (codes "dry") Dry (λ past. refl), (word_row (codes "wet") Wet (λ past. refl), (hot_row, tt))),
+          (
+            word_row (codes "dry") Dry (λ past. refl),
+            (
+              word_row (codes "wet") Wet (λ past. refl),
+              (
+                heat_row (codes "hot") Hot (λ past. refl) (λ past. refl) (λ past. refl),
+                (heat_row (codes "cold") Cold (λ past. refl) (λ past. refl) (λ past. refl), tt),
+              ),
+            ),
+          ),
         ),
       ),
     ) no_score
@@ -331,10 +344,10 @@ region_part =
     ) (always_part Everywhere)
   where
     two : HaveOtherLengths 2
-    two = (refl, (refl, (refl, (refl, (refl, (refl, tt))))))
+    two = (refl, (refl, (refl, (refl, (refl, (refl, (refl, tt)))))))
 
     eleven : HaveOtherLengths 11
-    eleven = (refl, (refl, (refl, (refl, (refl, (refl, tt))))))
+    eleven = (refl, (refl, (refl, (refl, (refl, (refl, (refl, tt)))))))
 
 -- two months after "months"
 months_row : Row (Option (ℕ × ℕ)) (codes "months") months_at

@@ -16,7 +16,8 @@ IsSettled past = place_behind past ≡ other
 
 -- the words after which an edge, a first date, a number, degrees or months come
 abbrev keywords : List (List ℕ)
-keywords = codes "box" ∷ codes "from" ∷ codes "top" ∷ codes "sum" ∷ codes "hot" ∷ codes "months" ∷ []
+keywords =
+    codes "box" ∷ codes "from" ∷ codes "top" ∷ codes "sum" ∷ codes "hot" ∷ codes "cold" ∷ codes "months" ∷ []
 
 -- a word is none of them
 abbrev pub IsNoKeyword : List ℕ → Type 0
@@ -61,22 +62,22 @@ pub number_no_keyword : (low high : ℕ) (w : Word) (n : ℕ) → number low hig
 unfolding number
 number_no_keyword low high w n e = grind (arith, ints, no_keyword)
 
--- nor are degrees from which on a day is hot
+-- nor are degrees by which a day is hot or cold
 pub heat_no_keyword : (w : Word) (t : ℤ) → heat w ≡ Ok t → IsNoKeyword w.1
 unfolding heat
-heat_no_keyword w t e = no_keyword heat w t (UnexpectedWord w.0) e (refl, (refl, (refl, (refl, (refl, (refl, tt))))))
+heat_no_keyword w t e = no_keyword heat w t (UnexpectedWord w.0) e (refl, (refl, (refl, (refl, (refl, (refl, (refl, tt)))))))
 
 -- nor are the months of a season
 pub months_no_keyword : (w : Word) (s : ℕ × ℕ) → months w ≡ Ok s → IsNoKeyword w.1
 unfolding months
 months_no_keyword w s e = no_keyword months w s (UnexpectedWord w.0) e
-    (refl, (refl, (refl, (refl, (refl, (refl, tt))))))
+    (refl, (refl, (refl, (refl, (refl, (refl, (refl, tt)))))))
 
 -- nor are degrees of a box
 pub degrees_no_keyword : (low high : ℤ) (w : Word) (z : ℤ) → degrees low high w ≡ Ok z → IsNoKeyword w.1
 unfolding degrees
 degrees_no_keyword low high w z e = no_keyword (degrees low high) w z (BadBox w.0) e
-    (refl, (refl, (refl, (refl, (refl, (refl, tt))))))
+    (refl, (refl, (refl, (refl, (refl, (refl, (refl, tt)))))))
 
 -- no keyword has the length of a code
 abbrev pub HaveOtherLengths : ℕ → Type 0
@@ -92,7 +93,7 @@ code_no_keyword len w c lengths e = no_keyword (code len) w c (UnexpectedWord w.
 -- nor is a date
 pub date_no_keyword : (w : Word) (day : ℤ) → date w ≡ Ok day → IsNoKeyword w.1
 unfolding date
-date_no_keyword w day e = no_keyword date w day (BadDate w.0) e (refl, (refl, (refl, (refl, (refl, (refl, tt))))))
+date_no_keyword w day e = no_keyword date w day (BadDate w.0) e (refl, (refl, (refl, (refl, (refl, (refl, (refl, tt)))))))
 
 -- after the code of an element another word comes
 code_settled : (e : Element) (past : List (List ℕ)) → IsSettled (code_of e ∷ past)

@@ -217,7 +217,7 @@ tenths_of_text negative n few =
     (decimals_text 1 4 (n / 10) n (last_digits 1 n) negative (omega arith) (omega arith) (omega arith)
     (digits-last_digits 1 n) (omega arith) (omega arith) (last_visible 1 n) (omega (arith, value_of_one n)))
 
--- from which on a day is hot
+-- by which a day is hot or cold
 pub tenths_text : (t : ℤ) → neg_ℤ (pos 1_000) ≤ℤ t → t ≤ℤ pos 1_000 → IsNumberText 1 (tenths t) t
 tenths_text (pos n) low high = tenths_of_text false n (omega (arith, ints))
 tenths_text (negsuc n) low high = tenths_of_text true (suc n) (omega (arith, ints))

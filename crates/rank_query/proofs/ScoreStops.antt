@@ -1,9 +1,9 @@
 -- Where the reading of a score stops.
 use Rattle.rank_query.proofs.Cited.{◌≡◌, true, inl, inr, List, [], ◌∷◌, Ok, Err, codes, refl, sym, ◌∙◌}
-use Rattle.rank_query.proofs.Cited.{AllByRecursion, is_within, Prcp, Tmax, Score, Highest, Lowest, Sum, Dry, Wet, Hot}
-use Rattle.rank_query.proofs.Cited.{QueryFault, UnexpectedWord, QueryEnds, is_temperature, is_fall, is_score}
-use Rattle.rank_query.proofs.Cited.{Word, says, Read, number, sum_at}
-use Rattle.rank_query.proofs.Cited.{hot_at, no_score_at, score_at}
+use Rattle.rank_query.proofs.Cited.{AllByRecursion, is_within, Prcp, Tmax, Score, Highest, Lowest, Sum, Dry, Wet, Hot, Cold}
+use Rattle.rank_query.proofs.Cited.{QueryFault, UnexpectedWord, QueryEnds, is_temperature, is_fall, is_heat, is_score}
+use Rattle.rank_query.proofs.Cited.{Word, says, Read, number, sum_at, ℤ}
+use Rattle.rank_query.proofs.Cited.{heat, made_into, no_score_at, one_word, score_at}
 use Rattle.rank_query.proofs.RegionWords.{and_true}
 use Rattle.rank_query.proofs.ScoreWords.{score_rows}
 use Rattle.rank_query.proofs.Stops.{GoesOn, Stops, TakesAll, Ended, ReadsPart, stops_behind, stops_word, stops_end}
@@ -23,9 +23,10 @@ sum_part =
     part_then (λ e ws. Ok (Sum n e, ws)) (part_word (reads_element is_fall Prcp refl refl)) (λ e fall.
     part_always (Sum n e) (and_true (is_within 1 366 n) (is_fall e) few fall)))
 
--- hot spells
-hot_part : ReadsPart Score GoodScore hot_at
-hot_part = part_made Hot (λ t is. is) (part_word reads_heat)
+-- hot spells, and cold ones
+heat_part : (make : ℤ → Score) → ((t : ℤ) → is_heat t ≡ true → GoodScore (make t))
+    → ReadsPart Score GoodScore (λ ws. made_into make (one_word heat ws))
+heat_part make good = part_made make good (part_word reads_heat)
 
 -- all of them are parts
 parts : AllByRecursion (λ row. ReadsPart Score GoodScore row.1) score_rows
@@ -33,7 +34,13 @@ parts = (
   part_made Highest (λ e is. refl) (part_word (reads_element (λ e. true) Prcp refl refl)),
   (
     part_made Lowest (λ e is. is) (part_word (reads_element is_temperature Tmax refl refl)),
-    (sum_part, (part_always Dry refl, (part_always Wet refl, (hot_part, tt)))),
+    (
+      sum_part,
+      (
+        part_always Dry refl,
+        (part_always Wet refl, (heat_part Hot (λ t is. is), (heat_part Cold (λ t is. is), tt))),
+      ),
+    ),
   ),
 )
 

@@ -1,10 +1,10 @@
 -- The words of a score: those that are read as a score spell it, and those that spell it are read as it.
 use Rattle.rank_query.proofs.Cited.{◌++◌}
 use Rattle.rank_query.proofs.Cited.{◌≡◌, ℕ, true, List, [], ◌∷◌, Ok, codes, refl, and_parts, is_within, Element}
-use Rattle.rank_query.proofs.Cited.{code_of, Score, Highest, Lowest, Sum, Dry, Wet, Hot, is_temperature, is_fall}
-use Rattle.rank_query.proofs.Cited.{is_score, Word, says, Read, one_word, number, element, heat, highest_at, lowest_at}
-use Rattle.rank_query.proofs.Cited.{sum_at, dry_at, wet_at, hot_at, no_score_at, score_at, score_words, QueryWord}
-use Rattle.rank_query.proofs.Cited.{Count, Exactly, Tenths, Bool, sym, subst}
+use Rattle.rank_query.proofs.Cited.{code_of, Score, Highest, Lowest, Sum, Dry, Wet, Hot, Cold, is_temperature, is_fall}
+use Rattle.rank_query.proofs.Cited.{is_heat, is_score, Word, says, Read, one_word, number, element, heat, highest_at, lowest_at}
+use Rattle.rank_query.proofs.Cited.{sum_at, dry_at, wet_at, hot_at, cold_at, no_score_at, score_at, score_words, QueryWord}
+use Rattle.rank_query.proofs.Cited.{Count, Exactly, Tenths, Bool, ℤ, sym, subst}
 use Rattle.rank_query.proofs.SpeltWords.{TakesBehind, took_same, word_took, made_took, rows_took, ReadsAs, word_read}
 use Rattle.rank_query.proofs.SpeltWords.{made_read, then_read, behind_read, always_read}
 use Rattle.rank_query.proofs.ReadingSteps.{bind_ok, unnumbered}
@@ -15,7 +15,7 @@ use Rattle.rank_query.proofs.WordValues.{spelt_heat}
 abbrev pub score_rows : List (List ℕ × (List Word → Read Score))
 score_rows =
     (codes "highest", highest_at) ∷ (codes "lowest", lowest_at) ∷ (codes "sum", sum_at) ∷ (codes "dry", dry_at) ∷
-    (codes "wet", wet_at) ∷ (codes "hot", hot_at) ∷ []
+    (codes "wet", wet_at) ∷ (codes "hot", hot_at) ∷ (codes "cold", cold_at) ∷ []
 
 -- if no score is there none is read
 no_score : (ws : List Word) (y : Score × List Word) → no_score_at ws ≡ Ok y → ⊥
@@ -30,6 +30,10 @@ count_took low high = word_took (number low high) (λ n. Count n) (λ w n clean.
 -- and so is an element
 element_took : (allows : Element → Bool) → TakesBehind [] (λ e. Exactly (code_of e) ∷ []) (one_word (element allows))
 element_took allows = word_took (element allows) (λ e. Exactly (code_of e)) (λ w e clean. element_code allows w e)
+
+-- and degrees by which a day is hot or cold
+heat_took : TakesBehind [] (λ t. Tenths t ∷ []) (one_word heat)
+heat_took = word_took heat (λ t. Tenths t) (λ w t clean. heat_spelt w t)
 
 -- a sum
 sum_took : TakesBehind (codes "sum" ∷ []) score_words sum_at
@@ -59,9 +63,8 @@ score_took = rows_took score_words score_rows no_score_at (
           λ ws rest s e. took_same score_words (codes "wet" ∷ unnumbered ws) Wet s ws rest e
               (λ others more clean. (refl, more clean.1)),
           (
-            made_took (codes "hot") Hot _ score_words _ (λ t. refl)
-                (word_took heat (λ t. Tenths t) (λ w t clean. heat_spelt w t)),
-            tt,
+            made_took (codes "hot") Hot _ score_words _ (λ t. refl) heat_took,
+            (made_took (codes "cold") Cold _ score_words _ (λ t. refl) heat_took, tt),
           ),
         ),
       ),
@@ -80,6 +83,11 @@ count_read : (low high n : ℕ) {others : List QueryWord} → is_within low high
     → ReadsAs (one_word (number low high)) n (Count n ∷ others) others
 count_read low high n inside =
     word_read (number low high) (Count n) n (λ at word. numeral_number low high n at word inside)
+
+-- a number of tenths within limits is read as the degrees that it is
+heat_read : (t : ℤ) {others : List QueryWord} → is_heat t ≡ true
+    → ReadsAs (one_word heat) t (Tenths t ∷ others) others
+heat_read t is = word_read heat (Tenths t) t (λ at word. spelt_heat t at word is)
 
 -- the two words of a sum that can be asked for are read as it
 sum_read : (k : ℕ) (e : Element) (others : List QueryWord) → is_score (Sum k e) ≡ true
@@ -102,4 +110,6 @@ score_read (Sum k e) others is =
 score_read Dry others is = behind_read score_at dry_at (codes "dry") (λ at ws. refl) (always_read (λ ws. refl))
 score_read Wet others is = behind_read score_at wet_at (codes "wet") (λ at ws. refl) (always_read (λ ws. refl))
 score_read (Hot t) others is = behind_read score_at hot_at (codes "hot") (λ at ws. refl)
-    (made_read Hot (word_read heat (Tenths t) t (λ at word. spelt_heat t at word is)))
+    (made_read Hot (heat_read t is))
+score_read (Cold t) others is = behind_read score_at cold_at (codes "cold") (λ at ws. refl)
+    (made_read Cold (heat_read t is))

@@ -44,7 +44,7 @@ pub reads_number : (low high : ℕ) → number low high (0, codes "1") ≡ Ok 1
 unfolding number
 reads_number low high one = reads_tested natural (is_within low high) OutOfLimits (codes "1") 1 refl (λ w. refl) one
 
--- degrees from which on a day is hot
+-- degrees by which a day is hot or cold
 pub reads_heat : ReadsWord ℤ (λ t. is_heat t ≡ true) heat
 unfolding heat
 reads_heat = reads_tested tenths_in is_heat OutOfLimits (codes "0") (pos 0) refl (λ w. refl) refl

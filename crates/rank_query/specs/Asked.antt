@@ -7,7 +7,7 @@ use Rattle.ghcn_files.specs.declared.element.Element.{Element}
 use Rattle.ghcn_files.specs.declared.element.Element.TheVariants.{Prcp, Snow, Snwd, Tmax, Tmin}
 use Rattle.ghcn_files.specs.Ids.{is_visible, is_id}
 use Rattle.rank_query.specs.declared.score.Score.{Score}
-use Rattle.rank_query.specs.declared.score.Score.TheVariants.{Highest, Lowest, Sum, Dry, Wet, Hot}
+use Rattle.rank_query.specs.declared.score.Score.TheVariants.{Highest, Lowest, Sum, Dry, Wet, Hot, Cold}
 use Rattle.rank_query.specs.declared.region.Region.{Region}
 use Rattle.rank_query.specs.declared.region.Region.TheVariants.{Everywhere, Inside, Country, State, Only}
 
@@ -32,6 +32,7 @@ score_element (Sum n e) = e
 score_element Dry = Prcp
 score_element Wet = Prcp
 score_element (Hot t) = Tmax
+score_element (Cold t) = Tmin
 
 -- an element whose lowest values are ranked
 abbrev pub is_temperature : Element → Bool
@@ -49,14 +50,19 @@ is_fall Snwd = false
 is_fall Tmax = false
 is_fall Tmin = false
 
--- a score that can be asked for: sums are of 1 to 366 days, and hot days begin at -100 to 100 degrees, in tenths
+-- a number of tenths of a degree by which a day can be called hot or cold: from -100 to 100 degrees
+abbrev pub is_heat : ℤ → Bool
+is_heat t = int_le (neg_ℤ (pos 1_000)) t && int_le t (pos 1_000)
+
+-- a score that can be asked for: sums are of 1 to 366 days, and the degrees of hot and cold days are within their limits
 abbrev pub is_score : Score → Bool
 is_score (Highest e) = true
 is_score (Lowest e) = is_temperature e
 is_score (Sum n e) = is_within 1 366 n && is_fall e
 is_score Dry = true
 is_score Wet = true
-is_score (Hot t) = int_le (neg_ℤ (pos 1_000)) t && int_le t (pos 1_000)
+is_score (Hot t) = is_heat t
+is_score (Cold t) = is_heat t
 
 -- that many visible bytes
 abbrev pub is_code : ℕ → List ℕ → Bool

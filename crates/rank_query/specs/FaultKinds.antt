@@ -77,13 +77,13 @@ abbrev pub is_behind_from : List (List ℕ) → Bool
 is_behind_from [] = false
 is_behind_from (w ∷ past) = same_bytes w (codes "from") || (same_bytes w (codes "to") && is_behind_first_day past)
 
--- the place after some words: a number comes after "top" and "sum", degrees after "hot", the four edges after
--- "box", the months after "months", the dates after "from" and "to"
+-- the place after some words: a number comes after "top" and "sum", degrees after "hot" and "cold", the four edges
+-- after "box", the months after "months", the dates after "from" and "to"
 abbrev pub place_behind : List (List ℕ) → Place
 place_behind past =
     if is_behind_box 3 past then edge
     else if is_next_behind (codes "top") past || is_next_behind (codes "sum") past then number
-    else if is_next_behind (codes "hot") past then heat
+    else if is_next_behind (codes "hot") past || is_next_behind (codes "cold") past then heat
     else if is_next_behind (codes "months") past then season
     else if is_behind_from past then date
     else other

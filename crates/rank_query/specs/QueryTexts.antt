@@ -6,7 +6,7 @@ use Rattle.ghcn_fields.specs.NumberTexts.{four_places, tenths}
 use Rattle.ghcn_fields.specs.Dates.{date_text}
 use Rattle.ghcn_files.specs.Elements.{code_of}
 use Rattle.rank_query.specs.declared.score.Score.{Score}
-use Rattle.rank_query.specs.declared.score.Score.TheVariants.{Highest, Lowest, Sum, Dry, Wet, Hot}
+use Rattle.rank_query.specs.declared.score.Score.TheVariants.{Highest, Lowest, Sum, Dry, Wet, Hot, Cold}
 use Rattle.rank_query.specs.declared.region.Region.{Region}
 use Rattle.rank_query.specs.declared.region.Region.TheVariants.{Everywhere, Inside, Country, State, Only}
 use Rattle.rank_query.specs.Asked.{Asked}
@@ -28,6 +28,7 @@ score_words (Sum n e) = Exactly (codes "sum") ∷ Count n ∷ Exactly (code_of e
 score_words Dry = Exactly (codes "dry") ∷ []
 score_words Wet = Exactly (codes "wet") ∷ []
 score_words (Hot t) = Exactly (codes "hot") ∷ Tenths t ∷ []
+score_words (Cold t) = Exactly (codes "cold") ∷ Tenths t ∷ []
 
 -- the words of a region; none for all stations
 abbrev pub region_words : Region → List QueryWord

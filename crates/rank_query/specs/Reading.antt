@@ -2,7 +2,7 @@
 use Rattle.std.specs.Prelude.{ℕ, true, nat_lt, if◌then◌else◌, List, [], ◌∷◌, length, codes, Option, None, Some}
 use Rattle.std.specs.Prelude.{Result, Ok, Err, ℤ, pos, neg_ℤ, int_le}
 use Rattle.rank_query.specs.declared.score.Score.{Score}
-use Rattle.rank_query.specs.declared.score.Score.TheVariants.{Highest, Lowest, Sum, Dry, Wet, Hot}
+use Rattle.rank_query.specs.declared.score.Score.TheVariants.{Highest, Lowest, Sum, Dry, Wet, Hot, Cold}
 use Rattle.rank_query.specs.declared.region.Region.{Region}
 use Rattle.rank_query.specs.declared.region.Region.TheVariants.{Everywhere, Inside, Country, State, Only}
 use Rattle.rank_query.specs.declared.fault.QueryFault.{QueryFault}
@@ -45,11 +45,15 @@ wet_at ws = Ok (Wet, ws)
 abbrev pub hot_at : List Word → Read Score
 hot_at ws = made_into Hot (one_word heat ws)
 
+-- cold spells
+abbrev pub cold_at : List Word → Read Score
+cold_at ws = made_into Cold (one_word heat ws)
+
 -- a score, by its first word
 unfoldable pub score_at : List Word → Read Score
 score_at ws =
     by_word ((codes "highest", highest_at) ∷ (codes "lowest", lowest_at) ∷ (codes "sum", sum_at) ∷
-    (codes "dry", dry_at) ∷ (codes "wet", wet_at) ∷ (codes "hot", hot_at) ∷ []) no_score_at ws
+    (codes "dry", dry_at) ∷ (codes "wet", wet_at) ∷ (codes "hot", hot_at) ∷ (codes "cold", cold_at) ∷ []) no_score_at ws
 
 -- degrees of latitude, from a southernmost one to the north pole
 abbrev pub latitude_from : ℤ → Word → Result ℤ QueryFault

@@ -9,8 +9,7 @@ use Rattle.ghcn_files.specs.Elements.{element_of}
 use Rattle.ghcn_files.specs.StationLines.{is_number_within, number_of}
 use Rattle.rank_query.specs.declared.fault.QueryFault.{QueryFault}
 use Rattle.rank_query.specs.declared.fault.QueryFault.TheVariants.{UnexpectedWord, OutOfLimits, BadDate, BadBox}
-use Rattle.rank_query.specs.declared.score.Score.TheVariants.{Hot}
-use Rattle.rank_query.specs.Asked.{is_code, is_score}
+use Rattle.rank_query.specs.Asked.{is_code, is_heat}
 use Rattle.rank_query.specs.Words.{Word}
 use Rattle.rank_query.specs.Readers.{◌>>=◌, or_fault}
 
@@ -35,11 +34,7 @@ degrees low high w =
 abbrev pub tenths_in : List ℕ → Option ℤ
 tenths_in word = signed_by (decimal_number 1) word
 
--- a number of tenths of a degree from which on a day can be called hot
-abbrev pub is_heat : ℤ → Bool
-is_heat t = is_score (Hot t)
-
--- a number of degrees from which on a day is hot, in tenths, within its limits
+-- a number of degrees by which a day is hot or cold, in tenths, within its limits
 unfoldable pub heat : Word → Result ℤ QueryFault
 heat w = do
   t ← or_fault (UnexpectedWord w.0) (tenths_in w.1)

@@ -109,6 +109,9 @@ fn score(words: &mut Words) -> Result<Score, QueryFault>
     if words.take_if(b"hot") {
         return Ok(Score::Hot(heat(words)?));
     }
+    if words.take_if(b"cold") {
+        return Ok(Score::Cold(heat(words)?));
+    }
     let (at, _) = needed(words)?;
     Err(QueryFault::UnexpectedWord(at))
 }

@@ -103,6 +103,7 @@ impl Query {
             Score::Dry => Element::Prcp,
             Score::Wet => Element::Prcp,
             Score::Hot(_) => Element::Tmax,
+            Score::Cold(_) => Element::Tmin,
         }
     }
 

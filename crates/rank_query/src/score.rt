@@ -18,4 +18,7 @@ pub enum Score {
     /// Spells of days with a maximum temperature of at least that many tenths of a degree, -1000 to
     /// 1000, by their length.
     Hot(i32),
+    /// Spells of days with a minimum temperature of at most that many tenths of a degree, -1000 to
+    /// 1000, by their length.
+    Cold(i32),
 }

@@ -50,6 +50,10 @@ fn write_score<W: fmt::Write>(f: &mut fmt::Formatter<W>, score: Score) -> fmt::R
             f.write_str(" hot")?;
             write_tenths(f, degrees)
         }
+        Score::Cold(degrees) => {
+            f.write_str(" cold")?;
+            write_tenths(f, degrees)
+        }
     }
 }
 

@@ -4,11 +4,11 @@ ghost use Rattle.std.specs.Prelude.{◌≡◌, true, ◌+◌, ◌<◌, ◌^◌, 
 ghost use Rattle.std.specs.Option.{option_map};
 ghost use Rattle.ghcn_fields.specs.Numbers.{natural, joined, decimal_number, signed_by};
 ghost use Rattle.ghcn_fields.specs.Days.{is_within};
-ghost use Rattle.rank_query.specs.Asked.{is_code, is_temperature, is_fall};
+ghost use Rattle.rank_query.specs.Asked.{is_code, is_temperature, is_fall, is_heat};
 ghost use Rattle.rank_query.specs.Readers as readers;
 ghost use Rattle.rank_query.specs.Readers.{Gives, one_word};
 ghost use Rattle.rank_query.specs.WordValues as values;
-ghost use Rattle.rank_query.specs.WordValues.{is_heat, is_month};
+ghost use Rattle.rank_query.specs.WordValues.{is_month};
 
 use crate::QueryFault;
 use crate::words::{Words, says};
@@ -16,7 +16,7 @@ use ghcn_fields::{Day, Field, read_date, scaled_field};
 use ghcn_files::{Element, are_visible};
 use memchr::memchr;
 
-/// The greatest number of degrees from which on a day can be called hot.
+/// The greatest number of degrees by which a day can be called hot or cold.
 const MOST_DEGREES: u64 = 100;
 
 /// The same in tenths.

@@ -14,7 +14,7 @@ use Rattle.ghcn_files.specs.Elements.{may_be_negative}
 use Rattle.ghcn_series.specs.Series.{DayValue, Usable, IsSeries, value_on, is_value}
 use Rattle.ghcn_series.proofs.ListFacts.{all-filter}
 use Rattle.rank_query.specs.declared.score.Score.{Score}
-use Rattle.rank_query.specs.declared.score.Score.TheVariants.{Highest, Lowest, Sum, Dry, Wet, Hot}
+use Rattle.rank_query.specs.declared.score.Score.TheVariants.{Highest, Lowest, Sum, Dry, Wet, Hot, Cold}
 use Rattle.rank_query.specs.Asked.{Asked, IsAsked, is_score}
 use Rattle.rank_scores.specs.Runs.{run_from, run_len}
 use Rattle.rank_scores.specs.Candidates.{Shape, Windows, Spells, shape, plus, window_total, test_of}
@@ -119,6 +119,12 @@ module _ (days : List DayValue) (valued : AllByRecursion IsValued days) where
   spell_right : (test : ℤ → Bool) (x : DayValue) → IsValued x → BeginsRight (Spells test) days x
   spell_right test x h e f = grind (arith, run_score)
 
+  -- those of all spells
+  spells_right : (id : StationId) (test : ℤ → Bool)
+      → AllByRecursion (λ c. IsScore c.score) (candidates_among id (Spells test) days)
+  spells_right id test = each_begun id (Spells test) days days
+      (each-weaker IsValued (BeginsRight (Spells test) days) days (spell_right test) valued)
+
   -- the candidates among these days, whatever the query asks for
   by_score : (id : StationId) (sc : Score) → is_score sc ≡ true
       → AllByRecursion (λ c. IsScore c.score) (candidates_among id (shape sc) days)
@@ -129,15 +135,10 @@ module _ (days : List DayValue) (valued : AllByRecursion IsValued days) where
       let few : n ≤ 366 = grind arith in
       each_begun id (Windows n) days days (each-weaker IsValued (BeginsRight (Windows n) days) days
       (window_right n few) valued)
-  by_score id Dry right = each_begun id (Spells (test_of spells.Dry)) days days
-      (each-weaker IsValued (BeginsRight (Spells (test_of spells.Dry)) days) days (spell_right (test_of spells.Dry))
-      valued)
-  by_score id Wet right = each_begun id (Spells (test_of spells.Wet)) days days
-      (each-weaker IsValued (BeginsRight (Spells (test_of spells.Wet)) days) days (spell_right (test_of spells.Wet))
-      valued)
-  by_score id (Hot t) right = each_begun id (Spells (test_of (spells.Hot t))) days days
-      (each-weaker IsValued (BeginsRight (Spells (test_of (spells.Hot t))) days) days
-      (spell_right (test_of (spells.Hot t))) valued)
+  by_score id Dry right = spells_right id (test_of spells.Dry)
+  by_score id Wet right = spells_right id (test_of spells.Wet)
+  by_score id (Hot t) right = spells_right id (test_of (spells.Hot t))
+  by_score id (Cold t) right = spells_right id (test_of (spells.Cold t))
 
 -- the score of each candidate of a series can be a floor
 pub candidates_ranged : (q : Asked) (s : Usable) → IsAsked q → IsSeries s

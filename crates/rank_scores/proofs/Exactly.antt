@@ -15,7 +15,7 @@ use Rattle.std.proofs.lemmas.List.Elements.{All-from_recursion, All-contains, Co
 use Rattle.std.proofs.lemmas.List.Elements.{Contains-append_left}
 use Rattle.ghcn_series.specs.Series.{DayValue, value_on, Usable, IsSeries}
 use Rattle.rank_query.specs.declared.score.Score.{Score}
-use Rattle.rank_query.specs.declared.score.Score.TheVariants.{Highest, Lowest, Sum, Dry, Wet, Hot}
+use Rattle.rank_query.specs.declared.score.Score.TheVariants.{Highest, Lowest, Sum, Dry, Wet, Hot, Cold}
 use Rattle.rank_query.specs.Asked.{is_score, Asked, IsAsked}
 use Rattle.ghcn_files.specs.declared.station.StationId.{StationId}
 use Rattle.rank_scores.specs.Runs.{run_from, run_len, begins_run, calendar_len, IsRun}
@@ -111,6 +111,7 @@ begins-from_IsCandidate days rise cal (Sum n e) first last score h is =
 begins-from_IsCandidate days rise cal Dry first last score h is = search (rules, arith, spell-begins)
 begins-from_IsCandidate days rise cal Wet first last score h is = search (rules, arith, spell-begins)
 begins-from_IsCandidate days rise cal (Hot t) first last score h is = search (rules, arith, spell-begins)
+begins-from_IsCandidate days rise cal (Cold t) first last score h is = search (rules, arith, spell-begins)
 
 -- what a window that begins on a day is made of
 window-made : (o : Option ℤ) (last : ℤ) (p : ℤ × ℤ) → option_map (λ (total : ℤ). (last, total)) o ≡ Some p

@@ -7,7 +7,7 @@ use Rattle.ghcn_files.specs.declared.element.Element.TheVariants.{Tmax, Tmin, Pr
 use Rattle.ghcn_fields.specs.Dates.{year_and_rest, month_and_day}
 use Rattle.ghcn_series.specs.Series.{DayValue, Usable, Contents}
 use Rattle.rank_query.specs.declared.score.Score.{Score}
-use Rattle.rank_query.specs.declared.score.Score.TheVariants.{Highest, Lowest, Sum, Dry, Wet, Hot}
+use Rattle.rank_query.specs.declared.score.Score.TheVariants.{Highest, Lowest, Sum, Dry, Wet, Hot, Cold}
 use Rattle.rank_query.specs.Asked.{Asked, top}
 use Rattle.rank_scores.specs.Runs.{run_from}
 use Rattle.rank_scores.specs.declared.candidate.Candidate.{Candidate}
@@ -106,6 +106,30 @@ hot_spells : best 2 (candidates (ask 2 (Hot (pos 300)) None) (series id_a Tmax w
     ≡ found id_a (pos 18444) (pos 18445) (pos 2) ∷ found id_a (pos 18447) (pos 18447) (pos 1) ∷ []
 unfolding run_from
 hot_spells = refl
+
+-- frost of one station, of which the third day isn't below -10 degrees, and of another over a leap day
+abbrev pub frost_a : Usable
+frost_a = series id_a Tmin ((pos 18262, neg_ℤ (pos 100)) ∷ (pos 18263, neg_ℤ (pos 105)) ∷
+    (pos 18264, neg_ℤ (pos 99)) ∷ (pos 18265, neg_ℤ (pos 110)) ∷ [])
+
+-- 2020-02-29 is day 18321
+abbrev pub frost_b : Usable
+frost_b = series id_b Tmin ((pos 18321, neg_ℤ (pos 150)) ∷ (pos 18322, neg_ℤ (pos 120)) ∷ [])
+
+-- spells of -10 degrees and less
+cold_spells : (candidates (ask 3 (Cold (neg_ℤ (pos 100))) None) frost_a
+    ≡ found id_a (pos 18262) (pos 18263) (pos 2) ∷ found id_a (pos 18265) (pos 18265) (pos 1) ∷ [])
+    × (candidates (ask 3 (Cold (neg_ℤ (pos 100))) None) frost_b ≡ found id_b (pos 18321) (pos 18322) (pos 2) ∷ [])
+    × (candidates (ask 3 (Cold (neg_ℤ (pos 111))) None) frost_a ≡ [])
+unfolding run_from
+cold_spells = (refl, refl, refl)
+
+-- the best of both
+cold_best : best 3 (found id_a (pos 18262) (pos 18263) (pos 2) ∷ found id_a (pos 18265) (pos 18265) (pos 1)
+    ∷ found id_b (pos 18321) (pos 18322) (pos 2) ∷ [])
+    ≡ found id_a (pos 18262) (pos 18263) (pos 2) ∷ found id_b (pos 18321) (pos 18322) (pos 2)
+    ∷ found id_a (pos 18265) (pos 18265) (pos 1) ∷ []
+cold_best = refl
 
 -- rain over the turn of a year
 abbrev pub winter_rain : List DayValue

@@ -1,8 +1,9 @@
 -- The spells that are offered as one day after another comes are those of the days.
 use Rattle.std.proofs.Common.{◌≡◌, ℕ, suc, ◌-◌, ◌<◌, Bool, true, false, cond, List, [], ◌∷◌, ◌++◌, Option, Some, None}
 use Rattle.std.proofs.Common.{refl, sym, ap, ◌∙◌, subst, arith, inl, inr, ℤ, pos, ◌+ℤ◌, ◌-ℤ◌, ◌<ℤ◌}
-use Rattle.std.specs.Prelude.{◌&&◌, not, filter, length, ⊤}
+use Rattle.std.specs.Prelude.{◌&&◌, not, filter, int_le, int_lt, length, ⊤}
 use Rattle.std.specs.List.{AllByRecursion, filter_map, cons_option, fold}
+use Rattle.std.proofs.lemmas.List.Elements.{filter_agree}
 use Rattle.std.proofs.lemmas.List.Sums.{fold-append}
 use Rattle.std.specs.Option.{option_map, option_map_or, is_some}
 use Rattle.std.specs.Ordering.{int_eq}
@@ -24,6 +25,16 @@ use Rattle.rank_scores.proofs.Rising.{value_on-before, all-filter}
 use Rattle.rank_scores.proofs.Runs.{AreDays, admitted-days, day-bounds}
 use Rattle.rank_scores.proofs.Exactly.{spell-begins}
 use Rattle.std.proofs.Common.{rules, append_assoc}
+
+-- what is below the next number is at most this one
+below-next : (v most next : ℤ) → next ≡ most +ℤ pos 1 → int_lt v next ≡ int_le v most
+below-next v most next is = grind (arith, ints)
+
+-- days whose values are below the next number are those whose values are at most this one
+pub filter-below_next : (most next : ℤ) (days : List DayValue) → next ≡ most +ℤ pos 1
+    → filter (λ x. int_lt x.1 next) days ≡ filter (λ x. int_le x.1 most) days
+filter-below_next most next days is =
+    filter_agree (λ x. int_lt x.1 next) (λ x. int_le x.1 most) (λ x. below-next x.1 most next is) days
 
 -- what is offered while some days come, if a spell may be open before them
 abbrev pub offered : StationId → (ℤ → Bool) → Option (ℤ × ℤ) → List DayValue → List Candidate

@@ -8,7 +8,7 @@ use Rattle.std.specs.Ordering.{int_cmp}
 use Rattle.ghcn_files.specs.declared.station.StationId.{StationId}
 use Rattle.ghcn_series.specs.Series.{DayValue, Usable, value_on}
 use Rattle.rank_query.specs.declared.score.Score.{Score}
-use Rattle.rank_query.specs.declared.score.Score.TheVariants.{Highest, Lowest, Sum, Dry, Wet, Hot}
+use Rattle.rank_query.specs.declared.score.Score.TheVariants.{Highest, Lowest, Sum, Dry, Wet, Hot, Cold}
 use Rattle.rank_query.specs.Asked.{Asked}
 use Rattle.rank_query.specs.Admits.{admits_day}
 use Rattle.rank_scores.specs.declared.candidate.Candidate.{Candidate}
@@ -17,11 +17,12 @@ use Rattle.rank_scores.specs.declared.spell.Spell.TheVariants as spells
 use Rattle.rank_scores.specs.Runs.{run_len, begins_run, IsRun}
 
 -- the test that the values of a spell's days pass: less than one millimetre, at least one, at least that many tenths of
--- a degree
+-- a degree, at most that many
 abbrev pub test_of : Spell → ℤ → Bool
 test_of spells.Dry v = int_lt v (pos 10)
 test_of spells.Wet v = int_le (pos 10) v
 test_of (spells.Hot t) v = int_le t v
+test_of (spells.Cold t) v = int_le v t
 
 -- what a score ranks: days by a number made of their value, windows of n days by their total, or spells by a test
 pub data Shape : Type 0 where
@@ -37,6 +38,7 @@ shape (Sum n e) = Windows n
 shape Dry = Spells (test_of spells.Dry)
 shape Wet = Spells (test_of spells.Wet)
 shape (Hot t) = Spells (test_of (spells.Hot t))
+shape (Cold t) = Spells (test_of (spells.Cold t))
 
 -- the admitted usable days of a series, with their values
 abbrev pub admitted : Asked → Usable → List DayValue

@@ -1,9 +1,19 @@
--- A spell that days may still be added to.
-use Rattle.std.specs.Prelude.{Bool, ◌&&◌, if◌then◌else◌, ℤ, pos, ◌+ℤ◌, ◌-ℤ◌, Option, None, Some, List, [], ◌∷◌}
+-- Spells that can be asked for, and a spell that days may still be added to.
+use Rattle.std.specs.Prelude.{Bool, true, ◌&&◌, if◌then◌else◌, ℤ, pos, ◌+ℤ◌, ◌-ℤ◌, Option, None, Some, List, [], ◌∷◌}
 use Rattle.std.specs.Ordering.{int_eq}
 use Rattle.ghcn_files.specs.declared.station.StationId.{StationId}
+use Rattle.rank_query.specs.Asked.{is_heat}
 use Rattle.rank_scores.specs.declared.candidate.Candidate.{Candidate}
+use Rattle.rank_scores.specs.declared.spell.Spell.{Spell}
+use Rattle.rank_scores.specs.declared.spell.Spell.TheVariants.{Dry, Wet, Hot, Cold}
 use Rattle.rank_scores.specs.Candidates.{candidate}
+
+-- spells that a query can ask for: the degrees of hot and cold days are within their limits
+abbrev pub can_be_asked : Spell → Bool
+can_be_asked Dry = true
+can_be_asked Wet = true
+can_be_asked (Hot t) = is_heat t
+can_be_asked (Cold t) = is_heat t
 
 -- the first and the last day of a spell, if one is open
 abbrev pub open_spell : Bool → ℤ → ℤ → Option (ℤ × ℤ)

@@ -29,6 +29,7 @@ pub fn scan<S: Sink>(series: &Series, query: &Query, sink: &mut S)
         Score::Dry => scan_spells(id, series, query, Spell::Dry, sink),
         Score::Wet => scan_spells(id, series, query, Spell::Wet, sink),
         Score::Hot(least) => scan_spells(id, series, query, Spell::Hot(least), sink),
+        Score::Cold(most) => scan_spells(id, series, query, Spell::Cold(most), sink),
     }
 }
 
@@ -43,7 +44,9 @@ pub fn scan_to_floor<S: FloorSink>(series: &Series, query: &Query, sink: &mut S)
     match query.score() {
         Score::Highest(_) => scan_blocks(id, series, query, Extreme::Highest, sink),
         Score::Lowest(_) => scan_blocks(id, series, query, Extreme::Lowest, sink),
-        Score::Sum(..) | Score::Dry | Score::Wet | Score::Hot(_) => scan(series, query, sink),
+        Score::Sum(..) | Score::Dry | Score::Wet | Score::Hot(_) | Score::Cold(_) => scan(
+            series, query, sink,
+        ),
     }
 }
 

@@ -1,9 +1,9 @@
 //! Spells: longest runs of consecutive days, each admitted and usable, whose values pass a test.
 
-ghost use Rattle.std.specs.Prelude.{◌≡◌, true, false, Some, None, is_some, filter};
+ghost use Rattle.std.specs.Prelude.{◌≡◌, true, false, IsTrue, Some, None, is_some, filter};
 ghost use Rattle.std.specs.List.{fold};
 ghost use Rattle.std.specs.Option.{option_map_or};
-ghost use Rattle.rank_scores.specs.Spells.{goes_on, open_spell, spell_list};
+ghost use Rattle.rank_scores.specs.Spells.{can_be_asked, goes_on, open_spell, spell_list};
 ghost use Rattle.rank_scores.specs.Candidates.{test_of};
 ghost use Rattle.rank_scores.specs.Candidates as meaning;
 
@@ -17,7 +17,8 @@ use rank_query::Query;
 /// 1 mm, in tenths of a millimetre.
 const ONE_MILLIMETRE: i32 = 10;
 
-/// Which days a spell has, by their values: precipitation (ETCCDI) or maximum temperature.
+/// Which days a spell has, by their values: precipitation (ETCCDI), or the maximum or the minimum
+/// temperature.
 #[derive(Clone, Copy, Debug)]
 pub enum Spell {
     /// Less than 1 mm.
@@ -26,6 +27,8 @@ pub enum Spell {
     Wet,
     /// At least that many tenths of a degree.
     Hot(i32),
+    /// At most that many tenths of a degree.
+    Cold(i32),
 }
 
 impl Spell {
@@ -39,18 +42,21 @@ impl Spell {
             (Spell::Dry, Some(value)) => value < ONE_MILLIMETRE,
             (Spell::Wet, Some(value)) => value >= ONE_MILLIMETRE,
             (Spell::Hot(least), Some(value)) => value >= least,
+            (Spell::Cold(most), Some(value)) => value <= most,
         }
     }
 
     /// Leaves out the days that aren't of the kind.
     #[inline(always)]
     fn keep(self, days: &mut BlockDays)
+        requires { IsTrue (can_be_asked self) }
         ensures { days.new ≡ filter (λ x. test_of self x.1) days.old }
     {
         match self {
             Spell::Dry => days.keep_below(ONE_MILLIMETRE),
             Spell::Wet => days.keep_from(ONE_MILLIMETRE),
             Spell::Hot(least) => days.keep_from(least),
+            Spell::Cold(most) => days.keep_below(most + 1),
         }
     }
 }
@@ -66,6 +72,7 @@ pub(crate) fn scan_spells<S: Sink>(
     spell: Spell,
     sink: &mut S,
 )
+    requires { IsTrue (can_be_asked spell) }
     ensures { sink.new ≡ fold S.taken sink.old
         (meaning.candidates_among id (meaning.Spells (test_of spell)) (meaning.admitted query.now series.now)) }
 {

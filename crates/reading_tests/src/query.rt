@@ -78,6 +78,7 @@ fn scores_and_their_elements(rt: HostRuntime) {
         ("top 1 dry", Score::Dry, Element::Prcp),
         ("top 1 wet", Score::Wet, Element::Prcp),
         ("top 1 hot 31.1", Score::Hot(311), Element::Tmax),
+        ("top 1 cold -31.1", Score::Cold(-311), Element::Tmin),
     ];
     for (text, score, element) in cases {
         assert_eq!(rt; score_of(text), Some((score, element)), "of {text}");

@@ -20,6 +20,7 @@ fn canonical_texts(rt: HostRuntime) {
         ("top 1 hot 30", "top 1 hot 30.0"),
         ("top 1 hot -00.5", "top 1 hot -0.5"),
         ("top 1 hot -100", "top 1 hot -100.0"),
+        ("top 3  cold -010", "top 3 cold -10.0"),
         ("top 1 dry months 012..02", "top 1 dry months 12..2"),
         (
             "top 1 wet state NY months 6..08 from 2020-07-01 to 2020-07-01",

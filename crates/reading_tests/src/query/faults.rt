@@ -20,6 +20,7 @@ fn first_fault_of_a_query(rt: HostRuntime) {
         ("top 0 highest TMAX", Some(OutOfLimits(2))),
         ("top 1", Some(QueryEnds)),
         ("top 1 hotter 30", Some(UnexpectedWord(3))),
+        ("top 1 colder 0", Some(UnexpectedWord(3))),
         ("top 1 highest", Some(QueryEnds)),
         ("top 1 highest TAVG", Some(UnexpectedWord(4))),
         ("top 1 lowest PRCP", Some(UnexpectedWord(4))),
@@ -38,7 +39,7 @@ fn first_fault_of_a_query(rt: HostRuntime) {
 }
 
 #[test]
-fn first_fault_of_a_least_temperature(rt: HostRuntime) {
+fn first_fault_of_degrees(rt: HostRuntime) {
     let cases = [
         ("top 1 hot 30", None),
         ("top 1 hot 100.0", None),
@@ -54,6 +55,13 @@ fn first_fault_of_a_least_temperature(rt: HostRuntime) {
         ("top 1 hot TMAX", Some(UnexpectedWord(4))),
         ("top 1 hot 30 TMAX", Some(UnexpectedWord(5))),
         ("top 1 hot", Some(QueryEnds)),
+        ("top 1 cold -100.0", None),
+        ("top 1 cold -100.1", Some(OutOfLimits(4))),
+        ("top 1 cold 100.1", Some(OutOfLimits(4))),
+        ("top 1 cold -10.05", Some(UnexpectedWord(4))),
+        ("top 1 cold TMIN", Some(UnexpectedWord(4))),
+        ("top 1 cold -10 TMIN", Some(UnexpectedWord(5))),
+        ("top 1 cold", Some(QueryEnds)),
     ];
     for (text, fault) in cases {
         assert_eq!(rt; Query::parse(text).err(), fault, "at {text}");

@@ -40,5 +40,12 @@ returns-in-Dry-clause-bound c = λ s are of.
     rw (← read) (elim c.in-Dry.is [
       | inl dry ↦ met kinds.Dry (score ∙ dry)
       | inr others ↦
-          elim others [ inl wet ↦ met kinds.Wet (score ∙ wet) | inr hot ↦ met (kinds.Hot hot.0) (score ∙ hot.1) ]
+          elim others [
+            | inl wet ↦ met kinds.Wet (score ∙ wet)
+            | inr degrees ↦
+                elim degrees [
+                  | inl hot ↦ met (kinds.Hot hot.0) (score ∙ hot.1)
+                  | inr cold ↦ met (kinds.Cold cold.0) (score ∙ cold.1)
+                ]
+          ]
     ])

@@ -1,4 +1,4 @@
-use Rattle.std.proofs.Common.{◌≡◌, ◌∙◌, Option, sym}
+use Rattle.std.proofs.Common.{◌≡◌, ◌∙◌, Option}
 use Rattle.std.proofs.Math.Path.{fun_ext}
 use Rattle.std.proofs.lemmas.Bool.{and_parts}
 use Rattle.ghcn_files.specs.declared.element.Element.{Element}

@@ -20,3 +20,12 @@ returns-in-Hot g c =
     c.scan_spells-in-Hot.ensures ∙ rw (c.id-id.ensures.id, to_z-of_z fits)
     (ap (λ (sc : Score). fold g.S.Sink.taken c.args.sink.now
     (candidates_among c.args.series.now.id (shape sc) days)) c.in-Hot.ensures.score)
+
+-- cold spells are days of at most that many degrees
+pub returns-in-Cold : goal.returns-in-Cold
+returns-in-Cold g c =
+    let fits : FitsSigned w32 c.in-Cold.most = search rules in
+    let days = admitted c.args.query.now c.args.series.now in
+    c.scan_spells-in-Cold.ensures ∙ rw (c.id-id.ensures.id, to_z-of_z fits)
+    (ap (λ (sc : Score). fold g.S.Sink.taken c.args.sink.now
+    (candidates_among c.args.series.now.id (shape sc) days)) c.in-Cold.ensures.score)

@@ -1,7 +1,7 @@
 use Rattle.rank_blocks.proofs.Cited.{◌≡◌, map, to_z, of_z, SFits, w32, ap, ◌∙◌, arith, rules, int_le, ints, to_z-of_z}
-use Rattle.rank_blocks.proofs.Cited.{days_in, total, neg_ℤ, ap₂, ℤ}
+use Rattle.rank_blocks.proofs.Cited.{days_in, total, neg_ℤ, ap₂, ℤ, test_of}
 use Rattle.rank_blocks.proofs.BlockDays.{block-score, block-sum, has-day, has-days}
-use Rattle.rank_blocks.proofs.HotBlocks.{hot-bits}
+use Rattle.rank_blocks.proofs.HotBlocks.{block-bits, from-cold, from-hot, int_le-neg}
 use Rattle.rank_scores.specs.declared.spell.Spell.TheVariants as kinds
 use Rattle.rank_blocks.proofs.summary.Summary.of_block.Goals as goal
 
@@ -29,7 +29,7 @@ returns-in-Sum-clause-summary c = λ days rise of_block.
           ∙ omega (arith, ints);
     })
 
--- all days, or none
+-- all days, or none, by the greatest value
 pub returns-in-Hot-clause-summary : goal.returns-in-Hot-clause-summary
 returns-in-Hot-clause-summary c = λ days rise of_block.
     let fits : SFits w32 c.in-Hot.least = search rules in
@@ -38,6 +38,19 @@ returns-in-Hot-clause-summary c = λ days rise of_block.
     let value : to_z w32 (of_z w32 z) ≡ z = omega (arith, ints) in
     rw c.in-Hot.is (has-days (kinds.Hot c.in-Hot.least) days c.args.number c.all_or_none.result
     c.of_days-in-Hot.result (omega (arith, ints)) (omega arith)
-    (hot-bits c.in-Hot.least days c.args.number c.greatest_value-in-Hot.result c.all_or_none.result
-    (search (rules, arith, ints, block-score))
+    (block-bits (λ v. v) c.in-Hot.least (test_of (kinds.Hot c.in-Hot.least)) (from-hot c.in-Hot.least)
+    days c.args.number z (search (rules, arith, ints, block-score)) c.all_or_none.result
     (λ j lt. c.all_or_none.ensures j lt ∙ ap₂ int_le degrees value)))
+
+-- all days, or none, by the least value
+pub returns-in-Cold-clause-summary : goal.returns-in-Cold-clause-summary
+returns-in-Cold-clause-summary c = λ days rise of_block.
+    let fits : SFits w32 c.in-Cold.most = search rules in
+    let degrees : to_z w32 (of_z w32 c.in-Cold.most) ≡ c.in-Cold.most = to_z-of_z w32 _ fits in
+    let z = c.least_value-in-Cold.result in
+    let value : to_z w32 (of_z w32 z) ≡ z = omega (arith, ints) in
+    rw c.in-Cold.is (has-days (kinds.Cold c.in-Cold.most) days c.args.number c.all_or_none-in-Cold.result
+    c.of_days-in-Cold.result (omega (arith, ints)) (omega arith)
+    (block-bits neg_ℤ (neg_ℤ c.in-Cold.most) (test_of (kinds.Cold c.in-Cold.most)) (from-cold c.in-Cold.most)
+    days c.args.number (neg_ℤ z) (search (rules, arith, ints, block-score)) c.all_or_none-in-Cold.result
+    (λ j lt. c.all_or_none-in-Cold.ensures j lt ∙ ap₂ int_le value degrees ∙ int_le-neg z c.in-Cold.most)))
