@@ -3,5 +3,6 @@ pub mod Takes
 pub mod Taken
 pub mod Feeding
 pub mod Described
+pub mod FaultTexts
 pub mod Named
 pub mod NamingStops

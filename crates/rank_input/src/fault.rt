@@ -4,6 +4,7 @@ use ghcn_fields::Memory;
 use ghcn_files::{StationWhy, StationsFault};
 use ghcn_series::{DailyWhy, DataFault};
 use rank_query::QueryFault;
+use std::fmt;
 use thiserror::Error;
 
 /// The first error of an input, in the order: the number of workers, the guess, the
@@ -12,37 +13,53 @@ use thiserror::Error;
 /// Words, lines and files count from 1.
 #[derive(Clone, Copy, Debug, PartialEq, Eq, Error)]
 pub enum Fault {
-    #[error("refused 1 StationLine line {line} {why}")]
     StationLine { line: u64, why: StationWhy },
-    #[error("refused 2 TooManyStations")]
     TooManyStations,
     /// Memory was really refused. It can come at any allocation, so it has no place in the order.
-    #[error(transparent)]
     Memory(Memory),
-    #[error("refused 5 DailyLine file {file} line {line} {why}")]
     DailyLine { file: u64, line: u64, why: DailyWhy },
-    #[error("refused 6 TooManyFiles")]
     TooManyFiles,
-    #[error("refused 7 QueryTooLong")]
     QueryTooLong,
-    #[error("refused 8 UnexpectedWord {0}")]
     UnexpectedWord(u64),
-    #[error("refused 9 QueryEnds")]
     QueryEnds,
-    #[error("refused 10 OutOfLimits {0}")]
     OutOfLimits(u64),
-    #[error("refused 11 BadDate {0}")]
     BadDate(u64),
-    #[error("refused 12 BadBox {0}")]
     BadBox(u64),
-    #[error("refused 13 EmptyPeriod")]
     EmptyPeriod,
     /// There aren't 1 to 64 workers.
-    #[error("refused 18 BadWorkers")]
     BadWorkers,
     /// The guess isn't from -2^31 to 2^31.
-    #[error("refused 19 BadGuess")]
     BadGuess,
+}
+
+impl fmt::Display for Fault {
+    ghost use Rattle.std.specs.Prelude.{Some};
+    ghost use Rattle.rank_input.specs.FaultTexts.{fault_text};
+
+    ghost output = { λ fault. Some (fault_text fault) };
+
+    fn fmt<W: fmt::Write>(&self, f: &mut fmt::Formatter<W>) -> fmt::Result {
+        match self {
+            Fault::StationLine { line, why } => {
+                write!(f, "refused 1 StationLine line {line} {why}")
+            }
+            Fault::TooManyStations => f.write_str("refused 2 TooManyStations"),
+            Fault::Memory(memory) => write!(f, "{memory}"),
+            Fault::DailyLine { file, line, why } => {
+                write!(f, "refused 5 DailyLine file {file} line {line} {why}")
+            }
+            Fault::TooManyFiles => f.write_str("refused 6 TooManyFiles"),
+            Fault::QueryTooLong => f.write_str("refused 7 QueryTooLong"),
+            Fault::UnexpectedWord(word) => write!(f, "refused 8 UnexpectedWord {word}"),
+            Fault::QueryEnds => f.write_str("refused 9 QueryEnds"),
+            Fault::OutOfLimits(word) => write!(f, "refused 10 OutOfLimits {word}"),
+            Fault::BadDate(word) => write!(f, "refused 11 BadDate {word}"),
+            Fault::BadBox(word) => write!(f, "refused 12 BadBox {word}"),
+            Fault::EmptyPeriod => f.write_str("refused 13 EmptyPeriod"),
+            Fault::BadWorkers => f.write_str("refused 18 BadWorkers"),
+            Fault::BadGuess => f.write_str("refused 19 BadGuess"),
+        }
+    }
 }
 
 impl From<Memory> for Fault {
