@@ -94,6 +94,24 @@ int open(const char *path, int flags, ...) {
     return file;
 }
 
+/* A folder is opened by this call. */
+int openat(int folder, const char *path, int flags, ...) {
+    va_list rest;
+    va_start(rest, flags);
+    int mode = flags & O_CREAT ? va_arg(rest, int) : 0;
+    va_end(rest);
+    if (is_met("open", path, -1))
+        return -1;
+    return (int)syscall(SYS_openat, folder, path, flags, mode);
+}
+
+/* The names in a folder are read by this call, each of them whole. */
+ssize_t getdents64(int file, void *into, size_t size) {
+    if (is_met("read", NULL, file) && !is_how("one"))
+        return -1;
+    return syscall(SYS_getdents64, file, into, size);
+}
+
 ssize_t read(int file, void *into, size_t size) {
     if (is_how("cut") && file == cut_file) {
         long left = atol(said("FAIL_AT")) - atomic_load(&bytes);
