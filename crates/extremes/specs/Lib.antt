@@ -11,3 +11,4 @@ pub mod Runs
 pub mod Describes
 pub mod RankedInParts
 pub mod Commands
+pub mod FaultTexts

@@ -4,6 +4,7 @@ ghost use Rattle.std.specs.Prelude.{◌≡◌, [], ◌∷◌, IfSome, map, optio
 ghost use Rattle.extremes.specs.declared.ending.Ending.TheVariants as endings;
 ghost use Rattle.extremes.specs.Printed.{ArePrinted, IsLineTold, IsPrinted, IsReported, IsShown};
 ghost use Rattle.extremes.specs.Printed.{IsTextShown, IsTold, judgement_line};
+ghost use Rattle.extremes.specs.FaultTexts.{fault_line};
 ghost use Rattle.extremes.specs.Targets.{IsPut};
 ghost use Rattle.extremes.specs.Messages.{ArePrintedLines, after_lines, foreign_warning, not_read_line, not_written_line};
 ghost use Rattle.extremes.specs.Messages.{odd_warning, streams, unlisted_warning, warning_lines};
@@ -34,7 +35,7 @@ pub(crate) fn print_ranked<M: Messages, T: Target, W: Write>(
     target: &mut T,
     out: &mut W,
 ) -> Ending
-    ensures { IsPrinted ⟦<Fault as Display>⟧.output
+    ensures { IsPrinted fault_line
         (streams (ArePrintedLines M.prints messages.old messages.new) (W.contents out.old) (W.contents out.new))
         ranked.answer (warning_lines (map string_bytes files.now) ranked.warnings)
         (option_map (λ path. path.now) certificate.entry)
@@ -217,7 +218,7 @@ pub(crate) fn print_description<M: Messages, W: Write>(
     files: &[String],
     out: &mut W,
 ) -> Ending
-    ensures { IsTextShown ⟦<Fault as Display>⟧.output
+    ensures { IsTextShown fault_line
         (streams (ArePrintedLines M.prints messages.old messages.new) (W.contents out.old) (W.contents out.new))
         described (map string_bytes files.now) result }
 {
@@ -237,7 +238,7 @@ pub(crate) fn print_judgement<M: Messages, W: Write>(
     files: &[String],
     out: &mut W,
 ) -> Ending
-    ensures { IsTold ⟦<Fault as Display>⟧.output
+    ensures { IsTold fault_line
         (streams (ArePrintedLines M.prints messages.old messages.new) (W.contents out.old) (W.contents out.new))
         judged (map string_bytes files.now) result }
 {

@@ -3,6 +3,7 @@
 ghost use Rattle.std.specs.Prelude.{◌≡◌, option_map, string_bytes};
 ghost use Rattle.extremes.specs.Commands.{IsCommandRun, IsSampleRanked, environment};
 ghost use Rattle.extremes.specs.Commands.{RunsRanking, RunsMerge, RunsJudging, RunsDescribing};
+ghost use Rattle.extremes.specs.FaultTexts.{fault_line, merging_line};
 ghost use Rattle.extremes.specs.Targets.{IsPut};
 ghost use Rattle.extremes.specs.Messages.{ArePrintedLines, streams};
 
@@ -10,7 +11,6 @@ use crate::ending::Ending;
 use crate::files::{
     Describing, Judging, Ranking, describe_files, judge_files, merge_files, rank_files,
 };
-use crate::merge::MergingFault;
 use crate::messages::{Messages, SystemMessages};
 use crate::papers::Papers;
 use crate::print::{
@@ -25,7 +25,6 @@ use command_line::{Command, CommandFault, Part, command};
 use ghcn_fields::Memory;
 use rank_input::{Archive, Fault, System};
 use std::alloc::Global;
-use std::fmt::Display;
 use std::fs::File;
 use std::io::Write;
 use std::rt::{Env, Files};
@@ -78,7 +77,7 @@ fn run_command<
     ensures { IsCommandRun (environment (A.bytes_of archive.now) (A.opens archive.now)
         (T.one_file target.old) (T.other_text target.old)
         (IsPut T.opens T.abandons T.contents target.old target.new)
-        ⟦<Fault as Display>⟧.output ⟦<MergingFault as Display>⟧.output
+        fault_line merging_line
         (streams (ArePrintedLines M.prints messages.old messages.new) (W.contents out.old) (W.contents out.new)))
         asked result }
 {
@@ -166,7 +165,7 @@ fn run_ranking<
     ensures { RunsRanking (environment (A.bytes_of archive.now) (A.opens archive.now)
         (T.one_file target.old) (T.other_text target.old)
         (IsPut T.opens T.abandons T.contents target.old target.new)
-        ⟦<Fault as Display>⟧.output ⟦<MergingFault as Display>⟧.output
+        fault_line merging_line
         (streams (ArePrintedLines M.prints messages.old messages.new) (W.contents out.old) (W.contents out.new)))
         ranking.now (option_map string_bytes certificate.now) result }
 {
@@ -197,7 +196,7 @@ fn run_merge<A: Archive, M: Messages, T: Target, W: Write>(
     ensures { RunsMerge (environment (A.bytes_of archive.now) (A.opens archive.now)
         (T.one_file target.old) (T.other_text target.old)
         (IsPut T.opens T.abandons T.contents target.old target.new)
-        ⟦<Fault as Display>⟧.output ⟦<MergingFault as Display>⟧.output
+        fault_line merging_line
         (streams (ArePrintedLines M.prints messages.old messages.new) (W.contents out.old) (W.contents out.new)))
         query.now parts.now (option_map string_bytes certificate.now) result }
 {
@@ -228,7 +227,7 @@ fn run_judging<A: Archive, M: Messages, W: Write>(
     messages: &mut M,
     out: &mut W,
 ) -> Ending
-    ensures { RunsJudging (A.bytes_of archive.now) (A.opens archive.now) ⟦<Fault as Display>⟧.output
+    ensures { RunsJudging (A.bytes_of archive.now) (A.opens archive.now) fault_line
         (streams (ArePrintedLines M.prints messages.old messages.new) (W.contents out.old) (W.contents out.new))
         judging.now result }
 {
@@ -246,7 +245,7 @@ fn run_describing<A: Archive, M: Messages, W: Write>(
     messages: &mut M,
     out: &mut W,
 ) -> Ending
-    ensures { RunsDescribing (A.bytes_of archive.now) (A.opens archive.now) ⟦<Fault as Display>⟧.output
+    ensures { RunsDescribing (A.bytes_of archive.now) (A.opens archive.now) fault_line
         (streams (ArePrintedLines M.prints messages.old messages.new) (W.contents out.old) (W.contents out.new))
         describing.now result }
 {
