@@ -10,8 +10,8 @@ from itertools import product
 from pathlib import Path
 
 ROOT = Path(__file__).resolve().parent.parent
-# Types that are printed, and are neither errors nor verdicts: an element's code, a query's canonical text, and an ID.
-OTHERS = {"Element", "Query", "Printed"}
+# Types that are printed, and are neither errors nor verdicts: an element's code, and a query's canonical text.
+OTHERS = {"Element", "Query"}
 # What a command prints besides messages: types, or variants of them.
 PRINTED = {
     "rank": ("Fault",), "describe": ("Fault",), "merge": ("MergingFault",),
@@ -267,6 +267,7 @@ def held(crates, answers):
     faults += [f"no source has the texts of `{name}`" for name, it in printers.items() if not it.shapes]
     faults += [f"{it.crate}: the text of {it.name} can't be found in its `fmt`" for it in found if not it.template]
     faults += [f"`{it}` has texts in two crates" for it, its in by_type.items() if len({one.crate for one in its}) > 1]
+    faults += [f"{it.crate}: no clause says the text of {it.name}" for it in found if it.owner and not it.clause]
     faults += [f"{it.crate}: nothing holds the text `{it.template}` of {it.name}" for it in found if not it.holders]
     return found, faults
 

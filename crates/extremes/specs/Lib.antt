@@ -13,3 +13,4 @@ pub mod RankedInParts
 pub mod Environments
 pub mod NamedRuns
 pub mod Commands
+pub mod FaultTexts

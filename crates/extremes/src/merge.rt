@@ -10,15 +10,28 @@ use ghcn_fields::Memory;
 use rank_merge::{MergeFault, merge};
 use rank_query::{Query, QueryFault};
 use std::alloc::{AllocError, Global};
+use std::fmt;
 use thiserror::Error;
 
 /// Why nothing is merged: the query's error, or the first error of the parts.
 #[derive(Clone, Copy, Debug, PartialEq, Eq, Error)]
 pub enum MergingFault {
-    #[error(transparent)]
     Query(QueryFault),
-    #[error(transparent)]
     Parts(MergeFault),
+}
+
+impl fmt::Display for MergingFault {
+    ghost use Rattle.std.specs.Prelude.{Some};
+    ghost use Rattle.extremes.specs.FaultTexts.{merging_fault_text};
+
+    ghost output = { λ fault. Some (merging_fault_text fault) };
+
+    fn fmt<W: fmt::Write>(&self, f: &mut fmt::Formatter<W>) -> fmt::Result {
+        match self {
+            MergingFault::Query(cause) => write!(f, "{cause}"),
+            MergingFault::Parts(why) => write!(f, "{why}"),
+        }
+    }
 }
 
 impl From<QueryFault> for MergingFault {

@@ -5,6 +5,7 @@ ghost use Rattle.std.specs.Cmp.Lexicographic.{pointwise};
 ghost use Rattle.extremes.specs.declared.ending.Ending.TheVariants as endings;
 ghost use Rattle.extremes.specs.Printed.{ArePrinted, IsLineTold, IsPrinted, IsReported, IsShown};
 ghost use Rattle.extremes.specs.Printed.{IsTextShown, IsTold, judgement_line};
+ghost use Rattle.extremes.specs.FaultTexts.{fault_line};
 ghost use Rattle.extremes.specs.NamedRuns.{naming_ending};
 ghost use Rattle.extremes.specs.Targets.{IsPut};
 ghost use Rattle.extremes.specs.Messages.{ArePrintedLines, after_lines, foreign_warning, input_lines, line_naming};
@@ -48,7 +49,7 @@ pub(crate) fn print_ranked<M: Messages, T: Target, W: Write>(
     target: &mut T,
     out: &mut W,
 ) -> Ending
-    ensures { IsPrinted (input_lines ⟦<Fault as Display>⟧.output (map string_bytes files.entry.arguments.now)
+    ensures { IsPrinted (input_lines fault_line (map string_bytes files.entry.arguments.now)
         (map string_bytes files.entry.paths.now))
         (streams (ArePrintedLines M.prints messages.old messages.new) (W.contents out.old) (W.contents out.new))
         ranked.answer (warning_lines (map string_bytes files.entry.paths.now) ranked.warnings)
@@ -83,7 +84,7 @@ pub(crate) fn not_read<M: Messages>(messages: &mut M, path: &str) -> Ending
 pub(crate) fn not_named<M: Messages>(messages: &mut M, why: &NotNamed) -> Ending
     ensures ending { result ≡ naming_ending why.now }
     ensures line { ArePrintedLines M.prints messages.old messages.new
-        (naming_line ⟦<Fault as Display>⟧.output why.now ∷ []) }
+        (naming_line fault_line why.now ∷ []) }
 {
     match why {
         NotNamed::Unreadable(path) | NotNamed::Empty(path) | NotNamed::NotText(path) => {
@@ -107,7 +108,7 @@ pub(crate) fn refused<M: Messages, F: Display + Drop>(messages: &mut M, fault: F
 fn refused_input<M: Messages>(messages: &mut M, fault: Fault, files: DailyPaths) -> Ending
     ensures ending { result ≡ endings.Refused }
     ensures lines { ArePrintedLines M.prints messages.old messages.new
-        (input_lines ⟦<Fault as Display>⟧.output (map string_bytes files.entry.arguments.now)
+        (input_lines fault_line (map string_bytes files.entry.arguments.now)
         (map string_bytes files.entry.paths.now) fault) }
 {
     let ending = refused(messages, fault);
@@ -295,7 +296,7 @@ pub(crate) fn print_description<M: Messages, W: Write>(
     files: DailyPaths,
     out: &mut W,
 ) -> Ending
-    ensures { IsTextShown ⟦<Fault as Display>⟧.output
+    ensures { IsTextShown fault_line
         (streams (ArePrintedLines M.prints messages.old messages.new) (W.contents out.old) (W.contents out.new))
         described (map string_bytes files.entry.arguments.now) (map string_bytes files.entry.paths.now) result }
 {
@@ -315,7 +316,7 @@ pub(crate) fn print_judgement<M: Messages, W: Write>(
     files: DailyPaths,
     out: &mut W,
 ) -> Ending
-    ensures { IsTold ⟦<Fault as Display>⟧.output
+    ensures { IsTold fault_line
         (streams (ArePrintedLines M.prints messages.old messages.new) (W.contents out.old) (W.contents out.new))
         judged (map string_bytes files.entry.arguments.now) (map string_bytes files.entry.paths.now) result }
 {

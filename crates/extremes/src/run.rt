@@ -5,6 +5,7 @@ ghost use Rattle.extremes.specs.Commands.{IsCommandRun, IsSampleRanked};
 ghost use Rattle.extremes.specs.Environments.{environment};
 ghost use Rattle.extremes.specs.NamedRuns.{StandForNamed, StopsNamed};
 ghost use Rattle.extremes.specs.Commands.{RunsRanking, RunsMerge, RunsJudging, RunsDescribing};
+ghost use Rattle.extremes.specs.FaultTexts.{fault_line, merging_line};
 ghost use Rattle.extremes.specs.Targets.{IsPut};
 ghost use Rattle.extremes.specs.Messages.{ArePrintedLines, streams};
 
@@ -12,7 +13,6 @@ use crate::ending::Ending;
 use crate::files::{
     Describing, Judging, Ranking, describe_files, judge_files, merge_files, rank_files,
 };
-use crate::merge::MergingFault;
 use crate::messages::{Messages, SystemMessages};
 use crate::papers::Papers;
 use crate::print::{
@@ -27,7 +27,6 @@ use command_line::{Command, CommandFault, NamedFiles, Part, command};
 use ghcn_fields::Memory;
 use rank_input::{Archive, Fault, NotNamed, System, name_files};
 use std::alloc::Global;
-use std::fmt::Display;
 use std::fs::File;
 use std::io::Write;
 use std::rt::{Env, Files};
@@ -80,7 +79,7 @@ fn run_command<
     ensures { IsCommandRun (environment (A.bytes_of archive.now) (A.opens archive.now) (A.names_of archive.now)
         (T.one_file target.old) (T.other_text target.old)
         (IsPut T.opens T.abandons T.contents target.old target.new)
-        ⟦<Fault as Display>⟧.output ⟦<MergingFault as Display>⟧.output
+        fault_line merging_line
         (streams (ArePrintedLines M.prints messages.old messages.new) (W.contents out.old) (W.contents out.new)))
         asked result }
 {
@@ -216,7 +215,7 @@ fn run_ranking<
     ensures { RunsRanking (environment (A.bytes_of archive.now) (A.opens archive.now) (A.names_of archive.now)
         (T.one_file target.old) (T.other_text target.old)
         (IsPut T.opens T.abandons T.contents target.old target.new)
-        ⟦<Fault as Display>⟧.output ⟦<MergingFault as Display>⟧.output
+        fault_line merging_line
         (streams (ArePrintedLines M.prints messages.old messages.new) (W.contents out.old) (W.contents out.new)))
         ranking.now named.now (option_map string_bytes certificate.now) result }
 {
@@ -251,7 +250,7 @@ fn run_merge<A: Archive, M: Messages, T: Target, W: Write>(
     ensures { RunsMerge (environment (A.bytes_of archive.now) (A.opens archive.now) (A.names_of archive.now)
         (T.one_file target.old) (T.other_text target.old)
         (IsPut T.opens T.abandons T.contents target.old target.new)
-        ⟦<Fault as Display>⟧.output ⟦<MergingFault as Display>⟧.output
+        fault_line merging_line
         (streams (ArePrintedLines M.prints messages.old messages.new) (W.contents out.old) (W.contents out.new)))
         query.now parts.now (option_map string_bytes certificate.now) result }
 {
@@ -283,7 +282,7 @@ fn run_judging<A: Archive, M: Messages, W: Write>(
     messages: &mut M,
     out: &mut W,
 ) -> Ending
-    ensures { RunsJudging (A.bytes_of archive.now) (A.opens archive.now) ⟦<Fault as Display>⟧.output
+    ensures { RunsJudging (A.bytes_of archive.now) (A.opens archive.now) fault_line
         (streams (ArePrintedLines M.prints messages.old messages.new) (W.contents out.old) (W.contents out.new))
         judging.now named.now result }
 {
@@ -305,7 +304,7 @@ fn run_describing<A: Archive, M: Messages, W: Write>(
     messages: &mut M,
     out: &mut W,
 ) -> Ending
-    ensures { RunsDescribing (A.bytes_of archive.now) (A.opens archive.now) ⟦<Fault as Display>⟧.output
+    ensures { RunsDescribing (A.bytes_of archive.now) (A.opens archive.now) fault_line
         (streams (ArePrintedLines M.prints messages.old messages.new) (W.contents out.old) (W.contents out.new))
         describing.now named.now result }
 {
