@@ -2,8 +2,8 @@
 
 use crate::texts::is_printed;
 use ghcn_fields::{
-    Day, Field, Memory, days_in_month, four_places_field, has_bad_field, int_field, is_blank,
-    lines, read_date, scaled_field, tenths_field, value_field, value_or, write_date,
+    Day, Field, Memory, days_in_month, has_bad_field, int_field, is_blank, lines, read_date,
+    scaled_field, value_field, value_or, write_date,
 };
 
 /// What a day's number, block, date and written date are.
@@ -179,54 +179,6 @@ fn decimal_number_fields(rt: HostRuntime) {
     ];
     for (field, places, found) in cases {
         assert_eq!(rt; scaled_field(field, places), found, "at {field:?}");
-    }
-}
-
-#[test]
-fn decimal_fields_of_four_places(rt: HostRuntime) {
-    let cases: [(&[u8; 9], Field); 17] = [
-        (b"         ", Field::Blank),
-        (b"  10.0000", Field::Number(100_000)),
-        (b"-170.1234", Field::Number(-1_701_234)),
-        (b"  -0.0001", Field::Number(-1)),
-        (b"   0.0000", Field::Number(0)),
-        (b"9999.9999", Field::Number(99_999_999)),
-        (b"   10.000", Field::Number(100_000)),
-        (b" 10.00005", Field::Bad),
-        (b"      -91", Field::Number(-910_000)),
-        (b" 1 0.0000", Field::Bad),
-        (b"  10,0000", Field::Bad),
-        (b"  10.000 ", Field::Bad),
-        (b"    .5000", Field::Bad),
-        (b"   -.5000", Field::Bad),
-        (b"  10.00-0", Field::Bad),
-        (b"   1.0.00", Field::Bad),
-        (b" +10.0000", Field::Bad),
-    ];
-    for (columns, found) in cases {
-        assert_eq!(rt; four_places_field(columns), found, "at {columns:?}");
-    }
-}
-
-#[test]
-fn decimal_fields_of_tenths(rt: HostRuntime) {
-    let cases: [(&[u8; 6], Field); 13] = [
-        (b"      ", Field::Blank),
-        (b"  10.1", Field::Number(101)),
-        (b"-999.9", Field::Number(-9_999)),
-        (b"  -0.3", Field::Number(-3)),
-        (b"9999.9", Field::Number(99_999)),
-        (b"   100", Field::Number(1_000)),
-        (b"   1.5", Field::Number(15)),
-        (b" 1.5  ", Field::Bad),
-        (b"  10.-", Field::Bad),
-        (b"  10. ", Field::Bad),
-        (b"    .5", Field::Bad),
-        (b"  1 .5", Field::Bad),
-        (b" 10.55", Field::Bad),
-    ];
-    for (columns, found) in cases {
-        assert_eq!(rt; tenths_field(columns), found, "at {columns:?}");
     }
 }
 

@@ -22,7 +22,7 @@ fn refused(line: u64, why: StationWhy) -> Result<u64, StationsFault> {
 
 #[test]
 fn station_lists(rt: HostRuntime) {
-    let cases: [(&[u8], Result<u64, StationsFault>); 15] = [
+    let cases: [(&[u8], Result<u64, StationsFault>); 13] = [
         (b"", Ok(0)),
         (b"\n  \n", Ok(0)),
         (THREE, Ok(3)),
@@ -47,16 +47,6 @@ fn station_lists(rt: HostRuntime) {
         (
             b"ZZA00000001  10.0000   20.0000\nZZA00000001  11.0000   21.0000 x",
             refused(2, BadElevation),
-        ),
-        (
-            b"ZZA00000002  10.0000   20.0000\n\nZZA00000001  11.0000   21.0000\n\
-ZZA00000002  12.0000   22.0000\nshort",
-            refused(4, Duplicate),
-        ),
-        (
-            b"ZZA00000002  10.0000   20.0000\nZZA00000001  11.0000   21.0000\nshort\n\
-ZZA00000002  12.0000   22.0000",
-            refused(3, Short),
         ),
     ];
     for (text, expected) in cases {
