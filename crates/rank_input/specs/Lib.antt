@@ -2,6 +2,5 @@ pub mod Input
 pub mod Takes
 pub mod Taken
 pub mod Feeding
-pub mod Described
 pub mod Named
 pub mod NamingStops
