@@ -1,4 +1,4 @@
--- What is returned for the query and the data of an intake, as an answer to its input.
+-- What is returned for the query and the data of a question, as an answer to its input.
 use Rattle.std.proofs.Common.{◌≡◌, ℕ, List, refl, sym, ap, ◌∙◌, subst, map, Option, ℤ}
 use Rattle.std.specs.Prelude.{◌↔◌, Ok}
 use Rattle.ghcn_fields.specs.Sorting.{sorted_by}
@@ -26,9 +26,11 @@ use Rattle.rank_parts.specs.Parts.{part_verdict}
 use Rattle.rank_parts.specs.Laws.{PartVerdictStays}
 use Rattle.ghcn_description.specs.declared.counts.Description.{Description}
 use Rattle.ghcn_description.specs.Texts.{description_text}
-use Rattle.rank_input.specs.declared.description.DescriptionIntake.{DescriptionIntake}
+use Rattle.ghcn_description.specs.declared.describer.RowDescriber.{RowDescriber}
+use Rattle.ghcn_description.specs.Describing.{HasDescribedByRows, MakesDescription}
 use Rattle.rank_input.specs.declared.intake.Intake.{Intake}
-use Rattle.rank_input.specs.Described.{DescribesInput}
+use Rattle.rank_input.specs.declared.question.Question.{Question}
+use Rattle.rank_input.specs.Takes.{MakesTaken}
 use Rattle.rank_input.specs.Taken.{HoldsInput, IsTrueOf}
 use Rattle.ghcn_series.specs.Fed.{files_of}
 use Rattle.extremes.specs.declared.papers.Papers.{Papers}
@@ -106,8 +108,8 @@ texts_said reports certificates query stations files dataset report certificate 
   ),
 )
 
--- the verdict for the query and the data of an intake is that for its input
-pub judges_input : (t : Intake) (query : Asked) (dataset : Contents) (report certificate : List ℕ) (v : Verdict)
+-- the verdict for the query and the data of a question is that for its input
+pub judges_input : (t : Question) (query : Asked) (dataset : Contents) (report certificate : List ℕ) (v : Verdict)
     → RightReportStays → RightCertificateStays → ReportsAreSaid → CertificatesAreSaid → VerdictStays
     → HoldsInput t query dataset → v ≡ verdict query dataset report certificate
     → (v ≡ Accepted) ↔ AreRightTextsFor query dataset report certificate
@@ -131,7 +133,7 @@ judges_input t query dataset report certificate v reports certificates reports_s
     }
 
 -- the same for a part's verdict
-pub judges_part : (t : Intake) (query : Asked) (dataset : Contents) (report certificate : List ℕ) (v : PartVerdict)
+pub judges_part : (t : Question) (query : Asked) (dataset : Contents) (report certificate : List ℕ) (v : PartVerdict)
     → PartVerdictStays → HoldsInput t query dataset → v ≡ part_verdict query dataset report certificate
     → JudgesPart t report certificate v
 judges_part t query dataset report certificate v verdicts holds is = record {
@@ -185,8 +187,8 @@ right_said reports certificates query stations files dataset papers is are = rec
   unlisted = are.unlisted ∙ ap (λ (c : Contents). c.unlisted) (held-said stations files dataset is);
 }
 
--- a report and a certificate that are right for the query and the data of an intake answer its input
-pub answers_input : (t : Intake) (query : Asked) (dataset : Contents) (papers : Papers) → RightReportStays
+-- a report and a certificate that are right for the query and the data of a question answer its input
+pub answers_input : (t : Question) (query : Asked) (dataset : Contents) (papers : Papers) → RightReportStays
     → RightCertificateStays → ReportsAreSaid → CertificatesAreSaid → HoldsInput t query dataset
     → AreRightFor query dataset papers → AnswersInput t papers
 answers_input t query dataset papers reports certificates reports_said certificates_said holds are = record {
@@ -201,8 +203,8 @@ answers_input t query dataset papers reports certificates reports_said certifica
       };
 }
 
--- what an intake read has no error
-pub faultless_input : (t : Intake) (query : Asked) (dataset : Contents) → HoldsInput t query dataset → FaultlessInput t
+-- what a question was given has no error
+pub faultless_input : (t : Question) (query : Asked) (dataset : Contents) → HoldsInput t query dataset → FaultlessInput t
 faultless_input t query dataset holds = record {
   is = λ i taken.
       let input = holds.is i taken in
@@ -223,8 +225,8 @@ plan_for : (q : Asked) (dataset whole : Contents) → MorselsStay → dataset �
 plan_for q dataset whole stay needed =
     ap (planned q) needed ∙ ap (plan_of q whole.stations) (stay q whole)
 
--- a report and a certificate that are a crew's for the query and the data of an intake are so for its input
-pub crews_input : (t : Intake) (workers : ℕ) (guess : Option ℤ) (query : Asked) (dataset : Contents) (papers : Papers)
+-- a report and a certificate that are a crew's for the query and the data of a question are so for its input
+pub crews_input : (t : Question) (workers : ℕ) (guess : Option ℤ) (query : Asked) (dataset : Contents) (papers : Papers)
     → MorselsStay → MeasuredStays → HoldsInput t query dataset
     → IsMeasuredCertificate query dataset papers.certificate.items
     → IsOfCrew (planned query dataset) guess workers papers.certificate.items → CrewsInput t workers guess papers
@@ -241,8 +243,8 @@ crews_input t workers guess query dataset papers stay certificates holds measure
       };
 }
 
--- a report and a certificate that are one worker's for the query and the data of an intake are so for its input
-pub serial_input : (t : Intake) (guess : Option ℤ) (query : Asked) (dataset : Contents) (papers : Papers)
+-- a report and a certificate that are one worker's for the query and the data of a question are so for its input
+pub serial_input : (t : Question) (guess : Option ℤ) (query : Asked) (dataset : Contents) (papers : Papers)
     → MorselsStay → MeasuredStays → HoldsInput t query dataset
     → IsMeasuredCertificate query dataset papers.certificate.items
     → IsOfOneWorker (planned query dataset) guess papers.certificate.items
@@ -261,10 +263,16 @@ serial_input t guess query dataset papers stay certificates holds measures are =
 }
 
 -- the text of the description of an intake says what its files hold
-pub text_of_intake : (t : DescriptionIntake) (d : Description) (text : DescriptionText) → DescribesInput t d
+pub text_of_intake : (t : Intake RowDescriber) (d : Description) (text : DescriptionText)
+    → MakesTaken HasDescribedByRows MakesDescription t d
     → text.bytes.items ≡ description_text d → text.warnings ≡ d.warnings → DescribesIntake t text
 text_of_intake t d text describes is warnings = record {
   is = λ i taken.
       let of = describes.is i taken in
-      record { description = d; described = of; written = is; warnings = warnings ∙ of.describes.is.warnings };
+      record {
+        description = d;
+        described = record { list = of.list; lists = of.lists; describes = of.made };
+        written = is;
+        warnings = warnings ∙ of.made.is.warnings;
+      };
 }

@@ -8,18 +8,24 @@ use Rattle.ghcn_series.specs.declared.counts.Warnings.{Warnings}
 use Rattle.ghcn_series.specs.Fed.{files_of}
 use Rattle.rank_input.specs.declared.fault.Fault.{Fault}
 use Rattle.rank_input.specs.declared.fault.Fault.TheVariants.{Memory}
+use Rattle.ghcn_files.specs.declared.element.Keep.{Keep}
+use Rattle.ghcn_description.specs.declared.describer.RowDescriber.{RowDescriber}
+use Rattle.ghcn_description.specs.Describing.{HasDescribedByRows}
+use Rattle.ghcn_series.specs.declared.rows.RowReader.{RowReader}
+use Rattle.ghcn_series.specs.Gathered.{HasReadByRows}
 use Rattle.rank_input.specs.declared.intake.Intake.{Intake}
+use Rattle.rank_input.specs.declared.question.Question.{Question}
 use Rattle.extremes.specs.declared.papers.Papers.{Papers}
 use Rattle.extremes.specs.declared.judgement.Judgement.{Judgement}
 use Rattle.rank_input.specs.Input.{is_crew, is_guess, words_fault, read_unless, read_input, read_run, is_memory}
-use Rattle.rank_input.specs.declared.description.DescriptionIntake.{DescriptionIntake}
-use Rattle.rank_input.specs.Takes.{Taking, given}
-use Rattle.rank_input.specs.Taken.{HasTaken, AreWarningsOf, RefusesInput}
-use Rattle.rank_input.specs.Described as described
+use Rattle.rank_input.specs.Takes as takes
+use Rattle.rank_input.specs.Takes.{file_input, RefusesTaken}
+use Rattle.rank_input.specs.Taken.{given, HasTaken, AreWarningsOf, RefusesInput}
 use Rattle.rank_input.specs.Feeding.{AreAllOf, AreFilesOf, AreOpened, FeedsFiles, Opening}
 use Rattle.rank_input.proofs.Openings.{opened-for, opened-both}
 use Rattle.ghcn_fields.specs.Refusals.{IsRefusal}
-use Rattle.rank_input.proofs.Feedings.{given-files}
+use Rattle.rank_input.proofs.Feedings.{input-files}
+use Rattle.rank_input.proofs.Questions.{with_intake, files_given}
 use Rattle.extremes.specs.Runs.{AnswersInput, CrewsInput, RanksInput, JudgesInputAs}
 use Rattle.extremes.specs.Runs.{bytes_named, IsRanked, IsRankedAlone, RanksFiles, IsJudgement, JudgesFiles}
 use Rattle.extremes.specs.Runs.{ranking_paths, judging_paths}
@@ -31,13 +37,6 @@ use Rattle.extremes.specs.Merges.{Known, known_part, part_paths, AreBothOf}
 use Rattle.extremes.specs.declared.files.Ranking.{Ranking}
 use Rattle.extremes.specs.declared.files.Judging.{Judging}
 use Rattle.rank_merge.specs.Merging.{Texts}
-
--- what was fed after the station list is the whole input
-taken-all : {T : Type 0} (has_taken : Taking T) (old new : T) (known : List (Option (List ℕ))) (query stations : List ℕ)
-    (fed : FeedsFiles has_taken old new known) → has_taken old (given query stations [])
-    → has_taken new (given query stations fed.files)
-taken-all has_taken old new known query stations fed is =
-    subst (has_taken new) (given-files query stations [] fed.files) (fed.taken (given query stations []) is)
 
 -- an error of the arguments of a run is its first
 pub words_refuse : (workers : ℕ) (guess : Option ℤ) (query stations : List ℕ) (files : List (List ℕ)) (fault : Fault)
@@ -51,8 +50,8 @@ pub input_refuses : (workers : ℕ) (guess : Option ℤ) (query stations : List 
     → IsRefusal is_memory fault (read_unless (words_fault workers guess) (read_input query stations files))
 input_refuses workers guess query stations files fault crew might is = rw (crew, might) is
 
--- what some of the workers that were asked for return for an intake is an answer to its input
-pub ranks-input : (t : Intake) (workers ran : ℕ) (guess : Option ℤ) (answer : Result Papers Fault)
+-- what some of the workers that were asked for return for a question is an answer to its input
+pub ranks-input : (t : Question) (workers ran : ℕ) (guess : Option ℤ) (answer : Result Papers Fault)
     → is_crew workers ≡ true → is_guess guess ≡ true → ran ≤ workers → IfOk answer (AnswersInput t)
     → IfOk answer (CrewsInput t ran guess) → IfErr answer (RefusesInput t) → RanksInput t workers guess answer
 ranks-input t workers ran guess (Ok papers) crew might few ok crews err = record {
@@ -75,22 +74,23 @@ pub ranks-alone : (guess : Option ℤ) (query stations : List ℕ) (files : List
 ranks-alone guess query stations files (Ok papers) ok serial err = (ok, serial)
 ranks-alone guess query stations files (Err fault) ok serial err = err
 
--- an error of the arguments is an answer to an intake's input
-pub words-input : (t : Intake) (workers : ℕ) (guess : Option ℤ) (fault : Fault)
+-- an error of the arguments is an answer to a question's input
+pub words-input : (t : Question) (workers : ℕ) (guess : Option ℤ) (fault : Fault)
     → words_fault workers guess ≡ Some fault → RanksInput t workers guess (Err fault)
 words-input t workers guess fault is = record {
   is = λ i taken. words_refuse workers guess i.query i.stations (files_of i.files) fault is;
 }
 
--- the ranking of an intake that was fed all files that are named
-pub ranks-files : (bytes_of : Known) (opens : Opening) (r : Ranking) (old new : Intake) (query list stations : List ℕ)
+-- the ranking of a question whose intake was fed all files that are named
+pub ranks-files : (bytes_of : Known) (opens : Opening) (r : Ranking) (t : Question) (fed_to : Intake RowReader) (query list stations : List ℕ)
     (answer : Result Papers Fault) (warnings : Warnings) → query ≡ string_bytes r.query
-    → list ≡ string_bytes r.stations → AreAllOf (bytes_of list) stations → HasTaken old (given query stations [])
-    → FeedsFiles HasTaken old new (map (bytes_named bytes_of) r.files.items) → RanksInput new r.workers r.guess answer
-    → IfOk answer (λ papers. AreWarningsOf new warnings) → opens list true
+    → list ≡ string_bytes r.stations → AreAllOf (bytes_of list) stations → HasTaken t (given query stations [])
+    → FeedsFiles HasReadByRows t.files fed_to (map (bytes_named bytes_of) r.files.items)
+    → RanksInput (with_intake t fed_to) r.workers r.guess answer
+    → IfOk answer (λ papers. AreWarningsOf (with_intake t fed_to) warnings) → opens list true
     → AreOpened opens (map string_bytes r.files.items) → RanksFiles bytes_of opens r answer warnings
-ranks-files bytes_of opens r old new query list stations answer warnings same_query same_list whole taken fed ranks told first others =
-    let all = taken-all HasTaken old new _ query stations fed taken in
+ranks-files bytes_of opens r t fed_to query list stations answer warnings same_query same_list whole taken fed ranks told first others =
+    let all = files_given t fed_to _ query stations fed taken in
     record {
       opened = opened-for is_memory opens (ranking_paths r) answer
           (subst (λ (l : List ℕ). opens l true) same_list first, others);
@@ -103,8 +103,8 @@ ranks-files bytes_of opens r old new query list stations answer warnings same_qu
       told = IfOk-weaker answer _ _ (λ papers are. are.is (given query stations fed.files) all) told;
     }
 
--- what is said for an intake, or its error, is said for its texts
-judged-is : (part : Bool) (t : Intake) (query stations : List ℕ) (files : List (List ℕ)) (report certificate : List ℕ)
+-- what is said for a question, or its error, is said for its texts
+judged-is : (part : Bool) (t : Question) (query stations : List ℕ) (files : List (List ℕ)) (report certificate : List ℕ)
     (answer : Result (Judgement × Warnings) Fault) → HasTaken t (given query stations files)
     → IfOk answer (λ judged. JudgesInputAs part t report certificate judged.0)
     → IfOk answer (λ judged. AreWarningsOf t judged.1) → IfErr answer (RefusesInput t)
@@ -114,19 +114,21 @@ judged-is part t query stations files report certificate (Ok judged) taken ok to
 judged-is part t query stations files report certificate (Err fault) taken ok told err =
     err.is (given query stations files) taken
 
--- the judgement of a report and a certificate by an intake that was fed all files that are named
-pub judges-files : (bytes_of : Known) (opens : Opening) (j : Judging) (old new : Intake) (query list stations report certificate : List ℕ)
+-- the judgement of a report and a certificate for a question whose intake was fed all files that are named
+pub judges-files : (bytes_of : Known) (opens : Opening) (j : Judging) (t : Question) (fed_to : Intake RowReader) (query list stations report certificate : List ℕ)
     (answer : Result (Judgement × Warnings) Fault) → query ≡ string_bytes j.query
     → list ≡ string_bytes j.stations → AreAllOf (bytes_of list) stations
     → AreBothOf (known_part bytes_of j.papers) (report, certificate)
-    → HasTaken old (given query stations []) → FeedsFiles HasTaken old new (map (bytes_named bytes_of) j.files.items)
-    → IfOk answer (λ judged. JudgesInputAs j.part new report certificate judged.0)
-    → IfOk answer (λ judged. AreWarningsOf new judged.1) → IfErr answer (RefusesInput new) → opens list true
+    → HasTaken t (given query stations [])
+    → FeedsFiles HasReadByRows t.files fed_to (map (bytes_named bytes_of) j.files.items)
+    → IfOk answer (λ judged. JudgesInputAs j.part (with_intake t fed_to) report certificate judged.0)
+    → IfOk answer (λ judged. AreWarningsOf (with_intake t fed_to) judged.1)
+    → IfErr answer (RefusesInput (with_intake t fed_to)) → opens list true
     → AreOpened opens (part_paths j.papers) → AreOpened opens (map string_bytes j.files.items)
     → JudgesFiles bytes_of opens j answer
-judges-files bytes_of opens j old new query list stations report certificate answer same_query same_list whole papers taken
+judges-files bytes_of opens j t fed_to query list stations report certificate answer same_query same_list whole papers taken
     fed ok told err first both others =
-    let given_all = taken-all HasTaken old new _ query stations fed taken in
+    let given_all = files_given t fed_to _ query stations fed taken in
     record {
       opened = opened-for is_memory opens (judging_paths j) answer (
         subst (λ (l : List ℕ). opens l true) same_list first,
@@ -139,26 +141,28 @@ judges-files bytes_of opens j old new query list stations report certificate ans
       files = fed.files;
       all = fed.all;
       judged = subst (λ (q : List ℕ). IsJudgement j.part q stations fed.files report certificate answer) same_query
-          (judged-is j.part new query stations fed.files report certificate answer given_all ok told err);
+          (judged-is j.part (with_intake t fed_to) query stations fed.files report certificate answer given_all ok told err);
     }
 
 -- what a describer returns, or its error, is that of its files
-described-is : (t : DescriptionIntake) (query stations : List ℕ) (files : List (List ℕ))
-    (answer : Result DescriptionText Fault) → described.HasTaken t (given query stations files)
-    → IfOk answer (DescribesIntake t) → IfErr answer (described.RefusesInput t)
+described-is : (t : Intake RowDescriber) (keep : Keep) (stations : List ℕ) (files : List (List ℕ))
+    (answer : Result DescriptionText Fault) → takes.HasTaken HasDescribedByRows t (file_input keep stations files)
+    → IfOk answer (DescribesIntake t) → IfErr answer (RefusesTaken HasDescribedByRows t)
     → IsDescriptionOf stations files answer
-described-is t query stations files (Ok text) taken ok err = ok.is (given query stations files) taken
-described-is t query stations files (Err fault) taken ok err = err.is (given query stations files) taken
+described-is t keep stations files (Ok text) taken ok err = ok.is (file_input keep stations files) taken
+described-is t keep stations files (Err fault) taken ok err = err.is (file_input keep stations files) taken
 
 -- the description by an intake that was fed all files that are named
-pub describes-files : (bytes_of : Known) (opens : Opening) (d : Describing) (old new : DescriptionIntake) (list stations : List ℕ)
+pub describes-files : (bytes_of : Known) (opens : Opening) (d : Describing) (old new : Intake RowDescriber) (keep : Keep) (list stations : List ℕ)
     (answer : Result DescriptionText Fault) → list ≡ string_bytes d.stations
-    → AreAllOf (bytes_of list) stations → ((query : List ℕ) → described.HasTaken old (given query stations []))
-    → FeedsFiles described.HasTaken old new (map (bytes_named bytes_of) d.files.items)
-    → IfOk answer (DescribesIntake new) → IfErr answer (described.RefusesInput new) → opens list true
+    → AreAllOf (bytes_of list) stations → takes.HasTaken HasDescribedByRows old (file_input keep stations [])
+    → FeedsFiles HasDescribedByRows old new (map (bytes_named bytes_of) d.files.items)
+    → IfOk answer (DescribesIntake new) → IfErr answer (RefusesTaken HasDescribedByRows new) → opens list true
     → AreOpened opens (map string_bytes d.files.items) → DescribesFiles bytes_of opens d answer
-describes-files bytes_of opens d old new list stations answer same_list whole taken fed ok err first others =
-    let all = taken-all described.HasTaken old new _ [] stations fed (taken []) in
+describes-files bytes_of opens d old new keep list stations answer same_list whole taken fed ok err first others =
+    let all : takes.HasTaken HasDescribedByRows new (file_input keep stations fed.files) =
+    subst (takes.HasTaken HasDescribedByRows new) (input-files keep stations [] fed.files)
+    (fed.taken (file_input keep stations []) taken) in
     record {
       opened = opened-for is_memory opens (describing_paths d) answer
           (subst (λ (l : List ℕ). opens l true) same_list first, others);
@@ -166,7 +170,7 @@ describes-files bytes_of opens d old new list stations answer same_list whole ta
       whole = subst (λ (l : List ℕ). AreAllOf (bytes_of l) stations) same_list whole;
       files = fed.files;
       all = fed.all;
-      described = described-is new [] stations fed.files answer all ok err;
+      described = described-is new keep stations fed.files answer all ok err;
     }
 
 -- there are files whose bytes are all of those that are known

@@ -1,12 +1,15 @@
 -- What is returned if files are described.
 use Rattle.std.specs.Prelude.{◌≡◌, ℕ, List, ◌∷◌, map, Result, Ok, Err, string_bytes}
 use Rattle.ghcn_fields.specs.Refusals.{IsRefusal}
+use Rattle.ghcn_files.specs.declared.station.Station.{Station}
+use Rattle.ghcn_files.specs.Listed.{listed}
 use Rattle.ghcn_series.specs.LineKinds.{warnings_of}
 use Rattle.ghcn_description.specs.declared.counts.Description.{Description}
 use Rattle.ghcn_description.specs.Texts.{description_text}
-use Rattle.rank_input.specs.declared.description.DescriptionIntake.{DescriptionIntake}
+use Rattle.ghcn_description.specs.declared.describer.RowDescriber.{RowDescriber}
+use Rattle.ghcn_description.specs.Describing.{Describes, HasDescribedByRows}
 use Rattle.rank_input.specs.declared.fault.Fault.{Fault}
-use Rattle.rank_input.specs.Described.{HasTaken, IsDescribed}
+use Rattle.rank_input.specs.declared.intake.Intake.{Intake}
 use Rattle.rank_input.specs.Feeding.{AreAllOf, AreFilesOf, AreOpenedFor, Opening}
 use Rattle.rank_input.specs.Input.{read_files, is_memory}
 use Rattle.rank_input.specs.Takes.{IsTrueOf}
@@ -14,6 +17,12 @@ use Rattle.extremes.specs.declared.describe.DescriptionText.{DescriptionText}
 use Rattle.extremes.specs.declared.files.Describing.{Describing}
 use Rattle.extremes.specs.Merges.{Known}
 use Rattle.extremes.specs.Runs.{bytes_named}
+
+-- a station list and daily files have no error, and are described so
+pub record IsDescribed (stations : List ℕ) (files : List (List ℕ)) (d : Description) : Type 0 where
+  pub list : List Station
+  pub lists : listed stations ≡ Ok list
+  pub describes : Describes list files d
 
 -- a text says what a station list and daily files without an error hold, and beside it are the foreign files and the
 -- odd lines
@@ -24,8 +33,8 @@ pub record IsTextOf (stations : List ℕ) (files : List (List ℕ)) (text : Desc
   pub warnings : text.warnings ≡ warnings_of files
 
 -- so it does of the files that an intake was given
-abbrev pub DescribesIntake : DescriptionIntake → DescriptionText → Type 0
-DescribesIntake t text = IsTrueOf HasTaken t (λ query stations files. IsTextOf stations files text)
+abbrev pub DescribesIntake : Intake RowDescriber → DescriptionText → Type 0
+DescribesIntake t text = IsTrueOf HasDescribedByRows t (λ keep stations files. IsTextOf stations files text)
 
 -- the text of what these hold, or their first error
 abbrev pub IsDescriptionOf : List ℕ → List (List ℕ) → Result DescriptionText Fault → Type 0

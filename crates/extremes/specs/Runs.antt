@@ -6,7 +6,7 @@ use Rattle.ghcn_fields.specs.Refusals.{IsRefusal}
 use Rattle.ghcn_series.specs.declared.counts.Warnings.{Warnings}
 use Rattle.ghcn_series.specs.LineKinds.{warnings_of}
 use Rattle.rank_input.specs.declared.fault.Fault.{Fault}
-use Rattle.rank_input.specs.declared.intake.Intake.{Intake}
+use Rattle.rank_input.specs.declared.question.Question.{Question}
 use Rattle.rank_input.specs.Input.{read_input, read_run, words_fault, is_memory}
 use Rattle.rank_input.specs.Taken.{IsTrueOf}
 use Rattle.rank_input.specs.Feeding.{AreAllOf, AreFilesOf, AreOpenedFor, Opening}
@@ -26,26 +26,26 @@ use Rattle.extremes.specs.Judged.{IsJudged, IsJudgedByPart}
 abbrev pub bytes_named : {A : Type 0} → Known → String A → Option (List ℕ)
 bytes_named bytes_of path = bytes_of (string_bytes path)
 
--- a report and a certificate answer an intake's input
-abbrev pub AnswersInput : Intake → Papers → Type 0
+-- a report and a certificate answer a question's input
+abbrev pub AnswersInput : Question → Papers → Type 0
 AnswersInput t papers = IsTrueOf t (λ query stations files. Answers query stations files papers)
 
--- an intake's input has no error
-abbrev pub FaultlessInput : Intake → Type 0
+-- a question's input has no error
+abbrev pub FaultlessInput : Question → Type 0
 FaultlessInput t = IsTrueOf t IsFaultless
 
--- the report and the certificate are those of a crew of that many workers for an intake's input, under a guess or none
-abbrev pub CrewsInput : Intake → ℕ → Option ℤ → Papers → Type 0
+-- the report and the certificate are those of a crew of that many workers for a question's input, under a guess or none
+abbrev pub CrewsInput : Question → ℕ → Option ℤ → Papers → Type 0
 CrewsInput t workers guess papers =
     IsTrueOf t (λ query stations files. IsCrewed workers guess query stations files papers)
 
--- a verdict is that on this report and this certificate for an intake's input
-abbrev pub JudgesInput : Intake → List ℕ → List ℕ → Verdict → Type 0
+-- a verdict is that on this report and this certificate for a question's input
+abbrev pub JudgesInput : Question → List ℕ → List ℕ → Verdict → Type 0
 JudgesInput t report certificate v =
     IsTrueOf t (λ query stations files. IsJudged query stations files report certificate v)
 
--- a part's verdict is that on this report and this certificate for an intake's input
-abbrev pub JudgesPart : Intake → List ℕ → List ℕ → PartVerdict → Type 0
+-- a part's verdict is that on this report and this certificate for a question's input
+abbrev pub JudgesPart : Question → List ℕ → List ℕ → PartVerdict → Type 0
 JudgesPart t report certificate v =
     IsTrueOf t (λ query stations files. IsJudgedByPart query stations files report certificate v)
 
@@ -71,8 +71,8 @@ IsRankedAlone guess query stations files (Ok papers) =
 IsRankedAlone guess query stations files (Err fault) =
     IsRefusal is_memory fault (read_run 1 guess query stations files)
 
--- so is this an answer to an intake's input
-abbrev pub RanksInput : Intake → ℕ → Option ℤ → Result Papers Fault → Type 0
+-- so is this an answer to a question's input
+abbrev pub RanksInput : Question → ℕ → Option ℤ → Result Papers Fault → Type 0
 RanksInput t workers guess answer =
     IsTrueOf t (λ query stations files. IsRanked workers guess query stations files answer)
 
@@ -102,8 +102,8 @@ IsJudgedAs true query stations files report certificate (Whole v) = ⊥
 IsJudgedAs true query stations files report certificate (Part v) =
     IsJudgedByPart query stations files report certificate v
 
--- so it is said for an intake's input
-abbrev pub JudgesInputAs : Bool → Intake → List ℕ → List ℕ → Judgement → Type 0
+-- so it is said for a question's input
+abbrev pub JudgesInputAs : Bool → Question → List ℕ → List ℕ → Judgement → Type 0
 JudgesInputAs part t report certificate j =
     IsTrueOf t (λ query stations files. IsJudgedAs part query stations files report certificate j)
 

@@ -1,11 +1,13 @@
 //! The description of files, as a text.
 
 ghost use Rattle.std.specs.Prelude.{IfOk, IfErr};
-ghost use Rattle.rank_input.specs.Described.{HasTakenSome, RefusesInput};
+ghost use Rattle.ghcn_description.specs.Describing.{HasDescribedByRows};
+ghost use Rattle.rank_input.specs.Takes.{HasTakenSome, RefusesTaken};
 ghost use Rattle.extremes.specs.Describes.{DescribesIntake};
 
+use ghcn_description::RowDescriber;
 use ghcn_series::Warnings;
-use rank_input::{DescriptionIntake, Fault};
+use rank_input::{Fault, Intake};
 use std::alloc::Global;
 
 /// A description of files as it is printed.
@@ -20,11 +22,11 @@ pub struct DescriptionText {
 /// of files, files and lines in order.
 pub(crate) fn describe_intake(
     alloc: Global,
-    intake: DescriptionIntake,
+    intake: Intake<RowDescriber>,
 ) -> Result<DescriptionText, Fault>
-    requires { HasTakenSome intake }
+    requires { HasTakenSome HasDescribedByRows intake }
     ensures ok { IfOk result (DescribesIntake intake) }
-    ensures err { IfErr result (RefusesInput intake) }
+    ensures err { IfErr result (RefusesTaken HasDescribedByRows intake) }
 {
     let description = intake.finish()?;
     Ok(DescriptionText {

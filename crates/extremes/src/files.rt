@@ -16,12 +16,13 @@ use crate::merge::{MergingFault, PartTexts, merge_texts};
 use crate::papers::Papers;
 use crate::rank::{self, Ranked, rank_intake};
 use command_line::Part;
+use ghcn_description::RowDescriber;
 use ghcn_fields::Memory;
+use ghcn_files::Keep;
 use ghcn_series::Warnings;
 use rank_crew::Open;
 use rank_input::{
-    Archive, DescriptionIntake, Fault, Intake, check_words, feed_files, piece_room, read_whole,
-    workers_for,
+    Archive, Fault, Intake, Question, check_words, feed_files, piece_room, read_whole, workers_for,
 };
 use rank_merge::MergeFault;
 use std::alloc::Global;
@@ -74,26 +75,26 @@ pub(crate) fn rank_files<'p, R: Threads + Wait + AllocGlobal + Sync, A: Archive>
     let Ok(mut room) = piece_room(alloc) else {
         return Ok(rank::without_data(Fault::Memory(Memory)));
     };
-    let mut intake = Intake::new(alloc, &ranking.query, &stations);
-    feed_files(archive, &mut intake, &ranking.files, &mut room)?;
-    Ok(rank_fed(rt, intake, ranking.workers, ranking.guess))
+    let mut question = Question::new(alloc, &ranking.query, &stations);
+    feed_files(archive, &mut question.files, &ranking.files, &mut room)?;
+    Ok(rank_fed(rt, question, ranking.workers, ranking.guess))
 }
 
 /// Ranks what was fed, by as many of the workers that are asked for as are worth starting.
 fn rank_fed<R: Threads + Wait + AllocGlobal + Sync>(
     rt: &R,
-    intake: Intake,
+    question: Question,
     workers: u64,
     guess: Option<i64>,
 ) -> Ranked
-    requires { HasTakenSome intake }
-    ensures ranks { RanksInput intake workers guess result.answer }
-    ensures warnings { IfOk result.answer (λ papers. AreWarningsOf intake result.warnings) }
+    requires { HasTakenSome question }
+    ensures ranks { RanksInput question workers guess result.answer }
+    ensures warnings { IfOk result.answer (λ papers. AreWarningsOf question result.warnings) }
 {
     match check_words(workers, guess) {
         Ok(()) => {
-            let started = workers_for(workers, intake.bytes);
-            rank_intake(rt, intake, started, guess, &Open)
+            let started = workers_for(workers, question.files.bytes);
+            rank_intake(rt, question, started, guess, &Open)
         }
         Err(fault) => rank::without_data(fault),
     }
@@ -180,11 +181,11 @@ pub(crate) fn judge_files<'p, A: Archive>(
     let Ok(mut room) = piece_room(alloc) else {
         return Ok(Err(Fault::Memory(Memory)));
     };
-    let mut intake = Intake::new(alloc, &judging.query, &stations);
-    feed_files(archive, &mut intake, &judging.files, &mut room)?;
+    let mut question = Question::new(alloc, &judging.query, &stations);
+    feed_files(archive, &mut question.files, &judging.files, &mut room)?;
     Ok(judge_as(
         alloc,
-        intake,
+        question,
         judging.part,
         &papers.report,
         &papers.certificate,
@@ -207,7 +208,7 @@ pub(crate) fn describe_files<'p, A: Archive>(
     let Ok(mut room) = piece_room(alloc) else {
         return Ok(Err(Fault::Memory(Memory)));
     };
-    let mut intake = DescriptionIntake::new(alloc, &stations);
+    let mut intake = Intake::<RowDescriber>::new(alloc, &stations, Keep::nothing());
     feed_files(archive, &mut intake, &describing.files, &mut room)?;
     Ok(describe_intake(alloc, intake))
 }

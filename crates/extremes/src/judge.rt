@@ -15,7 +15,7 @@ use crate::laws::parts_judge_the_whole;
 use ghcn_fields::Memory;
 use ghcn_series::{Data, Warnings};
 use rank_check::{Verdict, check, verdict_of_one_element};
-use rank_input::{Fault, Intake};
+use rank_input::{Fault, Question};
 use rank_papers::{papers_are_found, papers_are_said, papers_of_one_element};
 use rank_parts::{PartVerdict, check_part, part_verdict_of_one_element};
 use rank_query::Query;
@@ -39,8 +39,8 @@ pub fn judge(
     ensures err { IfErr result (λ fault.
         IsRefusal is_memory fault (read_input query.now stations.now (map (λ file. file.now) files.now))) }
 {
-    let intake = Intake::of_files(alloc, query, stations, files);
-    let (verdict, _warnings) = judge_intake(alloc, intake, report, certificate)?;
+    let question = Question::of_files(alloc, query, stations, files);
+    let (verdict, _warnings) = judge_intake(alloc, question, report, certificate)?;
     Ok(verdict)
 }
 
@@ -66,8 +66,8 @@ pub fn judge_part(
 {
     // Clause `whole` is the law.
     parts_judge_the_whole();
-    let intake = Intake::of_files(alloc, query, stations, files);
-    let (verdict, _warnings) = judge_part_intake(alloc, intake, report, certificate)?;
+    let question = Question::of_files(alloc, query, stations, files);
+    let (verdict, _warnings) = judge_part_intake(alloc, question, report, certificate)?;
     Ok(verdict)
 }
 
@@ -75,21 +75,21 @@ pub fn judge_part(
 /// their files, and otherwise as `judge` does. Returns the foreign files and the odd lines too.
 pub fn judge_as(
     alloc: Global,
-    intake: Intake,
+    question: Question,
     part: bool,
     report: &[u8],
     certificate: &[u8],
 ) -> Result<(Judgement, Warnings), Fault>
-    requires { HasTakenSome intake }
-    ensures ok { IfOk result (λ judged. JudgesInputAs part intake report.now certificate.now judged.0) }
-    ensures warnings { IfOk result (λ judged. AreWarningsOf intake judged.1) }
-    ensures err { IfErr result (RefusesInput intake) }
+    requires { HasTakenSome question }
+    ensures ok { IfOk result (λ judged. JudgesInputAs part question report.now certificate.now judged.0) }
+    ensures warnings { IfOk result (λ judged. AreWarningsOf question judged.1) }
+    ensures err { IfErr result (RefusesInput question) }
 {
     if part {
-        let (verdict, warnings) = judge_part_intake(alloc, intake, report, certificate)?;
+        let (verdict, warnings) = judge_part_intake(alloc, question, report, certificate)?;
         return Ok((Judgement::Part(verdict), warnings));
     }
-    let (verdict, warnings) = judge_intake(alloc, intake, report, certificate)?;
+    let (verdict, warnings) = judge_intake(alloc, question, report, certificate)?;
     Ok((Judgement::Whole(verdict), warnings))
 }
 
@@ -97,16 +97,16 @@ pub fn judge_as(
 /// the odd lines too.
 pub fn judge_intake(
     alloc: Global,
-    intake: Intake,
+    question: Question,
     report: &[u8],
     certificate: &[u8],
 ) -> Result<(Verdict, Warnings), Fault>
-    requires { HasTakenSome intake }
-    ensures ok { IfOk result (λ judged. JudgesInput intake report.now certificate.now judged.0) }
-    ensures warnings { IfOk result (λ judged. AreWarningsOf intake judged.1) }
-    ensures err { IfErr result (RefusesInput intake) }
+    requires { HasTakenSome question }
+    ensures ok { IfOk result (λ judged. JudgesInput question report.now certificate.now judged.0) }
+    ensures warnings { IfOk result (λ judged. AreWarningsOf question judged.1) }
+    ensures err { IfErr result (RefusesInput question) }
 {
-    let taken = intake.finish()?;
+    let taken = question.finish()?;
     // The data hold the query's element alone: a verdict on them is one on all lines.
     papers_of_one_element();
     papers_are_said();
@@ -140,16 +140,16 @@ fn judge_dataset(
 /// and the odd lines too.
 pub fn judge_part_intake(
     alloc: Global,
-    intake: Intake,
+    question: Question,
     report: &[u8],
     certificate: &[u8],
 ) -> Result<(PartVerdict, Warnings), Fault>
-    requires { HasTakenSome intake }
-    ensures ok { IfOk result (λ judged. JudgesPart intake report.now certificate.now judged.0) }
-    ensures warnings { IfOk result (λ judged. AreWarningsOf intake judged.1) }
-    ensures err { IfErr result (RefusesInput intake) }
+    requires { HasTakenSome question }
+    ensures ok { IfOk result (λ judged. JudgesPart question report.now certificate.now judged.0) }
+    ensures warnings { IfOk result (λ judged. AreWarningsOf question judged.1) }
+    ensures err { IfErr result (RefusesInput question) }
 {
-    let taken = intake.finish()?;
+    let taken = question.finish()?;
     // The data hold the query's element alone: a verdict on them is one on all lines.
     part_verdict_of_one_element();
     let verdict = check_part(alloc, &taken.dataset, &taken.query, report, certificate)?;

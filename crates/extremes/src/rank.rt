@@ -18,7 +18,7 @@ use crate::papers::Papers;
 use ghcn_fields::Memory;
 use ghcn_series::{Data, Warnings};
 use rank_crew::{Gate, crew, survey};
-use rank_input::{Fault, Intake, TakenInput, check_words};
+use rank_input::{Fault, Question, TakenInput, check_words};
 use rank_papers::{certificate, papers_are_found, papers_are_said, papers_of_one_element, report};
 use rank_query::Query;
 use rank_sched::{Answer, Plan, ends_are_sound, run_alone, runs_are_sound};
@@ -55,8 +55,8 @@ pub fn rank<R: Threads + Wait + AllocGlobal + Sync, G: Gate + Sync>(
         IsRefusal is_memory fault (read_run workers guess query.now stations.now (map (λ file. file.now) files.now))) }
 {
     check_words(workers, guess)?;
-    let intake = Intake::of_files(rt.alloc(), query, stations, files);
-    rank_intake(rt, intake, workers, guess, gate).answer
+    let question = Question::of_files(rt.alloc(), query, stations, files);
+    rank_intake(rt, question, workers, guess, gate).answer
 }
 
 /// What a ranking returns, and the data that it ranked.
@@ -73,21 +73,21 @@ pub struct Ranked {
 /// Ranks the candidates of a query over what was given, as `rank` does.
 pub fn rank_intake<R: Threads + Wait + AllocGlobal + Sync, G: Gate + Sync>(
     rt: &R,
-    intake: Intake,
+    question: Question,
     workers: u64,
     guess: Option<i64>,
     gate: &G,
 ) -> Ranked
-    requires taken { HasTakenSome intake }
+    requires taken { HasTakenSome question }
     requires workers { is_crew workers ≡ true }
     requires guess { is_guess guess ≡ true }
-    ensures ok { IfOk result.answer (AnswersInput intake) }
-    ensures faultless { IfOk result.answer (λ papers. FaultlessInput intake) }
-    ensures crew { IfOk result.answer (CrewsInput intake workers guess) }
-    ensures warnings { IfOk result.answer (λ papers. AreWarningsOf intake result.warnings) }
-    ensures err { IfErr result.answer (RefusesInput intake) }
+    ensures ok { IfOk result.answer (AnswersInput question) }
+    ensures faultless { IfOk result.answer (λ papers. FaultlessInput question) }
+    ensures crew { IfOk result.answer (CrewsInput question workers guess) }
+    ensures warnings { IfOk result.answer (λ papers. AreWarningsOf question result.warnings) }
+    ensures err { IfErr result.answer (RefusesInput question) }
 {
-    match intake.finish() {
+    match question.finish() {
         Ok(
             TakenInput {
                 query,
@@ -144,8 +144,8 @@ pub fn rank_serial(
         IsRefusal is_memory fault (read_run 1 guess query.now stations.now (map (λ file. file.now) files.now))) }
 {
     check_words(1, guess)?;
-    let intake = Intake::of_files(alloc, query, stations, files);
-    let taken = intake.finish()?;
+    let question = Question::of_files(alloc, query, stations, files);
+    let taken = question.finish()?;
     // The data hold the query's element alone: what is right for them is right for all lines.
     papers_of_one_element();
     papers_are_said();

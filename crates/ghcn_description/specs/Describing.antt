@@ -1,9 +1,8 @@
--- When lines are described so, what a describer of files stands for, and what each of its steps adds.
+-- When lines and files are described so, and what each step of a describer adds.
 use Rattle.std.specs.Prelude.{◌≡◌, ℕ, ◌^◌, ◌≤◌, Bool, false, not, ◌&&◌, ◌||◌, List, [], ◌∷◌, ◌++◌, length, map}
 use Rattle.std.specs.Bool.{OnTrue}
 use Rattle.std.specs.List.{list_any, AllZip, slice_index_or, slice_set}
 use Rattle.ghcn_fields.specs.Faults.{HaveNoFault}
-use Rattle.ghcn_fields.specs.Refusals.{IsRefusal}
 use Rattle.ghcn_files.specs.declared.element.Element.{Element}
 use Rattle.ghcn_files.specs.declared.element.Keep.{Keep}
 use Rattle.ghcn_files.specs.Elements.{nothing}
@@ -14,20 +13,17 @@ use Rattle.ghcn_files.specs.Ids.{same_id}
 use Rattle.ghcn_files.specs.Elements.{elements, same_element, element_index}
 use Rattle.ghcn_series.specs.declared.counts.LineCounts.{LineCounts}
 use Rattle.ghcn_series.specs.declared.fault.DailyWhy.TheVariants.{DuplicateMonth}
-use Rattle.ghcn_series.specs.declared.fault.DataFault.{DataFault}
 use Rattle.ghcn_series.specs.declared.fault.DataFault.TheVariants.{DailyLine}
 use Rattle.ghcn_series.specs.Alike.{AreAlike}
 use Rattle.ghcn_series.specs.Counted.{HaveCounted}
-use Rattle.ghcn_series.specs.Cut as cut
-use Rattle.ghcn_series.specs.DailyFaults.{FileLine, daily_fault, daily_lines, is_memory, IsFirstRefusal}
-use Rattle.ghcn_series.specs.Fed.{Fed, more, with_end, with_files, files_of}
+use Rattle.ghcn_series.specs.DailyFaults.{FileLine, daily_fault, daily_lines}
 use Rattle.ghcn_series.specs.Gathered.{HasReadFor, IsLineRefusal}
-use Rattle.ghcn_series.specs.Says.{Fact, usable_facts, data_of}
+use Rattle.ghcn_series.specs.LinesRead.{Making}
+use Rattle.ghcn_series.specs.Says.{Fact, usable_facts}
 use Rattle.ghcn_description.specs.declared.counts.Description.{Description}
 use Rattle.ghcn_description.specs.declared.counts.ElementCounts.{ElementCounts}
 use Rattle.ghcn_description.specs.declared.describer.Describer.{Describer}
 use Rattle.ghcn_description.specs.declared.describer.RowDescriber.{RowDescriber}
-use Rattle.ghcn_description.specs.declared.files.FileDescriber.{FileDescriber}
 use Rattle.ghcn_description.specs.Described.{AreCounts, AreOthers, IsDescription}
 use Rattle.ghcn_description.specs.Lines.{unlisted_lines}
 use Rattle.ghcn_description.specs.Steps.{CountsMonth, has_day}
@@ -91,27 +87,6 @@ pub record Describes (stations : List Station) (files : List (List ℕ)) (d : De
   pub right : HaveNoFault (daily_fault stations) (daily_lines files)
   pub is : IsDescription stations files d
 
--- a describer was fed this
-abbrev pub HasFed : FileDescriber → Fed → Type 0
-HasFed r fed = cut.HasFed HasDescribedByRows r.cutter fed
-
--- what a describer was fed: some bytes of some files
-abbrev pub HasFedSome : FileDescriber → Type 0
-HasFedSome r = (fed : Fed) × HasFed r fed
-
--- a describer takes more bytes of the current file
-pub record TakesPiece (old new : FileDescriber) (bytes : List ℕ) : Type 0 where
-  pub holds : (fed : Fed) → HasFed old fed → HasFed new (with_files fed (more fed.files bytes))
-
--- a describer ends the current file
-pub record EndsFile (old new : FileDescriber) : Type 0 where
-  pub holds : (fed : Fed) → HasFed old fed → HasFed new (with_files fed (with_end fed.files))
-
--- the files that a describer was fed are described so
-pub record HoldsFed (r : FileDescriber) (d : Description) : Type 0 where
-  pub is : (fed : Fed) → HasFed r fed → Describes fed.stations (files_of fed.files) d
-
--- out of memory, or the first error of the files that a describer was fed
-pub record RefusesFed (r : FileDescriber) (fault : DataFault) : Type 0 where
-  pub is : (fed : Fed) → HasFed r fed → IsRefusal is_memory fault (data_of fed.stations (files_of fed.files))
-  pub first : (fed : Fed) → HasFed r fed → IsFirstRefusal fault fed.stations (files_of fed.files)
+-- a description is made of files, whatever values are kept
+abbrev pub MakesDescription : Making Description
+MakesDescription stations keep files d = Describes stations files d

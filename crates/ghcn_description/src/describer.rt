@@ -32,18 +32,29 @@ pub struct Describer {
     unlisted: u64,
 }
 
-/// Reads lines as rows, and counts what is on them.
+/// Reads lines as rows, and counts what is on them. It keeps no values.
 #[derive(Drop)]
 pub struct RowDescriber {
     months: MonthReader,
     /// What was counted so far.
-    pub(crate) describer: Describer,
+    describer: Describer,
 }
 
 impl LineReader for RowDescriber {
-    ghost use Rattle.ghcn_description.specs.Describing.{HasDescribedByRows};
+    ghost use Rattle.ghcn_description.specs.Describing.{HasDescribedByRows, MakesDescription};
+
+    type Done = Description;
 
     ghost has_read = { HasDescribedByRows };
+
+    ghost makes = { MakesDescription };
+
+    fn new(alloc: Global, stations: Stations, _keep: Keep) -> Result<Self, Memory> {
+        Ok(RowDescriber {
+            months: MonthReader::new(),
+            describer: Describer::new(alloc, stations)?,
+        })
+    }
 
     #[inline(always)]
     fn add(
@@ -69,23 +80,20 @@ impl LineReader for RowDescriber {
             Err(memory) => Err(DataFault::Memory(memory)),
         }
     }
-}
 
-impl RowDescriber {
-    /// Nothing counted but what a describer has counted.
-    pub(crate) fn of(describer: Describer) -> Self
-        ensures { result.describer ≡ describer }
-    {
-        RowDescriber {
-            months: MonthReader::new(),
-            describer,
-        }
+    fn finish(
+        self,
+        _alloc: Global,
+        files: u64,
+        counts: &LineCounts,
+    ) -> Result<Description, Memory> {
+        Ok(self.describer.finish(files, counts))
     }
 }
 
 impl Describer {
     /// Nothing read yet.
-    pub(crate) fn new(alloc: Global, stations: Stations) -> Result<Self, Memory>
+    fn new(alloc: Global, stations: Stations) -> Result<Self, Memory>
         ensures { IfOk result (λ d. (keep : Keep) → HasDescribed d stations keep []) }
     {
         let count = stations.len() as usize;
@@ -103,7 +111,7 @@ impl Describer {
     }
 
     /// What that many files hold, of whose lines these are the counts.
-    pub(crate) fn finish(self, files: u64, counts: &LineCounts) -> Description
+    fn finish(self, files: u64, counts: &LineCounts) -> Description
         ensures { Finishes self files counts.now result }
     {
         let (others, further) = self.others.finish();

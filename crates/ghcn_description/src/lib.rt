@@ -7,7 +7,6 @@
 mod counts;
 mod describer;
 mod elements;
-mod files;
 mod laws;
 mod others;
 #[cfg(test)]
@@ -15,5 +14,5 @@ mod tests;
 mod text;
 
 pub use counts::{CodeCount, Description, ElementCounts, Span};
-pub use files::FileDescriber;
+pub use describer::RowDescriber;
 pub use laws::lines_add_up;

@@ -1,9 +1,9 @@
 //! Worked descriptions and their texts.
 
-use crate::{CodeCount, Description, ElementCounts, FileDescriber, Span};
+use crate::{CodeCount, Description, ElementCounts, RowDescriber, Span};
 use ghcn_fields::{Day, Memory};
-use ghcn_files::{Element, Stations};
-use ghcn_series::{DataFault, Warnings};
+use ghcn_files::{Element, Keep, Stations};
+use ghcn_series::{Cutter, DataFault, Warnings};
 use std::alloc::Global;
 
 const TEXT: &[u8] = b"extremes description 1
@@ -141,7 +141,7 @@ fn text_of_two(alloc: Global) -> Result<Vec<u8>, DataFault> {
         return Err(DataFault::Memory(Memory));
     };
     let three = b"  311     400 I   322   ";
-    let mut files = FileDescriber::new(alloc, stations)?;
+    let mut files = Cutter::<RowDescriber>::new(alloc, stations, Keep::nothing())?;
     files.piece(&line_of(b"ZZA00000001202007TMAX", three));
     files.piece(&line_of(b"ZZA00000001202007WESD", three));
     files.end_of_file();

@@ -12,7 +12,7 @@ use Rattle.ghcn_series.specs.Counted.{HaveCounted, CountsLine}
 use Rattle.ghcn_series.specs.DailyFaults.{FileLine, one_line, file_lines, daily_lines, is_memory, IsFirstRefusal}
 use Rattle.ghcn_series.specs.Fed.{Files, Fed, more, with_end, with_files, files_of}
 use Rattle.ghcn_series.specs.Gathered.{IsLineRefusal}
-use Rattle.ghcn_series.specs.LinesRead.{Reading, Reads, Refuses}
+use Rattle.ghcn_series.specs.LinesRead.{Reading, Making, Reads, Refuses}
 use Rattle.ghcn_series.specs.Says.{in_64_bits, data_of}
 
 -- the lines of files up to here: those of the ended files, and these whole ones of the current file
@@ -88,6 +88,10 @@ pub record AreRead {L : Type 0} (has_read : Reading L) (fed : Fed) (files : List
 -- all files that a cutter was fed are read to the end
 pub record HoldsFed {L : Type 0} (has_read : Reading L) (c : Cutter L) (all : Cut L) : Type 0 where
   pub is : (fed : Fed) → HasFed has_read c fed → AreRead has_read fed (files_of fed.files) all
+
+-- this is made of the files that a cutter was fed
+pub record MakesFed {L D : Type 0} (has_read : Reading L) (makes : Making D) (c : Cutter L) (done : D) : Type 0 where
+  pub is : (fed : Fed) → HasFed has_read c fed → makes fed.stations fed.keep (files_of fed.files) done
 
 -- out of memory, or the first error of the files that a cutter was fed
 pub record RefusesFed {L : Type 0} (has_read : Reading L) (c : Cutter L) (fault : DataFault) : Type 0 where

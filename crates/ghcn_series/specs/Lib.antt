@@ -12,7 +12,6 @@ pub mod Alike
 pub mod Counted
 pub mod LinesRead
 pub mod Cut
-pub mod Pieces
 pub mod Packed
 pub mod Parts
 pub mod JoinedFiles

@@ -1,11 +1,13 @@
 -- What a reader of lines has read, and what one step of its reading adds.
-use Rattle.std.specs.Prelude.{ℕ, ◌++◌, List, [], ◌∷◌}
+use Rattle.std.specs.Prelude.{◌≡◌, ℕ, ◌^◌, ◌≤◌, ◌++◌, List, [], ◌∷◌, length}
 use Rattle.std.specs.Str.Lines.{strip_carriage_return}
 use Rattle.ghcn_files.specs.declared.element.Keep.{Keep}
 use Rattle.ghcn_files.specs.declared.station.Station.{Station}
+use Rattle.ghcn_series.specs.declared.counts.LineCounts.{LineCounts}
 use Rattle.ghcn_series.specs.declared.fault.DataFault.{DataFault}
 use Rattle.ghcn_series.specs.Alike.{AreAlike}
-use Rattle.ghcn_series.specs.DailyFaults.{FileLine, file_line, one_line}
+use Rattle.ghcn_series.specs.Counted.{HaveCounted}
+use Rattle.ghcn_series.specs.DailyFaults.{FileLine, file_line, one_line, daily_lines}
 use Rattle.ghcn_series.specs.Gathered.{IsLineRefusal}
 
 -- when a reader has read lines: with these stations listed, if the values of these elements are kept
@@ -16,6 +18,10 @@ Reading L = L → List Station → Keep → List FileLine → Type 0
 abbrev pub HasReadSome : {L : Type 0} → Reading L → L → Type 0
 HasReadSome has_read r =
     (stations : List Station) × ((keep : Keep) × ((ls : List FileLine) × has_read r stations keep ls))
+
+-- when something is made of files: with these stations listed, if the values of these elements are kept
+abbrev pub Making : Type 0 → Type 1
+Making D = List Station → Keep → List (List ℕ) → D → Type 0
 
 -- a reader reads more lines after those that it read
 pub record Reads {L : Type 0} (has_read : Reading L) (old new : L) (more : List FileLine) : Type 0 where
@@ -48,3 +54,10 @@ pub record RefusesText {L : Type 0} (has_read : Reading L) (old : L) (file line 
     (fault : DataFault) : Type 0 where
   pub holds : (text : List ℕ) → AreAlike (strip_carriage_return text) (strip_carriage_return bytes)
       → Refuses has_read old (one_line file line text) fault
+
+-- whatever files a reader has read, this is made of them, if there are that many and these are their counts
+pub record Finishes {L D : Type 0} (has_read : Reading L) (makes : Making D) (r : L) (number : ℕ) (counts : LineCounts)
+    (done : D) : Type 0 where
+  pub is : (stations : List Station) (keep : Keep) (files : List (List ℕ)) → length files ≤ 2 ^ 20
+      → has_read r stations keep (daily_lines files) → number ≡ length files → HaveCounted counts files []
+      → makes stations keep files done

@@ -2,8 +2,6 @@
 
 ghost use Rattle.std.specs.Prelude.{◌≡◌, [], ◌++◌, ◌^◌, ◌<◌, ◌≤◌, length, List, IfOk, IfErr, OnOk};
 ghost use Rattle.std.specs.Str.Lines.{strip_carriage_return};
-ghost use Rattle.ghcn_files.specs.declared.element.Keep.{Keep};
-ghost use Rattle.ghcn_files.specs.declared.station.Station.{Station};
 ghost use Rattle.ghcn_series.specs.Alike.{BeginAlike};
 ghost use Rattle.ghcn_series.specs.Cut as cut;
 ghost use Rattle.ghcn_series.specs.Fed.{IsOfMemory, nothing_fed};
@@ -16,21 +14,33 @@ use crate::data::MOST_FILES;
 use crate::fault::DataFault;
 use crate::form::has_form;
 use ghcn_fields::{Memory, is_blank, split_line, without_return};
+use ghcn_files::{Keep, Stations};
 use std::alloc::Global;
 
-/// Reads the lines of daily files one after another.
-pub trait LineReader {
-    ghost use Rattle.std.specs.Prelude.{◌≡◌, false, List, IfOk, IfErr, OnOk};
+/// Reads the lines of daily files one after another, and makes something of them.
+pub trait LineReader: Drop {
+    ghost use Rattle.std.specs.Prelude.{◌≡◌, ℕ, false, List, [], IfOk, IfErr, OnOk};
     ghost use Rattle.ghcn_fields.specs.Bytes.{is_blank};
     ghost use Rattle.ghcn_files.specs.declared.element.Keep.{Keep};
     ghost use Rattle.ghcn_files.specs.declared.station.Station.{Station};
     ghost use Rattle.ghcn_series.specs.DailyFaults.{FileLine};
     ghost use Rattle.ghcn_series.specs.LineKinds.{has_element};
-    ghost use Rattle.ghcn_series.specs.LinesRead.{HasReadSome, ReadsLike, RefusesLike};
+    ghost use Rattle.ghcn_series.specs.LinesRead.{HasReadSome, ReadsLike, RefusesLike, Finishes};
+
+    /// What it makes of the lines of all files.
+    type Done: Drop;
 
     /// A reader of lines for some stations, which keeps the values of some elements, has read lines none of which has
     /// an error.
     ghost has_read: { Self → List Station → Keep → List FileLine → Type 0 };
+
+    /// This is made of daily files none of whose lines has an error, for some stations, if the values of some elements
+    /// are kept.
+    ghost makes: { List Station → Keep → List (List ℕ) → Self.Done → Type 0 };
+
+    /// Nothing read yet.
+    fn new(alloc: Global, stations: Stations, keep: Keep) -> Result<Self, Memory>
+        ensures { IfOk result (λ reader. has_read reader stations keep []) };
 
     /// Adds a line that isn't blank, without its line end, and returns whether it belongs to one of the five
     /// elements. Of the bytes after its last column it only matters whether all are blanks.
@@ -40,6 +50,11 @@ pub trait LineReader {
         ensures element { IfOk result (λ of_element. of_element ≡ has_element bytes.now) }
         ensures read { OnOk result (ReadsLike has_read self.old self.new file line bytes.now) }
         ensures fault { IfErr result (RefusesLike has_read self.old file line bytes.now) };
+
+    /// What it makes of all lines that were read: those of that many files, with these counts.
+    fn finish(self, alloc: Global, files: u64, counts: &LineCounts) -> Result<Self::Done, Memory>
+        requires { HasReadSome has_read self }
+        ensures { IfOk result (Finishes has_read makes self files counts.now) };
 }
 
 /// Cuts daily files into lines, in their order, each file in pieces that may end anywhere. The first error is kept,
@@ -63,28 +78,32 @@ pub struct Cutter<L> {
 
 /// What was read of daily files that are all ended.
 #[derive(Drop)]
-pub struct Cut<L> {
-    pub reader: L,
+pub(crate) struct Cut<L> {
+    pub(crate) reader: L,
     /// How many files there were.
-    pub files: u64,
-    pub counts: LineCounts,
+    pub(crate) files: u64,
+    pub(crate) counts: LineCounts,
 }
 
-impl<L: LineReader + Drop> Cutter<L> {
-    /// Nothing fed yet, for a reader that has read nothing.
-    pub fn new(alloc: Global, reader: L) -> Self
-        ensures fed { (stations : List Station) (keep : Keep) → L.has_read reader stations keep []
-            → cut.HasFed L.has_read result (nothing_fed keep stations) }
+impl<L: LineReader> Cutter<L> {
+    /// Nothing fed yet. The values of a set of elements are kept; the lines of all five are tested.
+    pub fn new(alloc: Global, stations: Stations, keep: Keep) -> Result<Self, DataFault>
+        ensures fed { IfOk result (λ cutter. cut.HasFed L.has_read cutter (nothing_fed keep stations)) }
+        ensures going { IfOk result (cut.HasFedSome L.has_read) }
+        ensures fault { IfErr result IsOfMemory }
     {
-        Cutter {
-            alloc,
-            reader,
-            counts: LineCounts::new(),
-            ended: 0,
-            begun: false,
-            line: 0,
-            rest: Vec::new(alloc),
-            fault: None,
+        match L::new(alloc, stations, keep) {
+            Ok(reader) => Ok(Cutter {
+                alloc,
+                reader,
+                counts: LineCounts::new(),
+                ended: 0,
+                begun: false,
+                line: 0,
+                rest: Vec::new(alloc),
+                fault: None,
+            }),
+            Err(memory) => Err(DataFault::Memory(memory)),
         }
     }
 
@@ -116,9 +135,23 @@ impl<L: LineReader + Drop> Cutter<L> {
         self.begun = false;
     }
 
-    /// What was read of the files that were fed, or their first error: too many files come before the error of a
-    /// line. The current file is ended if it has a byte.
-    pub fn finish(mut self) -> Result<Cut<L>, DataFault>
+    /// What the reader makes of the files that were fed, or their first error: too many files come before the error
+    /// of a line. The current file is ended if it has a byte.
+    pub fn finish(self) -> Result<L::Done, DataFault>
+        requires { cut.HasFedSome L.has_read self }
+        ensures ok { IfOk result (cut.MakesFed L.has_read L.makes self) }
+        ensures err { IfErr result (cut.RefusesFed L.has_read self) }
+    {
+        let alloc = self.alloc;
+        let all = self.close()?;
+        match all.reader.finish(alloc, all.files, &all.counts) {
+            Ok(done) => Ok(done),
+            Err(memory) => Err(DataFault::Memory(memory)),
+        }
+    }
+
+    /// What was read of the files that were fed, all of which are ended, or their first error.
+    fn close(mut self) -> Result<Cut<L>, DataFault>
         requires { cut.HasFedSome L.has_read self }
         ensures some { IfOk result (λ all. HasReadSome L.has_read all.reader) }
         ensures ok { IfOk result (cut.HoldsFed L.has_read self) }

@@ -9,8 +9,10 @@ ghost use Rattle.ghcn_series.specs.DailyFaults.{is_memory, IsFirstRefusal};
 ghost use Rattle.ghcn_series.specs.Says.{data_of};
 ghost use Rattle.ghcn_series.specs.Held.{IsContents, AreByStation, contents_of, is_of_element};
 
-use crate::{DataFault, DataReader, Series};
-use ghcn_files::{Element, StationId, Stations};
+use crate::cutter::Cutter;
+use crate::rows::RowReader;
+use crate::{DataFault, Series};
+use ghcn_files::{Element, Keep, StationId, Stations};
 use std::alloc::Global;
 use std::marker::Model;
 
@@ -50,12 +52,12 @@ impl Data {
         if files.len() as u64 > MOST_FILES {
             return Err(DataFault::TooManyFiles);
         }
-        let mut reader = DataReader::new(alloc, stations)?;
+        let mut cutter = Cutter::<RowReader>::new(alloc, stations, Keep::everything())?;
         for file in files {
-            reader.piece(file);
-            reader.end_of_file();
+            cutter.piece(file);
+            cutter.end_of_file();
         }
-        let (dataset, _warnings) = reader.finish()?;
+        let (dataset, _warnings) = cutter.finish()?;
         Ok(dataset)
     }
 

@@ -1,11 +1,11 @@
 //! Reads the lines of daily files one after another.
 
-ghost use Rattle.std.specs.Prelude.{◌≡◌, [], IfOk, OnOk};
+ghost use Rattle.std.specs.Prelude.{◌≡◌, IfOk, OnOk};
 ghost use Rattle.ghcn_files.specs.Elements.{is_kept};
 ghost use Rattle.ghcn_files.specs.Listed.{AreListed, place_of};
-ghost use Rattle.ghcn_series.specs.Gathered.{HasReadFor};
 ghost use Rattle.ghcn_series.specs.Steps.{HasSomeLines, ReadsMonth, KeepsRead, HoldsAll, IsForMonth, ForMonth};
 
+use crate::counts::{LineCounts, Warnings};
 use crate::cutter::LineReader;
 use crate::parts::Parts;
 use crate::station::StationGathering;
@@ -33,8 +33,31 @@ pub struct Reader {
 
 impl LineReader for Reader {
     ghost use Rattle.ghcn_series.specs.Gathered.{HasReadFor};
+    ghost use Rattle.ghcn_series.specs.Kept.{HoldFiles};
+
+    /// What is kept of all lines, and what a run warns of.
+    type Done = (Data, Warnings);
 
     ghost has_read = { HasReadFor };
+
+    ghost makes = { HoldFiles };
+
+    fn new(alloc: Global, stations: Stations, keep: Keep) -> Result<Self, Memory> {
+        let mut gathered = Vec::with_capacity(alloc, stations.len() as usize)?;
+        let mut place = 0;
+        while let Some(station) = stations.at(place) {
+            gathered.push(StationGathering::new(alloc, station.id))?;
+            place += 1;
+        }
+        Ok(Reader {
+            keep,
+            stations,
+            gathered,
+            last: 0,
+            spare: Vec::new(alloc),
+            unlisted: 0,
+        })
+    }
 
     fn add(
         &mut self,
@@ -54,31 +77,21 @@ impl LineReader for Reader {
             Err(memory) => Err(DataFault::Memory(memory)),
         }
     }
+
+    fn finish(
+        self,
+        alloc: Global,
+        files: u64,
+        counts: &LineCounts,
+    ) -> Result<(Data, Warnings), Memory> {
+        let data = self.into_data(alloc)?;
+        Ok((data, counts.warnings))
+    }
 }
 
 impl Reader {
-    /// Nothing read yet.
-    pub fn new(alloc: Global, stations: Stations, keep: Keep) -> Result<Self, Memory>
-        ensures { IfOk result (λ reader. HasReadFor reader stations keep []) }
-    {
-        let mut gathered = Vec::with_capacity(alloc, stations.len() as usize)?;
-        let mut place = 0;
-        while let Some(station) = stations.at(place) {
-            gathered.push(StationGathering::new(alloc, station.id))?;
-            place += 1;
-        }
-        Ok(Reader {
-            keep,
-            stations,
-            gathered,
-            last: 0,
-            spare: Vec::new(alloc),
-            unlisted: 0,
-        })
-    }
-
     /// The data of all lines that were read.
-    pub(crate) fn finish(self, alloc: Global) -> Result<Data, Memory>
+    fn into_data(self, alloc: Global) -> Result<Data, Memory>
         requires { HasSomeLines self }
         ensures { IfOk result (HoldsAll self) }
     {

@@ -1,11 +1,11 @@
 //! Reads the lines of daily files as rows, and adds these.
 
-ghost use Rattle.std.specs.Prelude.{◌≡◌};
-
+use crate::counts::{LineCounts, Warnings};
 use crate::cutter::LineReader;
 use crate::reader::{Reader, refused};
-use crate::{DailyWhy, DataFault};
-use ghcn_files::MonthReader;
+use crate::{DailyWhy, Data, DataFault};
+use ghcn_fields::Memory;
+use ghcn_files::{Keep, MonthReader, Stations};
 use std::alloc::Global;
 
 /// Reads lines as a `Reader` does by itself, and reads what several lines have in common once.
@@ -13,13 +13,25 @@ use std::alloc::Global;
 pub struct RowReader {
     months: MonthReader,
     /// What was read so far.
-    pub(crate) reader: Reader,
+    reader: Reader,
 }
 
 impl LineReader for RowReader {
     ghost use Rattle.ghcn_series.specs.Gathered.{HasReadByRows};
+    ghost use Rattle.ghcn_series.specs.Kept.{HoldFiles};
+
+    type Done = (Data, Warnings);
 
     ghost has_read = { HasReadByRows };
+
+    ghost makes = { HoldFiles };
+
+    fn new(alloc: Global, stations: Stations, keep: Keep) -> Result<Self, Memory> {
+        Ok(RowReader {
+            months: MonthReader::new(),
+            reader: Reader::new(alloc, stations, keep)?,
+        })
+    }
 
     #[inline(always)]
     fn add(
@@ -40,16 +52,13 @@ impl LineReader for RowReader {
             Err(memory) => Err(DataFault::Memory(memory)),
         }
     }
-}
 
-impl RowReader {
-    /// Nothing read but what a reader has read.
-    pub(crate) fn of(reader: Reader) -> Self
-        ensures { result.reader ≡ reader }
-    {
-        RowReader {
-            months: MonthReader::new(),
-            reader,
-        }
+    fn finish(
+        self,
+        alloc: Global,
+        files: u64,
+        counts: &LineCounts,
+    ) -> Result<(Data, Warnings), Memory> {
+        self.reader.finish(alloc, files, counts)
     }
 }

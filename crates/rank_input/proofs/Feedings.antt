@@ -3,14 +3,17 @@ use Rattle.std.proofs.Common.{◌≡◌, ℕ, zero, suc, ◌+◌, ◌<◌, ◌�
 use Rattle.std.proofs.Common.{Option, None, Some, refl, sym, ap, ◌∙◌, subst, append_assoc, add-one, arith}
 use Rattle.std.specs.Io.KnownBytes.{Consumes, Keeps, IsAtEnd}
 use Rattle.std.proofs.lemmas.List.{append-nil}
-use Rattle.rank_input.specs.Takes.{Input, Taking, given, with_bytes, HasTakenSome, TakesBytes, TakesFileEnd}
+use Rattle.ghcn_files.specs.declared.element.Keep.{Keep}
+use Rattle.ghcn_series.specs.LinesRead.{Reading}
+use Rattle.rank_input.specs.declared.intake.Intake.{Intake}
+use Rattle.rank_input.specs.Takes.{FileInput, file_input, with_bytes, HasTaken, HasTakenSome, TakesBytes, TakesFileEnd}
 use Rattle.rank_input.specs.Feeding.{AreAllOf, AreFilesOf, with_file, with_files, FeedsFile, FeedsFiles}
 
 -- of all bytes that a source had, some were fed, and these are left
-pub record IsFedTo {T : Type 0} (has_taken : Taking T) (old new : T) (all left : Option (List ℕ)) : Type 0 where
+pub record IsFedTo {L : Type 0} (has_read : Reading L) (old new : Intake L) (all left : Option (List ℕ)) : Type 0 where
   pub bytes : List ℕ
   pub parts : Consumes all left bytes
-  pub taken : (i : Input) → has_taken old i → has_taken new (with_bytes i bytes)
+  pub taken : (s : FileInput) → HasTaken has_read old s → HasTaken has_read new (with_bytes s bytes)
 
 -- nothing is read at first
 consumes-nil : (all : Option (List ℕ)) → Consumes all all []
@@ -45,18 +48,18 @@ all-read (Some xs) (Some ys) (Some zs) bytes was is ends =
     sym (was ∙ ap (λ (t : List ℕ). bytes ++ t) (is ∙ ends) ∙ append-nil bytes)
 
 -- with these bytes of the current file
-abbrev with_current : Input → List ℕ → Input
-with_current i current = record {
-  query = i.query;
-  stations = i.stations;
-  files = record { ended = i.files.ended; current = current };
+abbrev with_current : FileInput → List ℕ → FileInput
+with_current s current = record {
+  keep = s.keep;
+  stations = s.stations;
+  files = record { ended = s.files.ended; current = current };
 }
 
 -- one file after some others
-with_files-one : (i : Input) (files : List (List ℕ)) (bytes : List ℕ)
-    → with_files i (files ++ bytes ∷ []) ≡ with_file (with_files i files) bytes
-with_files-one i [] bytes = refl
-with_files-one i (f ∷ fs) bytes = with_files-one (with_file i f) fs bytes
+with_files-one : (s : FileInput) (files : List (List ℕ)) (bytes : List ℕ)
+    → with_files s (files ++ bytes ∷ []) ≡ with_file (with_files s files) bytes
+with_files-one s [] bytes = refl
+with_files-one s (f ∷ fs) bytes = with_files-one (with_file s f) fs bytes
 
 -- one file more has all of its bytes
 files_of-one : (known : List (Option (List ℕ))) (files : List (List ℕ)) (one : Option (List ℕ)) (bytes : List ℕ)
@@ -67,11 +70,11 @@ files_of-one (k ∷ ks) [] one bytes all is = absurd all
 files_of-one (k ∷ ks) (f ∷ fs) one bytes all is = (all.0, files_of-one ks fs one bytes all.1 is)
 
 -- files that are fed to an intake that was given whole files
-pub given-files : (query stations : List ℕ) (ended files : List (List ℕ))
-    → with_files (given query stations ended) files ≡ given query stations (ended ++ files)
-given-files query stations ended [] = ap (given query stations) (sym (append-nil ended))
-given-files query stations ended (f ∷ fs) =
-    given-files query stations (ended ++ f ∷ []) fs ∙ ap (given query stations) (append_assoc ended (f ∷ []) fs)
+pub input-files : (keep : Keep) (stations : List ℕ) (ended files : List (List ℕ))
+    → with_files (file_input keep stations ended) files ≡ file_input keep stations (ended ++ files)
+input-files keep stations ended [] = ap (file_input keep stations) (sym (append-nil ended))
+input-files keep stations ended (f ∷ fs) =
+    input-files keep stations (ended ++ f ∷ []) fs ∙ ap (file_input keep stations) (append_assoc ended (f ∷ []) fs)
 
 -- what is known of the first files, and of one more
 pub known-more : {X : Type 0} (f : X → Option (List ℕ)) (xs : List X) (i : ℕ) (d : X) → i < length xs
@@ -92,31 +95,31 @@ known-all f [] (suc i) le = refl
 known-all f (x ∷ xs) zero le = absurd (omega arith)
 known-all f (x ∷ xs) (suc i) le = ap (λ (ks : List (Option (List ℕ))). f x ∷ ks) (known-all f xs i (omega arith))
 
-module _ {T : Type 0} (has_taken : Taking T) where
+module _ {L : Type 0} (has_read : Reading L) where
   -- with no bytes more
-  with_bytes-nil : (t : T) (i : Input) → has_taken t i → has_taken t (with_bytes i [])
-  with_bytes-nil t i is =
-      subst (λ (current : List ℕ). has_taken t (with_current i current)) (sym (append-nil i.files.current)) is
+  with_bytes-nil : (t : Intake L) (s : FileInput) → HasTaken has_read t s → HasTaken has_read t (with_bytes s [])
+  with_bytes-nil t s is =
+      subst (λ (current : List ℕ). HasTaken has_read t (with_current s current)) (sym (append-nil s.files.current)) is
 
   -- nothing is fed at first
-  pub fed-nothing : (t : T) (all : Option (List ℕ)) → IsFedTo has_taken t t all all
-  fed-nothing t all = record { bytes = []; parts = consumes-nil all; taken = λ i is. with_bytes-nil t i is }
+  pub fed-nothing : (t : Intake L) (all : Option (List ℕ)) → IsFedTo has_read t t all all
+  fed-nothing t all = record { bytes = []; parts = consumes-nil all; taken = λ s is. with_bytes-nil t s is }
 
   -- a piece more is fed
-  pub fed-more : (old mid new : T) (all left next : Option (List ℕ)) (piece : List ℕ)
-      → IsFedTo has_taken old mid all left → Consumes left next piece → TakesBytes has_taken mid new piece
-      → IsFedTo has_taken old new all next
+  pub fed-more : (old mid new : Intake L) (all left next : Option (List ℕ)) (piece : List ℕ)
+      → IsFedTo has_read old mid all left → Consumes left next piece → TakesBytes has_read mid new piece
+      → IsFedTo has_read old new all next
   fed-more old mid new all left next piece was is takes = record {
     bytes = was.bytes ++ piece;
     parts = consumes-more all left next was.bytes piece was.parts is;
-    taken = λ i has.
-        subst (λ (current : List ℕ). has_taken new (with_current i current))
-        (append_assoc i.files.current was.bytes piece) (takes.holds (with_bytes i was.bytes) (was.taken i has));
+    taken = λ s has.
+        subst (λ (current : List ℕ). HasTaken has_read new (with_current s current))
+        (append_assoc s.files.current was.bytes piece) (takes.holds (with_bytes s was.bytes) (was.taken s has));
   }
 
   -- a read that returned nothing
-  pub fed-kept : (old new : T) (all left next : Option (List ℕ)) → IsFedTo has_taken old new all left
-      → Keeps left next → IsFedTo has_taken old new all next
+  pub fed-kept : (old new : Intake L) (all left next : Option (List ℕ)) → IsFedTo has_read old new all left
+      → Keeps left next → IsFedTo has_read old new all next
   fed-kept old new all left next was is = record {
     bytes = was.bytes;
     parts = consumes-kept all left next was.bytes was.parts is;
@@ -124,50 +127,50 @@ module _ {T : Type 0} (has_taken : Taking T) where
   }
 
   -- the end of a file is fed
-  pub fed-whole : (old mid new : T) (all left next : Option (List ℕ)) → IsFedTo has_taken old mid all left
-      → Consumes left next [] → IsAtEnd next → TakesFileEnd has_taken mid new → FeedsFile has_taken old new all
+  pub fed-whole : (old mid new : Intake L) (all left next : Option (List ℕ)) → IsFedTo has_read old mid all left
+      → Consumes left next [] → IsAtEnd next → TakesFileEnd has_read mid new → FeedsFile has_read old new all
   fed-whole old mid new all left next was is ends takes = record {
     bytes = was.bytes;
     all = all-read all left next was.bytes was.parts is ends;
-    taken = λ i has. takes.holds (with_bytes i was.bytes) (was.taken i has);
+    taken = λ s has. takes.holds (with_bytes s was.bytes) (was.taken s has);
   }
 
   -- the same if a read returned nothing
-  pub fed-end : (old mid new : T) (all left next : Option (List ℕ)) (n : ℕ) (buffer : List ℕ)
-      → IsFedTo has_taken old mid all left
+  pub fed-end : (old mid new : Intake L) (all left next : Option (List ℕ)) (n : ℕ) (buffer : List ℕ)
+      → IsFedTo has_read old mid all left
       → n ≡ 0 → Consumes left next (take n buffer) × (n ≡ 0 → 0 < length buffer → IsAtEnd next) → 0 < length buffer
-      → TakesFileEnd has_taken mid new → FeedsFile has_taken old new all
+      → TakesFileEnd has_read mid new → FeedsFile has_read old new all
   fed-end old mid new all left next n buffer was none is some takes =
       fed-whole old mid new all left next was (subst (λ k. Consumes left next (take k buffer)) none is.0)
       (is.1 none some)
       takes
 
   -- something was given if something was before
-  pub fed-some : (old new : T) (all left : Option (List ℕ)) → HasTakenSome has_taken old
-      → IsFedTo has_taken old new all left → HasTakenSome has_taken new
+  pub fed-some : (old new : Intake L) (all left : Option (List ℕ)) → HasTakenSome has_read old
+      → IsFedTo has_read old new all left → HasTakenSome has_read new
   fed-some old new all left some was = (with_bytes some.0 was.bytes, was.taken some.0 some.1)
 
   -- no file is fed
-  pub files-none : (t : T) → FeedsFiles has_taken t t []
+  pub files-none : (t : Intake L) → FeedsFiles has_read t t []
   files-none t = record { files = []; all = tt; taken = λ i is. is }
 
   -- one file more is fed
-  pub files-more : (old mid new : T) (known : List (Option (List ℕ))) (one : Option (List ℕ))
-      → FeedsFiles has_taken old mid known
-      → FeedsFile has_taken mid new one → FeedsFiles has_taken old new (known ++ one ∷ [])
+  pub files-more : (old mid new : Intake L) (known : List (Option (List ℕ))) (one : Option (List ℕ))
+      → FeedsFiles has_read old mid known
+      → FeedsFile has_read mid new one → FeedsFiles has_read old new (known ++ one ∷ [])
   files-more old mid new known one was is = record {
     files = was.files ++ is.bytes ∷ [];
     all = files_of-one known was.files one is.bytes was.all is.all;
-    taken = λ i has.
-        subst (has_taken new) (sym (with_files-one i was.files is.bytes))
-        (is.taken (with_files i was.files) (was.taken i has));
+    taken = λ s has.
+        subst (HasTaken has_read new) (sym (with_files-one s was.files is.bytes))
+        (is.taken (with_files s was.files) (was.taken s has));
   }
 
   -- one file more of a list is fed
-  pub files-next : {X : Type 0} (old mid new : T) (f : X → Option (List ℕ)) (xs : List X) (i : ℕ) (x : X)
+  pub files-next : {X : Type 0} (old mid new : Intake L) (f : X → Option (List ℕ)) (xs : List X) (i : ℕ) (x : X)
       (known : Option (List ℕ)) → i < length xs → get_or xs i x ≡ x → known ≡ f x
-      → FeedsFiles has_taken old mid (map f (take i xs))
-      → FeedsFile has_taken mid new known → FeedsFiles has_taken old new (map f (take (i + 1) xs))
+      → FeedsFiles has_read old mid (map f (take i xs))
+      → FeedsFile has_read mid new known → FeedsFiles has_read old new (map f (take (i + 1) xs))
   files-next old mid new f xs i x known lt at same was is =
-      subst (FeedsFiles has_taken old new) (sym (known-more f xs i x lt ∙ ap (λ y. map f (take i xs) ++ f y ∷ []) at))
-      (files-more old mid new (map f (take i xs)) (f x) was (subst (FeedsFile has_taken mid new) same is))
+      subst (FeedsFiles has_read old new) (sym (known-more f xs i x lt ∙ ap (λ y. map f (take i xs) ++ f y ∷ []) at))
+      (files-more old mid new (map f (take i xs)) (f x) was (subst (FeedsFile has_read mid new) same is))

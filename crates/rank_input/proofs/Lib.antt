@@ -3,7 +3,7 @@ pub mod Crews
 pub mod Texts
 pub mod Reading
 pub mod Feedings
-pub mod Descriptions
+pub mod Questions
 pub mod Openings
 pub mod Naming
 pub mod NamingFolders

@@ -1,109 +1,89 @@
 -- What an intake takes, and what it returns at its end.
-use Rattle.std.proofs.Common.{◌≡◌, List, ℕ, true, refl, subst}
-use Rattle.std.specs.Prelude.{Result, Ok}
+use Rattle.std.proofs.Common.{◌≡◌, List, ℕ, refl, subst}
+use Rattle.std.specs.Prelude.{Result, Ok, Err}
 use Rattle.ghcn_files.specs.declared.station.Station.{Station}
 use Rattle.ghcn_files.specs.Listed.{listed}
+use Rattle.ghcn_series.specs.declared.cutter.Cutter.{Cutter}
 use Rattle.ghcn_series.specs.declared.fault.DataFault.{DataFault}
 use Rattle.ghcn_series.specs.declared.fault.DataFault.TheVariants as daily
-use Rattle.ghcn_series.specs.declared.pieces.DataReader.{DataReader}
-use Rattle.ghcn_series.specs.Series.{Contents}
+use Rattle.ghcn_series.specs.Cut.{TakesPiece, EndsFile, MakesFed, RefusesFed}
 use Rattle.ghcn_series.specs.DailyFaults.{is_memory as is_data_memory}
-use Rattle.ghcn_series.specs.Says.{data_of}
 use Rattle.ghcn_series.specs.Fed.{files_of}
-use Rattle.ghcn_series.specs.declared.counts.Warnings.{Warnings}
-use Rattle.ghcn_series.specs.Pieces as pieces
-use Rattle.ghcn_series.specs.Pieces.{TakesPiece, EndsFile, HoldsFed, RefusesFed}
-use Rattle.rank_query.specs.Asked.{Asked}
-use Rattle.rank_query.specs.Reading.{read_query}
-use Rattle.rank_query.proofs.Asks.{read_asks}
+use Rattle.ghcn_series.specs.LinesRead.{Reading, Making}
+use Rattle.ghcn_series.specs.Says.{data_of}
 use Rattle.ghcn_fields.specs.Refusals.{IsRefusal}
 use Rattle.rank_input.specs.declared.fault.Fault.{Fault}
 use Rattle.rank_input.specs.declared.intake.Intake.{Intake}
-use Rattle.rank_input.specs.Input.{of_data, is_memory, read_input}
-use Rattle.rank_input.specs.Takes.{Input, TakesBytes, TakesFileEnd}
-use Rattle.rank_input.specs.Taken.{HasTaken, IsReading, IsRead, fed_for, AreWarningsOf, HoldsInput, RefusesInput}
+use Rattle.rank_input.specs.Input.{of_data, is_memory, read_files}
+use Rattle.rank_input.specs.Takes.{FileInput, fed_for, IsReading, IsRead, HasTaken, TakesBytes, TakesFileEnd}
+use Rattle.rank_input.specs.Takes.{MakesTaken, RefusesTaken}
 
--- an intake with a reader reads what it was given
-reading_of : (t : Intake) (q : Asked) (r : DataReader) (i : Input) → t.read ≡ Ok (q, r) → HasTaken t i
-    → IsReading i q r
-reading_of t q r i is taken = subst (λ (read : Result (Asked × DataReader) Fault). IsRead read i) is taken
+-- the refusal of the daily files is that of all files
+refused_files : (stations : List ℕ) (files : List (List ℕ)) (list : List Station) (fault : DataFault)
+    → listed stations ≡ Ok list → IsRefusal is_data_memory fault (data_of list files)
+    → IsRefusal is_memory (of_data fault) (read_files stations files)
+refused_files stations files list (daily.Memory m) lists is = tt
+refused_files stations files list daily.TooManyFiles lists is = rw (lists, is) refl
+refused_files stations files list (daily.DailyLine file line why) lists is = rw (lists, is) refl
 
--- an intake takes the bytes that its reader takes
-pub reader_takes : (old : Intake) (q : Asked) (r r' : DataReader) (count : ℕ) (bytes : List ℕ) → old.read ≡ Ok (q, r)
-    → TakesPiece r r' bytes → TakesBytes HasTaken old (record { bytes = count; read = Ok (q, r') }) bytes
-reader_takes old q r r' count bytes is takes = record {
-  holds = λ i taken.
-      let reading = reading_of old q r i is taken in
-      record {
-        stations = reading.stations;
-        asks = reading.asks;
-        lists = reading.lists;
-        fed = takes.holds (fed_for q reading.stations i.files) reading.fed;
-      };
-}
+module _ {L : Type 0} (has_read : Reading L) where
+  -- an intake with a cutter reads what it was given
+  reading_of : (t : Intake L) (c : Cutter L) (s : FileInput) → t.read ≡ Ok c → HasTaken has_read t s
+      → IsReading has_read s c
+  reading_of t c s is taken = subst (λ (read : Result (Cutter L) Fault). IsRead has_read read s) is taken
 
--- an intake ends the file that its reader ends
-pub reader_ends : (old : Intake) (q : Asked) (r r' : DataReader) (count : ℕ) → old.read ≡ Ok (q, r)
-    → EndsFile r r' → TakesFileEnd HasTaken old (record { bytes = count; read = Ok (q, r') })
-reader_ends old q r r' count is ends = record {
-  holds = λ i taken.
-      let reading = reading_of old q r i is taken in
-      record {
-        stations = reading.stations;
-        asks = reading.asks;
-        lists = reading.lists;
-        fed = ends.holds (fed_for q reading.stations i.files) reading.fed;
-      };
-}
-
--- what a reader warns of is what the intake does
-pub reader_warnings : (t : Intake) (q : Asked) (r : DataReader) (warnings : Warnings) → t.read ≡ Ok (q, r)
-    → pieces.AreWarningsOf r warnings → AreWarningsOf t warnings
-reader_warnings t q r warnings is are = record {
-  is = λ i taken.
-      let reading = reading_of t q r i is taken in
-      are.is (fed_for q reading.stations i.files) reading.fed;
-}
-
--- the refusal of the daily files is that of the input
-refused_data : (query stations : List ℕ) (files : List (List ℕ)) (q : Asked) (list : List Station)
-    (fault : DataFault) → read_query query ≡ Ok q → listed stations ≡ Ok list
-    → IsRefusal is_data_memory fault (data_of list files)
-    → IsRefusal is_memory (of_data fault) (read_input query stations files)
-refused_data query stations files q list (daily.Memory m) asks lists is = tt
-refused_data query stations files q list daily.TooManyFiles asks lists is = rw (asks, lists, is) refl
-refused_data query stations files q list (daily.DailyLine file line why) asks lists is =
-    rw (asks, lists, is) refl
-
--- a reader's data are what the input holds
-pub holds_input : (t : Intake) (q : Asked) (r : DataReader) (dataset : Contents) → t.read ≡ Ok (q, r)
-    → HoldsFed r dataset → HoldsInput t q dataset
-holds_input t q r dataset is holds = record {
-  is = λ i taken.
-      let reading = reading_of t q r i is taken in
-      let are = holds.is (fed_for q reading.stations i.files) reading.fed in
-      record {
-        whole = are.whole;
-        read = record {
-          list = reading.stations;
-          asks = read_asks i.query q reading.asks;
+  -- an intake takes the bytes that its cutter takes
+  pub cutter_takes : (old : Intake L) (c c' : Cutter L) (count : ℕ) (bytes : List ℕ) → old.read ≡ Ok c
+      → TakesPiece has_read c c' bytes → TakesBytes has_read old (record { bytes = count; read = Ok c' }) bytes
+  cutter_takes old c c' count bytes is takes = record {
+    holds = λ s taken.
+        let reading = reading_of old c s is taken in
+        record {
+          list = reading.list;
           lists = reading.lists;
-          holds = are.read;
+          fed = takes.holds (fed_for s reading.list) reading.fed;
         };
-        needed = are.is;
-      };
-}
+  }
 
--- a reader's refusal is that of the input
-pub refuses_input : (t : Intake) (q : Asked) (r : DataReader) (fault : DataFault) → t.read ≡ Ok (q, r)
-    → RefusesFed r fault → RefusesInput t (of_data fault)
-refuses_input t q r fault is refuses = record {
-  is = λ i taken.
-      let reading = reading_of t q r i is taken in
-      refused_data i.query i.stations (files_of i.files) q reading.stations fault reading.asks reading.lists
-      (refuses.is (fed_for q reading.stations i.files) reading.fed);
-}
+  -- an intake ends the file that its cutter ends
+  pub cutter_ends : (old : Intake L) (c c' : Cutter L) (count : ℕ) → old.read ≡ Ok c
+      → EndsFile has_read c c' → TakesFileEnd has_read old (record { bytes = count; read = Ok c' })
+  cutter_ends old c c' count is ends = record {
+    holds = λ s taken.
+        let reading = reading_of old c s is taken in
+        record {
+          list = reading.list;
+          lists = reading.lists;
+          fed = ends.holds (fed_for s reading.list) reading.fed;
+        };
+  }
 
--- out of memory is a refusal of any input
-pub memory_refuses : (t : Intake) (fault : Fault) → is_memory fault ≡ true → RefusesInput t fault
-memory_refuses t fault is = record { is = λ i taken. rw is tt }
+  -- what is made of the files that a cutter was fed is made of those that were given
+  pub makes_taken : {D : Type 0} (makes : Making D) (t : Intake L) (c : Cutter L) (done : D) → t.read ≡ Ok c
+      → MakesFed has_read makes c done → MakesTaken has_read makes t done
+  makes_taken makes t c done is made = record {
+    is = λ s taken.
+        let reading = reading_of t c s is taken in
+        record {
+          list = reading.list;
+          lists = reading.lists;
+          made = made.is (fed_for s reading.list) reading.fed;
+        };
+  }
+
+  -- a cutter's refusal is that of the files that were given
+  pub refuses_taken : (t : Intake L) (c : Cutter L) (fault : DataFault) → t.read ≡ Ok c
+      → RefusesFed has_read c fault → RefusesTaken has_read t (of_data fault)
+  refuses_taken t c fault is refuses = record {
+    is = λ s taken.
+        let reading = reading_of t c s is taken in
+        refused_files s.stations (files_of s.files) reading.list fault reading.lists
+        (refuses.is (fed_for s reading.list) reading.fed);
+  }
+
+  -- an error before the daily files is that of all files
+  pub refused_before : (t : Intake L) (fault : Fault) → t.read ≡ Err fault → RefusesTaken has_read t fault
+  refused_before t fault is = record {
+    is = λ s taken.
+        (subst (λ (read : Result (Cutter L) Fault). IsRead has_read read s) is taken).whatever (files_of s.files);
+  }

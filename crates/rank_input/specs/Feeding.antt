@@ -1,8 +1,10 @@
--- What is read of files, and fed to a taker.
+-- What is read of files, and fed to an intake.
 use Rattle.std.specs.Prelude.{◌≡◌, ℕ, Bool, true, List, [], ◌∷◌, ◌++◌, Option, None, Some, Result, Ok, Err, ⊤}
 use Rattle.std.specs.List.{AllZip, AllByRecursion}
 use Rattle.ghcn_fields.specs.Refusals.{OrMemory}
-use Rattle.rank_input.specs.Takes.{Input, Taking, with_bytes, with_file_end}
+use Rattle.ghcn_series.specs.LinesRead.{Reading}
+use Rattle.rank_input.specs.declared.intake.Intake.{Intake}
+use Rattle.rank_input.specs.Takes.{FileInput, HasTaken, with_bytes, with_file_end}
 
 -- these are all the bytes of a file, if those are known
 abbrev pub AreAllOf : Option (List ℕ) → List ℕ → Type 0
@@ -39,22 +41,23 @@ pub record StopsAt (opens : Opening) (paths : List (List ℕ)) (path : List ℕ)
   pub tried : IsTried opens path
 
 -- with one file more
-abbrev pub with_file : Input → List ℕ → Input
-with_file i bytes = with_file_end (with_bytes i bytes)
+abbrev pub with_file : FileInput → List ℕ → FileInput
+with_file s bytes = with_file_end (with_bytes s bytes)
 
 -- with these files more
-abbrev pub with_files : Input → List (List ℕ) → Input
-with_files i [] = i
-with_files i (bytes ∷ files) = with_files (with_file i bytes) files
+abbrev pub with_files : FileInput → List (List ℕ) → FileInput
+with_files s [] = s
+with_files s (bytes ∷ files) = with_files (with_file s bytes) files
 
--- a taker is fed all bytes of a file as one
-pub record FeedsFile {T : Type 0} (has_taken : Taking T) (old new : T) (known : Option (List ℕ)) : Type 0 where
+-- an intake is fed all bytes of a file as one
+pub record FeedsFile {L : Type 0} (has_read : Reading L) (old new : Intake L) (known : Option (List ℕ)) : Type 0 where
   pub bytes : List ℕ
   pub all : AreAllOf known bytes
-  pub taken : (i : Input) → has_taken old i → has_taken new (with_file i bytes)
+  pub taken : (s : FileInput) → HasTaken has_read old s → HasTaken has_read new (with_file s bytes)
 
--- a taker is fed all bytes of each of these files, in order
-pub record FeedsFiles {T : Type 0} (has_taken : Taking T) (old new : T) (known : List (Option (List ℕ))) : Type 0 where
+-- an intake is fed all bytes of each of these files, in order
+pub record FeedsFiles {L : Type 0} (has_read : Reading L) (old new : Intake L) (known : List (Option (List ℕ)))
+    : Type 0 where
   pub files : List (List ℕ)
   pub all : AreFilesOf known files
-  pub taken : (i : Input) → has_taken old i → has_taken new (with_files i files)
+  pub taken : (s : FileInput) → HasTaken has_read old s → HasTaken has_read new (with_files s files)

@@ -2,7 +2,6 @@ pub mod Input
 pub mod Takes
 pub mod Taken
 pub mod Feeding
-pub mod Described
 pub mod FaultTexts
 pub mod Named
 pub mod NamingStops

@@ -1,42 +1,88 @@
--- What a taker of files was given, and what each of its steps takes.
-use Rattle.std.specs.Prelude.{ℕ, List}
-use Rattle.ghcn_series.specs.Fed.{Files, ended_files, more, with_end, files_of}
+-- What an intake of files was given, and what each of its steps takes.
+use Rattle.std.specs.Prelude.{◌≡◌, ℕ, List, Result, Ok, Err}
+use Rattle.ghcn_fields.specs.Refusals.{IsRefusal}
+use Rattle.ghcn_files.specs.declared.element.Keep.{Keep}
+use Rattle.ghcn_files.specs.declared.station.Station.{Station}
+use Rattle.ghcn_files.specs.Listed.{listed}
+use Rattle.ghcn_series.specs.declared.cutter.Cutter.{Cutter}
+use Rattle.ghcn_series.specs.Cut.{HasFed}
+use Rattle.ghcn_series.specs.Fed.{Files, Fed, ended_files, more, with_end, files_of}
+use Rattle.ghcn_series.specs.LinesRead.{Reading, Making}
+use Rattle.rank_input.specs.declared.fault.Fault.{Fault}
+use Rattle.rank_input.specs.declared.intake.Intake.{Intake}
+use Rattle.rank_input.specs.Input.{read_files, is_memory}
 
--- what was given: a query, if one is asked, the station list, and the daily files as they came
-pub record Input : Type 0 where
-  pub query : List ℕ
+-- what was given: of which elements the values are kept, the station list, and the daily files as they came
+pub record FileInput : Type 0 where
+  pub keep : Keep
   pub stations : List ℕ
   pub files : Files
 
--- a query, the station list, and these daily files
-abbrev pub given : List ℕ → List ℕ → List (List ℕ) → Input
-given query stations files = record { query = query; stations = stations; files = ended_files files }
+-- the station list and these daily files
+abbrev pub file_input : Keep → List ℕ → List (List ℕ) → FileInput
+file_input keep stations files = record { keep = keep; stations = stations; files = ended_files files }
 
 -- with more bytes of the current file
-abbrev pub with_bytes : Input → List ℕ → Input
-with_bytes i bytes = record { query = i.query; stations = i.stations; files = more i.files bytes }
+abbrev pub with_bytes : FileInput → List ℕ → FileInput
+with_bytes s bytes = record { keep = s.keep; stations = s.stations; files = more s.files bytes }
 
 -- with the current file ended, even if it is empty
-abbrev pub with_file_end : Input → Input
-with_file_end i = record { query = i.query; stations = i.stations; files = with_end i.files }
+abbrev pub with_file_end : FileInput → FileInput
+with_file_end s = record { keep = s.keep; stations = s.stations; files = with_end s.files }
 
--- when a taker of files was given an input
-abbrev pub Taking : Type 0 → Type 1
-Taking T = T → Input → Type 0
+-- what a reader of lines is fed for the stations of a list
+abbrev pub fed_for : FileInput → List Station → Fed
+fed_for s list = record { keep = s.keep; stations = list; files = s.files }
 
--- a taker was given something
-abbrev pub HasTakenSome : {T : Type 0} → Taking T → T → Type 0
-HasTakenSome has_taken t = (i : Input) × has_taken t i
+-- the station list has no error, and a cutter was fed the daily files for its stations
+pub record IsReading {L : Type 0} (has_read : Reading L) (s : FileInput) (c : Cutter L) : Type 0 where
+  pub list : List Station
+  pub lists : listed s.stations ≡ Ok list
+  pub fed : HasFed has_read c (fed_for s list)
 
--- a taker takes more bytes of the current file
-pub record TakesBytes {T : Type 0} (has_taken : Taking T) (old new : T) (bytes : List ℕ) : Type 0 where
-  pub holds : (i : Input) → has_taken old i → has_taken new (with_bytes i bytes)
+-- out of memory, or the error of the station list, whatever the daily files are
+pub record IsRefusedBefore (s : FileInput) (fault : Fault) : Type 0 where
+  pub whatever : (files : List (List ℕ)) → IsRefusal is_memory fault (read_files s.stations files)
 
--- a taker takes the end of the current file
-pub record TakesFileEnd {T : Type 0} (has_taken : Taking T) (old new : T) : Type 0 where
-  pub holds : (i : Input) → has_taken old i → has_taken new (with_file_end i)
+-- what was given is read by a cutter, or has an error before the daily files
+abbrev pub IsRead : {L : Type 0} → Reading L → Result (Cutter L) Fault → FileInput → Type 0
+IsRead has_read (Ok c) s = IsReading has_read s c
+IsRead has_read (Err fault) s = IsRefusedBefore s fault
 
--- this is true of the query, the station list and the daily files that a taker was given
-pub record IsTrueOf {T : Type 0} (has_taken : Taking T) (t : T) (P : List ℕ → List ℕ → List (List ℕ) → Type 0)
+-- an intake was given this
+abbrev pub HasTaken : {L : Type 0} → Reading L → Intake L → FileInput → Type 0
+HasTaken has_read t s = IsRead has_read t.read s
+
+-- an intake was given something
+abbrev pub HasTakenSome : {L : Type 0} → Reading L → Intake L → Type 0
+HasTakenSome has_read t = (s : FileInput) × HasTaken has_read t s
+
+-- an intake takes more bytes of the current file
+pub record TakesBytes {L : Type 0} (has_read : Reading L) (old new : Intake L) (bytes : List ℕ) : Type 0 where
+  pub holds : (s : FileInput) → HasTaken has_read old s → HasTaken has_read new (with_bytes s bytes)
+
+-- an intake takes the end of the current file
+pub record TakesFileEnd {L : Type 0} (has_read : Reading L) (old new : Intake L) : Type 0 where
+  pub holds : (s : FileInput) → HasTaken has_read old s → HasTaken has_read new (with_file_end s)
+
+-- the station list has no error, and this is made of the daily files for its stations
+pub record IsMade {D : Type 0} (makes : Making D) (keep : Keep) (stations : List ℕ) (files : List (List ℕ)) (done : D)
     : Type 0 where
-  pub is : (i : Input) → has_taken t i → P i.query i.stations (files_of i.files)
+  pub list : List Station
+  pub lists : listed stations ≡ Ok list
+  pub made : makes list keep files done
+
+-- whatever an intake was given, this is true of the elements, the station list and the daily files
+pub record IsTrueOf {L : Type 0} (has_read : Reading L) (t : Intake L)
+    (P : Keep → List ℕ → List (List ℕ) → Type 0) : Type 0 where
+  pub is : (s : FileInput) → HasTaken has_read t s → P s.keep s.stations (files_of s.files)
+
+-- this is made of the files that an intake was given
+abbrev pub MakesTaken : {L D : Type 0} → Reading L → Making D → Intake L → D → Type 0
+MakesTaken has_read makes t done =
+    IsTrueOf has_read t (λ keep stations files. IsMade makes keep stations files done)
+
+-- out of memory, or the first error of the files that an intake was given
+abbrev pub RefusesTaken : {L : Type 0} → Reading L → Intake L → Fault → Type 0
+RefusesTaken has_read t fault =
+    IsTrueOf has_read t (λ keep stations files. IsRefusal is_memory fault (read_files stations files))

@@ -4,8 +4,9 @@ ghost use Rattle.std.specs.Prelude.{◌≡◌, true, IfOk, IfErr, OnOk, map, str
 ghost use Rattle.rank_input.specs.Feeding.{AreAllOf, AreOpened, FeedsFile, FeedsFiles, IsTried, StopsAt};
 ghost use Rattle.rank_input.specs.Takes.{HasTakenSome};
 
+use crate::intake::Intake;
 use crate::named::below;
-use crate::taker::Taker;
+use ghcn_series::LineReader;
 use std::alloc::{AllocError, Global};
 use std::fs::File;
 use std::io::Read;
@@ -123,16 +124,16 @@ pub fn read_whole<A: Archive>(alloc: Global, archive: &A, path: &str) -> io::Res
 
 /// Feeds daily files in their order, each by pieces of the buffer's length, or returns the path of
 /// the first that can't be read.
-pub fn feed_files<'p, A: Archive, T: Taker>(
+pub fn feed_files<'p, A: Archive, L: LineReader>(
     archive: &A,
-    taker: &mut T,
+    intake: &mut Intake<L>,
     paths: &'p [String],
     buffer: &mut [u8],
 ) -> Result<(), &'p str>
-    requires { HasTakenSome T.has_taken taker.old }
-    ensures fed { OnOk result (FeedsFiles T.has_taken taker.old taker.new
+    requires { HasTakenSome L.has_read intake.old }
+    ensures fed { OnOk result (FeedsFiles L.has_read intake.old intake.new
         (map (λ path. A.bytes_of archive.now (string_bytes path)) paths.now)) }
-    ensures going { OnOk result (HasTakenSome T.has_taken taker.new) }
+    ensures going { OnOk result (HasTakenSome L.has_read intake.new) }
     ensures opened { OnOk result (AreOpened (A.opens archive.now) (map string_bytes paths.now)) }
     ensures stopped { IfErr result (λ path. StopsAt (A.opens archive.now) (map string_bytes paths.now) path.now) }
 {
@@ -140,7 +141,7 @@ pub fn feed_files<'p, A: Archive, T: Taker>(
         let Ok(mut file) = archive.open(path) else {
             return Err(path);
         };
-        let Ok(()) = feed(taker, &mut file, buffer) else {
+        let Ok(()) = feed(intake, &mut file, buffer) else {
             return Err(path);
         };
     }
@@ -149,10 +150,14 @@ pub fn feed_files<'p, A: Archive, T: Taker>(
 
 /// Feeds all bytes that a source has left as one daily file. A read that was interrupted is tried
 /// again.
-pub fn feed<T: Taker, S: Read>(taker: &mut T, source: &mut S, buffer: &mut [u8]) -> io::Result<()>
-    requires { HasTakenSome T.has_taken taker.old }
-    ensures fed { OnOk result (FeedsFile T.has_taken taker.old taker.new (S.remaining source.old)) }
-    ensures going { OnOk result (HasTakenSome T.has_taken taker.new) }
+pub fn feed<L: LineReader, S: Read>(
+    intake: &mut Intake<L>,
+    source: &mut S,
+    buffer: &mut [u8],
+) -> io::Result<()>
+    requires { HasTakenSome L.has_read intake.old }
+    ensures fed { OnOk result (FeedsFile L.has_read intake.old intake.new (S.remaining source.old)) }
+    ensures going { OnOk result (HasTakenSome L.has_read intake.new) }
 {
     if buffer.is_empty() {
         return Err(io::Error::from(io::ErrorKind::InvalidInput));
@@ -160,10 +165,10 @@ pub fn feed<T: Taker, S: Read>(taker: &mut T, source: &mut S, buffer: &mut [u8])
     for _ in 0..u64::MAX {
         match source.read(buffer) {
             Ok(0) => {
-                taker.end_of_file();
+                intake.end_of_file();
                 return Ok(());
             }
-            Ok(count) => taker.piece(&buffer[..count]),
+            Ok(count) => intake.piece(&buffer[..count]),
             Err(error) => {
                 if error.kind() != io::ErrorKind::Interrupted {
                     return Err(error);

@@ -1,105 +1,87 @@
-//! What a run is asked and the texts that it is given, taken piece by piece.
+//! A station list and daily files, taken piece by piece.
 
-ghost use Rattle.std.specs.Prelude.{[], IfOk, IfErr, map};
-ghost use Rattle.rank_input.specs.Takes.{given};
-ghost use Rattle.rank_input.specs.Taken.{HasTaken, HasTakenSome, IsRead};
-ghost use Rattle.rank_input.specs.Taken.{AreWarningsOf, HoldsInput, RefusesInput};
+ghost use Rattle.std.specs.Prelude.{[], IfOk, IfErr};
+ghost use Rattle.rank_input.specs.Takes.{FileInput, file_input};
+ghost use Rattle.rank_input.specs.Takes.{HasTaken, HasTakenSome, IsRead, TakesBytes, TakesFileEnd};
+ghost use Rattle.rank_input.specs.Takes.{MakesTaken, RefusesTaken};
 
 use crate::fault::Fault;
-use crate::taker::Taker;
-use ghcn_files::Stations;
-use ghcn_series::{Data, DataReader, Warnings};
-use rank_query::Query;
+use ghcn_fields::Memory;
+use ghcn_files::{Keep, Stations};
+use ghcn_series::{Cutter, LineReader};
 use std::alloc::Global;
 
-/// What a run is asked, and what was read of all that it was given.
+/// What was given so far of a station list and daily files, for a reader of lines. It never returns an error while it
+/// is given more: the first one is kept, what comes after it is taken and skipped, and the end returns it.
 #[derive(Drop)]
-pub struct TakenInput {
-    pub query: Query,
-    /// What the query needs of the data.
-    pub dataset: Data,
-    /// The foreign ones among the daily files, and their odd lines.
-    pub warnings: Warnings,
-}
-
-/// What a run was given so far. It never returns an error while it is given more: the first one is
-/// kept, what comes after it is taken and skipped, and the end returns it.
-#[derive(Drop)]
-pub struct Intake {
+pub struct Intake<L> {
     /// How many bytes of daily files came, or 2^64 - 1 if there are more.
     pub bytes: u64,
-    /// What is asked, and a reader of the daily files of the listed stations, which keeps the series
-    /// of the query's element; or the error before these files.
-    read: Result<(Query, DataReader), Fault>,
+    /// Cuts the daily files into lines for the listed stations; or the error before these files.
+    read: Result<Cutter<L>, Fault>,
 }
 
-impl Intake {
-    /// Takes what is asked, and the whole station list; an error comes in the order of the arguments.
-    pub fn new(alloc: Global, query: &str, stations: &[u8]) -> Self
-        ensures { HasTaken result (given query.now stations.now []) }
+impl<L: LineReader> Intake<L> {
+    /// Takes the whole station list. The values of a set of elements are kept.
+    pub fn new(alloc: Global, stations: &[u8], keep: Keep) -> Self
+        ensures taken { HasTaken L.has_read result (file_input keep stations.now []) }
+        ensures going { HasTakenSome L.has_read result }
     {
         Intake {
             bytes: 0,
-            read: open(alloc, query, stations),
+            read: open(alloc, stations, keep),
         }
     }
 
-    /// Takes what is asked, the station list and all daily files.
-    pub fn of_files(alloc: Global, query: &str, stations: &[u8], files: &[&[u8]]) -> Self
-        ensures { HasTaken result (given query.now stations.now (map (λ file. file.now) files.now)) }
+    /// Reads nothing, as if memory had run out, whatever it is given.
+    pub(crate) fn closed() -> Self
+        ensures taken { (s : FileInput) → HasTaken L.has_read result s }
     {
-        let mut intake = Intake::new(alloc, query, stations);
-        for file in files {
-            intake.piece(file);
-            intake.end_of_file();
+        Intake {
+            bytes: 0,
+            read: Err(Fault::Memory(Memory)),
         }
-        intake
     }
 
-    /// The query, what it needs of the data of all that was given, the foreign files and the odd lines; or the first
-    /// error in the order: query, stations, number of daily files, files and lines in order. The
-    /// current file is ended if it has a byte.
-    pub fn finish(self) -> Result<TakenInput, Fault>
-        requires { HasTakenSome self }
-        ensures ok { IfOk result (λ taken. HoldsInput self taken.query taken.dataset) }
-        ensures warnings { IfOk result (λ taken. AreWarningsOf self taken.warnings) }
-        ensures err { IfErr result (RefusesInput self) }
+    /// Takes more bytes of the current daily file.
+    pub fn piece(&mut self, bytes: &[u8])
+        requires { HasTakenSome L.has_read self.old }
+        ensures taken { TakesBytes L.has_read self.old self.new bytes.now }
+        ensures going { HasTakenSome L.has_read self.new }
     {
-        let (query, reader) = self.read?;
-        let (dataset, warnings) = reader.finish()?;
-        Ok(TakenInput {
-            query,
-            dataset,
-            warnings,
-        })
-    }
-}
-
-impl Taker for Intake {
-    ghost use Rattle.rank_input.specs.Taken.{HasTaken};
-
-    ghost has_taken = { HasTaken };
-
-    fn piece(&mut self, bytes: &[u8]) {
         self.bytes = self.bytes.saturating_add(bytes.len() as u64);
-        if let Ok((_, reader)) = &mut self.read {
-            reader.piece(bytes);
+        if let Ok(cutter) = &mut self.read {
+            cutter.piece(bytes);
         }
     }
 
-    fn end_of_file(&mut self) {
-        if let Ok((_, reader)) = &mut self.read {
-            reader.end_of_file();
+    /// Ends the current daily file, even if it is empty.
+    pub fn end_of_file(&mut self)
+        requires { HasTakenSome L.has_read self.old }
+        ensures taken { TakesFileEnd L.has_read self.old self.new }
+        ensures going { HasTakenSome L.has_read self.new }
+    {
+        if let Ok(cutter) = &mut self.read {
+            cutter.end_of_file();
         }
+    }
+
+    /// What the reader makes of all files that were given, or the first error in the order: stations, number of daily
+    /// files, files and lines in order. The current file is ended if it has a byte.
+    pub fn finish(self) -> Result<L::Done, Fault>
+        requires { HasTakenSome L.has_read self }
+        ensures ok { IfOk result (MakesTaken L.has_read L.makes self) }
+        ensures err { IfErr result (RefusesTaken L.has_read self) }
+    {
+        let cutter = self.read?;
+        Ok(cutter.finish()?)
     }
 }
 
-/// What is asked, and a reader of the daily files of the listed stations.
-fn open(alloc: Global, query: &str, stations: &[u8]) -> Result<(Query, DataReader), Fault>
-    ensures { IsRead result (given query.now stations.now []) }
+/// Cuts daily files into lines for the listed stations.
+fn open<L: LineReader>(alloc: Global, stations: &[u8], keep: Keep) -> Result<Cutter<L>, Fault>
+    ensures { IsRead L.has_read result (file_input keep stations.now []) }
 {
-    let query = Query::parse(query)?;
     let stations = Stations::read(alloc, stations)?;
-    let reader = DataReader::of_element(alloc, stations, query.element())?;
-    Ok((query, reader))
+    Ok(Cutter::<L>::new(alloc, stations, keep)?)
 }

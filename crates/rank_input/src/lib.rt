@@ -4,17 +4,15 @@
 #![tactic(auto)]
 
 mod archive;
-mod description;
 mod fault;
 mod intake;
 mod limits;
 mod named;
-mod taker;
+mod question;
 
 pub use archive::{Archive, Place, System, feed, feed_files, piece_room, read_whole};
-pub use description::DescriptionIntake;
 pub use fault::Fault;
-pub use intake::{Intake, TakenInput};
+pub use intake::Intake;
 pub use limits::{check_words, workers_for};
 pub use named::{NotNamed, list_path, name_files};
-pub use taker::Taker;
+pub use question::{Question, TakenInput};

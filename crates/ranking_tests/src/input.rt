@@ -5,29 +5,29 @@ ghost use Rattle.rank_input.specs.Taken.{HasTakenSome};
 use ghcn_fields::Memory;
 use ghcn_files::{LineWhy, StationWhy};
 use ghcn_series::DailyWhy;
-use rank_input::{Fault, Intake, Taker, workers_for};
+use rank_input::{Fault, Question, workers_for};
 use std::alloc::Global;
 use std::test::Fail;
 
 const STATIONS: &[u8] = b"ZZA00000001  10.0000   20.0000  100.0    ALPHA\n";
 
 /// Ends that many files.
-fn end_files(intake: &mut Intake, count: u64)
-    requires { HasTakenSome intake.old }
-    ensures { HasTakenSome intake.new }
+fn end_files(question: &mut Question, count: u64)
+    requires { HasTakenSome question.old }
+    ensures { HasTakenSome question.new }
 {
     for _ in 0..count {
-        intake.end_of_file();
+        question.files.end_of_file();
     }
 }
 
 /// What is reported of files of which the first begins so, that many end, and the last begins so.
 fn fault_of(alloc: Global, query: &str, first: &[u8], count: u64, last: &[u8]) -> Option<Fault> {
-    let mut intake = Intake::new(alloc, query, STATIONS);
-    intake.piece(first);
-    end_files(&mut intake, count);
-    intake.piece(last);
-    intake.finish().err()
+    let mut question = Question::new(alloc, query, STATIONS);
+    question.files.piece(first);
+    end_files(&mut question, count);
+    question.files.piece(last);
+    question.finish().err()
 }
 
 /// The error of a line of a file.

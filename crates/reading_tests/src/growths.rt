@@ -3,12 +3,13 @@
 //! A test prints `memory` if the reader met the refusal, and `answered` if it returned what it
 //! has to. It prints nothing if the station list met it.
 
-ghost use Rattle.ghcn_series.specs.Pieces.{HasFedSome};
+ghost use Rattle.ghcn_series.specs.Cut.{HasFedSome};
+ghost use Rattle.ghcn_series.specs.Gathered.{HasReadByRows};
 
 use crate::lines::line_of;
 use ghcn_fields::{Day, Memory};
-use ghcn_files::{Element, StationId, Stations};
-use ghcn_series::{Data, DataFault, DataReader};
+use ghcn_files::{Element, Keep, StationId, Stations};
+use ghcn_series::{Cutter, Data, DataFault, RowReader};
 use std::alloc::Global;
 use std::test::Fail;
 
@@ -22,9 +23,9 @@ fn month_of(head: &[u8; 21]) -> [u8; 269] {
 }
 
 /// Feeds the bytes one by one.
-fn fed(mut reader: DataReader, bytes: &[u8]) -> DataReader
-    requires { HasFedSome reader }
-    ensures { HasFedSome result }
+fn fed(mut reader: Cutter<RowReader>, bytes: &[u8]) -> Cutter<RowReader>
+    requires { HasFedSome HasReadByRows reader }
+    ensures { HasFedSome HasReadByRows result }
 {
     for byte in bytes {
         reader.piece(&[*byte]);
@@ -33,9 +34,9 @@ fn fed(mut reader: DataReader, bytes: &[u8]) -> DataReader
 }
 
 /// Feeds a month's line, which ends by a carriage return and a line feed.
-fn with_month(reader: DataReader, head: &[u8; 21]) -> DataReader
-    requires { HasFedSome reader }
-    ensures { HasFedSome result }
+fn with_month(reader: Cutter<RowReader>, head: &[u8; 21]) -> Cutter<RowReader>
+    requires { HasFedSome HasReadByRows reader }
+    ensures { HasFedSome HasReadByRows result }
 {
     fed(fed(reader, &month_of(head)), b"\r\n")
 }
@@ -43,7 +44,7 @@ fn with_month(reader: DataReader, head: &[u8; 21]) -> DataReader
 /// What two files hold: a month before the one that comes first, a month of another station and
 /// element, one of a station that isn't listed, and a last line without its line feed.
 fn read_pieces(alloc: Global, stations: Stations) -> Result<Data, DataFault> {
-    let reader = DataReader::new(alloc, stations)?;
+    let reader = Cutter::<RowReader>::new(alloc, stations, Keep::everything())?;
     let reader = with_month(reader, b"ZZA00000001202007TMAX");
     let reader = with_month(reader, b"ZZA00000001202006TMAX");
     let reader = with_month(reader, b"ZZA00000002202007PRCP");

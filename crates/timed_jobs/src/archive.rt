@@ -1,4 +1,4 @@
-//! Archives: the daily files of stations, made one after another and passed to a taker.
+//! Archives: the daily files of stations, made one after another and passed to an intake.
 
 ghost use Rattle.std.specs.Prelude.{◌<◌, OnOk};
 ghost use Rattle.rank_input.specs.Takes.{HasTakenSome};
@@ -7,7 +7,8 @@ use crate::places::{Order, id_of, number_at};
 use crate::random::Random;
 use crate::weather::{Weather, front_of};
 use ghcn_fields::Memory;
-use rank_input::Taker;
+use ghcn_series::LineReader;
+use rank_input::Intake;
 use std::alloc::Global;
 
 /// How many bytes of a file are passed at once.
@@ -23,15 +24,15 @@ const WARMTH: [usize; 4] = [0, 1, 2, 5];
 const ALL: [usize; 7] = [0, 1, 2, 3, 4, 5, 6];
 
 /// Passes the daily files of that many stations, of which one in 64 isn't listed.
-pub(crate) fn give_archive<T: Taker>(
+pub(crate) fn give_archive<L: LineReader>(
     alloc: Global,
-    taker: &mut T,
+    intake: &mut Intake<L>,
     weather: &mut Weather,
     random: &mut Random,
     stations: u32,
 ) -> Result<(), Memory>
-    requires { HasTakenSome T.has_taken taker.old }
-    ensures { OnOk result (HasTakenSome T.has_taken taker.new) }
+    requires { HasTakenSome L.has_read intake.old }
+    ensures { OnOk result (HasTakenSome L.has_read intake.new) }
 {
     let mut file = Vec::new(alloc);
     for place in 0..stations {
@@ -40,23 +41,23 @@ pub(crate) fn give_archive<T: Taker>(
         let number = number_at(Order::Rising, place, stations).wrapping_add(unlisted);
         file.clear();
         fill(&mut file, weather, random, number, bits / 64)?;
-        give(taker, &file);
+        give(intake, &file);
     }
     Ok(())
 }
 
 /// Passes a daily file by pieces.
-pub(crate) fn give<T: Taker>(taker: &mut T, file: &[u8])
-    requires { HasTakenSome T.has_taken taker.old }
-    ensures { HasTakenSome T.has_taken taker.new }
+pub(crate) fn give<L: LineReader>(intake: &mut Intake<L>, file: &[u8])
+    requires { HasTakenSome L.has_read intake.old }
+    ensures { HasTakenSome L.has_read intake.new }
 {
     let mut left = file;
     while let Some((piece, behind)) = left.split_at_checked(PIECE) {
-        taker.piece(piece);
+        intake.piece(piece);
         left = behind;
     }
-    taker.piece(left);
-    taker.end_of_file();
+    intake.piece(left);
+    intake.end_of_file();
 }
 
 /// Adds the lines of a station of a number below 2^21. Some bits say for how many years, 5 to 68, and

@@ -9,10 +9,10 @@ use crate::digest::Digest;
 use crate::place::ask_about_one;
 use crate::places::{Order, id_of, number_at, station_list};
 use crate::random::Random;
-use crate::ranking::{add_counts, new_intake, papers_of};
+use crate::ranking::{add_counts, papers_of};
 use crate::weather::{LINE, Weather, front_of};
 use ghcn_fields::Memory;
-use rank_input::{Fault, Intake};
+use rank_input::{Fault, Question};
 use std::alloc::Global;
 use std::sync::Wait;
 use std::thread::Threads;
@@ -73,12 +73,12 @@ pub(crate) fn ask_awkward<R: Threads + Wait + AllocGlobal + Sync>(
 /// Ranks what was taken.
 fn rank_taken<R: Threads + Wait + AllocGlobal + Sync>(
     rt: &R,
-    intake: Intake,
+    question: Question,
     digest: &mut Digest,
 ) -> Result<(), Fault>
-    requires { HasTakenSome intake }
+    requires { HasTakenSome question }
 {
-    let taken = intake.finish()?;
+    let taken = question.finish()?;
     add_counts(digest, &taken);
     let papers = papers_of(rt, rt.alloc(), &taken.dataset, &taken.query)?;
     digest.add(&papers.report);
@@ -102,9 +102,9 @@ fn rank_mixed<R: Threads + Wait + AllocGlobal + Sync>(
         fill(&mut file, weather, random, number, bits)?;
     }
     let mixed = mixed(alloc, &file, random)?;
-    let mut intake = new_intake(alloc, "top 10 highest PRCP", &list);
-    give(&mut intake, &mixed);
-    rank_taken(rt, intake, digest)
+    let mut question = Question::new(alloc, "top 10 highest PRCP", &list);
+    give(&mut question.files, &mixed);
+    rank_taken(rt, question, digest)
 }
 
 /// The lines of a file in no order.
@@ -144,7 +144,7 @@ fn rank_rising<R: Threads + Wait + AllocGlobal + Sync>(
     let alloc = rt.alloc();
     let list = station_list(alloc, random, Order::Rising, 1)?;
     let id = id_of(0);
-    let mut intake = new_intake(alloc, query, &list);
+    let mut question = Question::new(alloc, query, &list);
     let mut file = Vec::new(alloc);
     let mut day = (random.next() % 11_000) as u32;
     for year in first_year..first_year + years {
@@ -159,8 +159,8 @@ fn rank_rising<R: Threads + Wait + AllocGlobal + Sync>(
             )?;
         }
     }
-    give(&mut intake, &file);
-    rank_taken(rt, intake, digest)
+    give(&mut question.files, &file);
+    rank_taken(rt, question, digest)
 }
 
 /// Ranks that many files of one month, each of a station of its own.
@@ -173,15 +173,15 @@ fn rank_small_files<R: Threads + Wait + AllocGlobal + Sync>(
 ) -> Result<(), Fault> {
     let alloc = rt.alloc();
     let list = station_list(alloc, random, Order::Rising, files)?;
-    let mut intake = new_intake(alloc, "top 10 highest TMAX", &list);
+    let mut question = Question::new(alloc, "top 10 highest TMAX", &list);
     let mut file = Vec::new(alloc);
     for place in 0..files {
         let id = id_of(number_at(Order::Rising, place, files));
         file.clear();
         weather.add_line(&mut file, 0, 6, &front_of(&id, 2020, 6), random.next())?;
-        give(&mut intake, &file);
+        give(&mut question.files, &file);
     }
-    rank_taken(rt, intake, digest)
+    rank_taken(rt, question, digest)
 }
 
 /// Ranks files of a year each, with the lines of all stations.
@@ -193,7 +193,7 @@ fn rank_years<R: Threads + Wait + AllocGlobal + Sync>(
 ) -> Result<(), Fault> {
     let alloc = rt.alloc();
     let list = station_list(alloc, random, Order::Rising, STATIONS)?;
-    let mut intake = new_intake(alloc, "top 10 sum 5 PRCP", &list);
+    let mut question = Question::new(alloc, "top 10 sum 5 PRCP", &list);
     let mut file = Vec::new(alloc);
     for year in FIRST_YEAR..2021 {
         file.clear();
@@ -209,7 +209,7 @@ fn rank_years<R: Threads + Wait + AllocGlobal + Sync>(
                 )?;
             }
         }
-        give(&mut intake, &file);
+        give(&mut question.files, &file);
     }
-    rank_taken(rt, intake, digest)
+    rank_taken(rt, question, digest)
 }

@@ -1,13 +1,13 @@
 //! Descriptions of whole archives.
 
-ghost use Rattle.rank_input.specs.Described.{HasTakenSome};
-
 use crate::archive::give_archive;
 use crate::digest::Digest;
 use crate::places::{Order, station_list};
 use crate::random::Random;
 use crate::weather::Weather;
-use rank_input::{DescriptionIntake, Fault};
+use ghcn_description::RowDescriber;
+use ghcn_files::Keep;
+use rank_input::{Fault, Intake};
 use std::alloc::Global;
 
 /// Describes that many archives of that many stations.
@@ -21,17 +21,10 @@ pub(crate) fn describe_archives(
     let mut weather = Weather::new(alloc, random)?;
     for _ in 0..rounds {
         let list = station_list(alloc, random, Order::Rising, stations)?;
-        let mut intake = new_intake(alloc, &list);
+        let mut intake = Intake::<RowDescriber>::new(alloc, &list, Keep::nothing());
         give_archive(alloc, &mut intake, &mut weather, random, stations)?;
         let description = intake.finish()?;
         digest.add(&description.text(alloc)?);
     }
     Ok(())
-}
-
-/// An intake that describes, of a station list.
-fn new_intake(alloc: Global, list: &[u8]) -> DescriptionIntake
-    ensures { HasTakenSome result }
-{
-    DescriptionIntake::new(alloc, list)
 }

@@ -4,10 +4,10 @@ use crate::archive::{fill, give};
 use crate::digest::Digest;
 use crate::places::{Order, id_of, number_at, station_list};
 use crate::random::Random;
-use crate::ranking::{add_counts, new_intake, papers_of};
+use crate::ranking::{add_counts, papers_of};
 use crate::weather::Weather;
 use ghcn_fields::Memory;
-use rank_input::Fault;
+use rank_input::{Fault, Question};
 use std::alloc::Global;
 use std::sync::Wait;
 use std::thread::Threads;
@@ -43,16 +43,16 @@ pub(crate) fn ask_about_one<R: Threads + Wait + AllocGlobal + Sync>(
     let list = station_list(alloc, random, order, stations)?;
     let place = (random.next() % stations.max(1) as u64) as u32;
     let query = query_of(alloc, &id_of(number_at(order, place, stations)))?;
-    let mut intake = new_intake(alloc, &query, &list);
+    let mut question = Question::new(alloc, &query, &list);
     let mut file = Vec::new(alloc);
     for behind in 0..FILES {
         let near = place.wrapping_add(behind) % stations.max(1);
         let number = number_at(order, near, stations);
         file.clear();
         fill(&mut file, weather, random, number, random_bits(behind))?;
-        give(&mut intake, &file);
+        give(&mut question.files, &file);
     }
-    let taken = intake.finish()?;
+    let taken = question.finish()?;
     add_counts(digest, &taken);
     let papers = papers_of(rt, alloc, &taken.dataset, &taken.query)?;
     digest.add(&papers.report);

@@ -1,6 +1,4 @@
 //! Questions over whole archives: ranked, and the reports and the certificates checked.
-ghost use Rattle.rank_input.specs.Taken.{HasTakenSome};
-
 use crate::archive::give_archive;
 use crate::digest::Digest;
 use crate::places::{Order, station_list};
@@ -10,7 +8,7 @@ use ghcn_fields::Memory;
 use ghcn_series::Data;
 use rank_check::check;
 use rank_crew::{Open, crew, survey};
-use rank_input::{Fault, Intake, TakenInput};
+use rank_input::{Fault, Question, TakenInput};
 use rank_papers::{certificate, report};
 use rank_query::Query;
 use std::alloc::Global;
@@ -88,9 +86,9 @@ fn take_archive(
     stations: u32,
 ) -> Result<TakenInput, Fault> {
     let list = station_list(alloc, random, Order::Rising, stations)?;
-    let mut intake = new_intake(alloc, QUERIES[round as usize % 8], &list);
-    give_archive(alloc, &mut intake, weather, random, stations)?;
-    intake.finish()
+    let mut question = Question::new(alloc, QUERIES[round as usize % 8], &list);
+    give_archive(alloc, &mut question.files, weather, random, stations)?;
+    question.finish()
 }
 
 /// Adds how many files are foreign and which is the first of them, and how many lines belong to unlisted
@@ -99,13 +97,6 @@ pub(crate) fn add_counts(digest: &mut Digest, taken: &TakenInput) {
     digest.add_number(taken.warnings.foreign.count);
     digest.add_number(taken.warnings.foreign.first.unwrap_or(u64::MAX));
     digest.add_number(taken.dataset.unlisted());
-}
-
-/// An intake of a query and a station list.
-pub(crate) fn new_intake(alloc: Global, query: &str, list: &[u8]) -> Intake
-    ensures { HasTakenSome result }
-{
-    Intake::new(alloc, query, list)
 }
 
 /// The report and the certificate of a query, ranked by one worker.

@@ -4,7 +4,7 @@ use super::*;
 use crate::rank::rank_intake;
 use ghcn_files::LineWhy;
 use ghcn_series::DailyWhy;
-use rank_input::{Intake, Taker, feed};
+use rank_input::{Question, feed};
 use std::alloc::{AllocError, Global};
 use std::process::Abort;
 use std::sync::Wait;
@@ -18,14 +18,14 @@ fn ranked_by_pieces<R: Threads + Wait + AllocGlobal + Sync>(
     length: usize,
 ) -> Result<Vec<u8>, Fault> {
     let query = "top 3 highest TMAX";
-    let mut intake = Intake::new(rt.alloc(), query, STATIONS);
+    let mut question = Question::new(rt.alloc(), query, STATIONS);
     for file in files {
         for piece in file.chunks(length.max(1)) {
-            intake.piece(piece);
+            question.files.piece(piece);
         }
-        intake.end_of_file();
+        question.files.end_of_file();
     }
-    Ok(rank_intake(rt, intake, 2, None, &Open).answer?.report)
+    Ok(rank_intake(rt, question, 2, None, &Open).answer?.report)
 }
 
 /// A file of DAILY's lines with a carriage return before each line feed.
@@ -82,11 +82,18 @@ fn pieces_of_any_length(rt: HostRuntime) -> Result<(), Fail> {
 fn sources_are_fed_whole(rt: HostRuntime) {
     for length in [1, 270, 700, 4096] {
         let mut buffer = [0; 4096];
-        let mut intake = Intake::new(rt.alloc(), "top 3 highest TMAX", STATIONS);
+        let mut question = Question::new(rt.alloc(), "top 3 highest TMAX", STATIONS);
         let mut source: &[u8] = DAILY;
-        assert!(rt; feed(&mut intake, &mut source, &mut buffer[..length.min(4096)]).is_ok());
-        let bytes = intake.bytes;
-        let found = rank_intake(&rt, intake, 1, None, &Open).answer;
+        assert!(rt;
+            feed(
+                &mut question.files,
+                &mut source,
+                &mut buffer[..length.min(4096)]
+            )
+            .is_ok()
+        );
+        let bytes = question.files.bytes;
+        let found = rank_intake(&rt, question, 1, None, &Open).answer;
         let report = found.as_ref().map(|papers| papers.report.as_slice()).ok();
         assert_eq!(rt; report, Some(REPORT), "a buffer of {length} bytes");
         assert_eq!(rt; bytes, 810, "a buffer of {length} bytes");

@@ -1,14 +1,13 @@
 //! Cutters of lines for a reader that is given line by line, compared with readers of whole files.
 
 ghost use Rattle.std.specs.Prelude.{IfOk};
-ghost use Rattle.ghcn_series.specs.Cut as cut;
-ghost use Rattle.ghcn_series.specs.Gathered.{HasReadFor};
-ghost use Rattle.ghcn_series.specs.Pieces as pieces;
+ghost use Rattle.ghcn_series.specs.Cut.{HasFedSome};
+ghost use Rattle.ghcn_series.specs.Gathered.{HasReadByRows};
 
 use super::STATIONS;
 use ghcn_fields::Memory;
 use ghcn_files::{Element, Keep, Stations};
-use ghcn_series::{Cutter, DataFault, DataReader, Reader, Warnings};
+use ghcn_series::{Cutter, DataFault, LineCounts, LineReader, Reader, RowReader, Warnings};
 use std::alloc::Global;
 
 /// What a cutter finds: how many files and lines there are, how many of the lines are blank, the foreign files and the odd
@@ -21,23 +20,56 @@ pub(super) struct Found {
     pub(super) warnings: Warnings,
 }
 
-/// A cutter of lines for the two stations, which keeps these elements.
-fn cutter(alloc: Global, keep: Keep) -> Result<Cutter<Reader>, DataFault>
-    ensures { IfOk result (cut.HasFedSome HasReadFor) }
-{
-    match Stations::read(alloc, STATIONS) {
-        Ok(stations) => cutter_for(alloc, stations, keep),
-        Err(_) => Err(DataFault::Memory(Memory)),
+/// Reads lines one by one, and makes of them what its cutter finds.
+#[derive(Drop)]
+struct Finder {
+    reader: Reader,
+}
+
+impl LineReader for Finder {
+    ghost use Rattle.std.specs.Prelude.{⊤};
+    ghost use Rattle.ghcn_series.specs.Gathered.{HasReadFor};
+
+    type Done = Found;
+
+    ghost has_read = { λ finder. HasReadFor finder.reader };
+
+    ghost makes = { λ _ _ _ _. ⊤ };
+
+    fn new(alloc: Global, stations: Stations, keep: Keep) -> Result<Self, Memory> {
+        Ok(Finder {
+            reader: Reader::new(alloc, stations, keep)?,
+        })
+    }
+
+    fn add(
+        &mut self,
+        alloc: Global,
+        file: u64,
+        line: u64,
+        bytes: &[u8],
+    ) -> Result<bool, DataFault> {
+        let of_element = self.reader.add(alloc, file, line, bytes)?;
+        Ok(of_element)
+    }
+
+    fn finish(self, _alloc: Global, files: u64, counts: &LineCounts) -> Result<Found, Memory> {
+        Ok(Found {
+            files,
+            lines: counts.lines,
+            blank: counts.blank,
+            warnings: counts.warnings,
+        })
     }
 }
 
-/// The same for any stations.
-fn cutter_for(alloc: Global, stations: Stations, keep: Keep) -> Result<Cutter<Reader>, DataFault>
-    ensures { IfOk result (cut.HasFedSome HasReadFor) }
+/// A cutter of lines for the two stations, which keeps these elements.
+fn cutter(alloc: Global, keep: Keep) -> Result<Cutter<Finder>, DataFault>
+    ensures { IfOk result (HasFedSome ⟦<Finder as LineReader>⟧.has_read) }
 {
-    match Reader::new(alloc, stations, keep) {
-        Ok(reader) => Ok(Cutter::new(alloc, reader)),
-        Err(memory) => Err(DataFault::Memory(memory)),
+    match Stations::read(alloc, STATIONS) {
+        Ok(stations) => Cutter::<Finder>::new(alloc, stations, keep),
+        Err(_) => Err(DataFault::Memory(Memory)),
     }
 }
 
@@ -54,30 +86,17 @@ pub(super) fn found_by_lines(
         cutter.piece(behind);
         cutter.end_of_file();
     }
-    let all = cutter.finish()?;
-    Ok(Found {
-        files: all.files,
-        lines: all.counts.lines,
-        blank: all.counts.blank,
-        warnings: all.counts.warnings,
-    })
+    cutter.finish()
 }
 
 /// A reader of the two stations' files, which keeps these elements.
-fn reader(alloc: Global, keep: Keep) -> Result<DataReader, DataFault>
-    ensures { IfOk result pieces.HasFedSome }
+fn reader(alloc: Global, keep: Keep) -> Result<Cutter<RowReader>, DataFault>
+    ensures { IfOk result (HasFedSome HasReadByRows) }
 {
     match Stations::read(alloc, STATIONS) {
-        Ok(stations) => reader_for(alloc, stations, keep),
+        Ok(stations) => Cutter::<RowReader>::new(alloc, stations, keep),
         Err(_) => Err(DataFault::Memory(Memory)),
     }
-}
-
-/// The same of any stations' files.
-fn reader_for(alloc: Global, stations: Stations, keep: Keep) -> Result<DataReader, DataFault>
-    ensures { IfOk result pieces.HasFedSome }
-{
-    DataReader::of(alloc, stations, keep)
 }
 
 /// The foreign files and odd lines that a reader of whole files finds among these.
@@ -133,9 +152,9 @@ pub(super) fn fault_by_lines(
 }
 
 /// A cutter with that many files more, all of them empty.
-fn with_files(mut cutter: Cutter<Reader>, count: u32) -> Cutter<Reader>
-    requires { cut.HasFedSome HasReadFor cutter }
-    ensures { cut.HasFedSome HasReadFor result }
+fn with_files(mut cutter: Cutter<Finder>, count: u32) -> Cutter<Finder>
+    requires { HasFedSome ⟦<Finder as LineReader>⟧.has_read cutter }
+    ensures { HasFedSome ⟦<Finder as LineReader>⟧.has_read result }
 {
     for _ in 0..count {
         cutter.end_of_file();

@@ -1,7 +1,8 @@
 //! Readers that keep one element, or some.
 
 ghost use Rattle.std.specs.Prelude.{IfOk};
-ghost use Rattle.ghcn_series.specs.Pieces.{HasFedSome};
+ghost use Rattle.ghcn_series.specs.Cut.{HasFedSome};
+ghost use Rattle.ghcn_series.specs.Gathered.{HasReadByRows};
 
 use super::cutters::are_alike;
 use super::pieces::{data_of, read_by_bytes};
@@ -9,25 +10,15 @@ use super::{A, B, JULY, STATIONS, refused};
 use crate::lines::{line_of, text_of};
 use ghcn_fields::{Day, Memory};
 use ghcn_files::{Element, Keep, LineWhy, StationId, Stations};
-use ghcn_series::{DailyWhy, Data, DataFault, DataReader};
+use ghcn_series::{Cutter, DailyWhy, Data, DataFault, RowReader};
 use std::alloc::Global;
 
-/// A reader of the two stations' files that keeps one element.
-fn reader_of(alloc: Global, element: Element) -> Result<DataReader, DataFault>
-    ensures { IfOk result HasFedSome }
+/// A reader of the two stations' files that keeps a set of elements.
+fn reader_of(alloc: Global, keep: Keep) -> Result<Cutter<RowReader>, DataFault>
+    ensures { IfOk result (HasFedSome HasReadByRows) }
 {
     match Stations::read(alloc, STATIONS) {
-        Ok(stations) => DataReader::of_element(alloc, stations, element),
-        Err(_) => Err(DataFault::Memory(Memory)),
-    }
-}
-
-/// A reader of the same files that keeps a set of elements.
-fn reader_of_set(alloc: Global, keep: Keep) -> Result<DataReader, DataFault>
-    ensures { IfOk result HasFedSome }
-{
-    match Stations::read(alloc, STATIONS) {
-        Ok(stations) => DataReader::of(alloc, stations, keep),
+        Ok(stations) => Cutter::<RowReader>::new(alloc, stations, keep),
         Err(_) => Err(DataFault::Memory(Memory)),
     }
 }
@@ -62,7 +53,7 @@ fn are_alike_in(alloc: Global, lines: &[&[u8]]) -> Result<bool, Memory> {
 /// What is kept of one element of a whole text.
 fn kept(alloc: Global, lines: &[&[u8]], element: Element) -> Result<Values, DataFault> {
     let text = text_of(alloc, lines, b"\n").map_err(DataFault::Memory)?;
-    let mut reader = reader_of(alloc, element)?;
+    let mut reader = reader_of(alloc, Keep::nothing().with(element))?;
     reader.piece(&text);
     Ok(values(&data_of(reader)?))
 }
@@ -70,13 +61,14 @@ fn kept(alloc: Global, lines: &[&[u8]], element: Element) -> Result<Values, Data
 /// The same of a text whose bytes come one by one.
 fn kept_by_bytes(alloc: Global, lines: &[&[u8]], element: Element) -> Result<Values, DataFault> {
     let text = text_of(alloc, lines, b"\n").map_err(DataFault::Memory)?;
-    Ok(values(&read_by_bytes(reader_of(alloc, element)?, &text)?))
+    let reader = reader_of(alloc, Keep::nothing().with(element))?;
+    Ok(values(&read_by_bytes(reader, &text)?))
 }
 
 /// What is kept of a set of elements.
 fn kept_of_set(alloc: Global, lines: &[&[u8]], keep: Keep) -> Result<Values, DataFault> {
     let text = text_of(alloc, lines, b"\n").map_err(DataFault::Memory)?;
-    let mut reader = reader_of_set(alloc, keep)?;
+    let mut reader = reader_of(alloc, keep)?;
     reader.piece(&text);
     Ok(values(&data_of(reader)?))
 }

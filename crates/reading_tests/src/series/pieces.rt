@@ -1,29 +1,32 @@
 //! Files that come in pieces.
 
 ghost use Rattle.std.specs.Prelude.{IfOk};
-ghost use Rattle.ghcn_series.specs.Pieces.{HasFedSome};
+ghost use Rattle.ghcn_series.specs.Cut.{HasFedSome};
+ghost use Rattle.ghcn_series.specs.Gathered.{HasReadByRows};
 
 use super::cutters::{fault_by_lines, found_by_lines};
 use super::{A, JULY, STATIONS, has_series};
 use crate::lines::line_of;
 use ghcn_fields::Memory;
 use ghcn_files::{Element, Keep, LineWhy, Stations};
-use ghcn_series::{DailyWhy, Data, DataFault, DataReader, Foreign, LinePlace, OddLines, Warnings};
+use ghcn_series::{
+    Cutter, DailyWhy, Data, DataFault, Foreign, LinePlace, OddLines, RowReader, Warnings,
+};
 use std::alloc::Global;
 
 /// A reader of the two stations' files.
-fn reader(alloc: Global) -> Result<DataReader, DataFault>
-    ensures { IfOk result HasFedSome }
+fn reader(alloc: Global) -> Result<Cutter<RowReader>, DataFault>
+    ensures { IfOk result (HasFedSome HasReadByRows) }
 {
     match Stations::read(alloc, STATIONS) {
-        Ok(stations) => DataReader::new(alloc, stations),
+        Ok(stations) => Cutter::<RowReader>::new(alloc, stations, Keep::everything()),
         Err(_) => Err(DataFault::Memory(Memory)),
     }
 }
 
 /// A reader that has taken this piece.
-fn fed(alloc: Global, piece: &[u8]) -> Result<DataReader, DataFault>
-    ensures { IfOk result HasFedSome }
+fn fed(alloc: Global, piece: &[u8]) -> Result<Cutter<RowReader>, DataFault>
+    ensures { IfOk result (HasFedSome HasReadByRows) }
 {
     let mut reader = reader(alloc)?;
     reader.piece(piece);
@@ -38,16 +41,16 @@ fn read_cut(alloc: Global, front: &[u8], behind: &[u8]) -> Result<Data, DataFaul
 }
 
 /// The data of what a reader was fed.
-pub(crate) fn data_of(reader: DataReader) -> Result<Data, DataFault>
-    requires { HasFedSome reader }
+pub(crate) fn data_of(reader: Cutter<RowReader>) -> Result<Data, DataFault>
+    requires { HasFedSome HasReadByRows reader }
 {
     let (data, _warnings) = reader.finish()?;
     Ok(data)
 }
 
 /// What a file says whose bytes come one by one.
-pub(crate) fn read_by_bytes(mut reader: DataReader, text: &[u8]) -> Result<Data, DataFault>
-    requires { HasFedSome reader }
+pub(crate) fn read_by_bytes(mut reader: Cutter<RowReader>, text: &[u8]) -> Result<Data, DataFault>
+    requires { HasFedSome HasReadByRows reader }
 {
     for byte in text {
         reader.piece(&[*byte]);
@@ -167,9 +170,9 @@ fn long_lines_in_pieces(rt: HostRuntime) {
 }
 
 /// A reader with that many files more, all of them empty.
-fn with_files(mut reader: DataReader, count: u32) -> DataReader
-    requires { HasFedSome reader }
-    ensures { HasFedSome result }
+fn with_files(mut reader: Cutter<RowReader>, count: u32) -> Cutter<RowReader>
+    requires { HasFedSome HasReadByRows reader }
+    ensures { HasFedSome HasReadByRows result }
 {
     for _ in 0..count {
         reader.end_of_file();

@@ -4,7 +4,7 @@ use Rattle.rank_input.specs.Feeding.{AreAllOf, AreOpened, FeedsFiles, IsTried, S
 use Rattle.rank_input.proofs.Openings.{stops-first, stops-later}
 use Rattle.std.proofs.lemmas.Result.{err_from_is_err_and}
 use Rattle.extremes.specs.Describes.{describing_paths}
-use Rattle.rank_input.specs.Described.{HasTaken}
+use Rattle.ghcn_description.specs.Describing.{HasDescribedByRows}
 use Rattle.extremes.proofs.FedRuns.{describes-files, describes-memory}
 use Rattle.extremes.proofs.files.describe_files.Goals as goal
 
@@ -16,17 +16,17 @@ returns-in_default-piece_room-clause-describes g c =
 
 -- the intake was given something
 pub feed_files-requires : goal.feed_files-requires
-feed_files-requires g c = (_, c.new-intake.ensures [])
+feed_files-requires g c = c.new-intake.ensures.going
 
 -- what was fed is described
 pub returns-clause-describes : goal.returns-clause-describes
 returns-clause-describes g c =
     let bytes_of = g.A.Archive.bytes_of c.args.archive.now in
-    describes-files bytes_of (g.A.Archive.opens c.args.archive.now) c.args.describing.now c.new-intake.result c.feed_files.new.taker c.deref.result.now
+    describes-files bytes_of (g.A.Archive.opens c.args.archive.now) c.args.describing.now c.new-intake.result c.feed_files.new.intake _ c.deref.result.now
     c.deref-2.result.now c.describe_intake.result c.deref.ensures
     (subst (AreAllOf (bytes_of c.deref.result.now)) (sym c.deref-2.ensures.value) c.in-Ok.ensures.whole)
-    c.new-intake.ensures
-    (subst (λ (fs : List (String Global)). FeedsFiles HasTaken c.new-intake.result c.feed_files.new.taker
+    c.new-intake.ensures.taken
+    (subst (λ (fs : List (String Global)). FeedsFiles HasDescribedByRows c.new-intake.result c.feed_files.new.intake
     (map (λ f. bytes_of (string_bytes f)) fs)) c.deref-3.ensures.value c.in_ok-feed_files.ensures.fed)
     c.describe_intake.ensures.ok c.describe_intake.ensures.err c.in-Ok.ensures.opened
     (subst (λ (fs : List (String Global)). AreOpened (g.A.Archive.opens c.args.archive.now) (map string_bytes fs))

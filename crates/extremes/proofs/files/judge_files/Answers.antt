@@ -5,7 +5,7 @@ use Rattle.rank_input.proofs.Openings.{stops-first, stops-later, stops-before, s
 use Rattle.std.proofs.lemmas.Result.{err_from_is_err_and}
 use Rattle.extremes.specs.Merges.{part_paths}
 use Rattle.extremes.specs.Runs.{judging_paths}
-use Rattle.rank_input.specs.Taken.{HasTaken}
+use Rattle.ghcn_series.specs.Gathered.{HasReadByRows}
 use Rattle.extremes.proofs.FedRuns.{judges-files, judges-memory}
 use Rattle.extremes.proofs.files.judge_files.Goals as goal
 
@@ -17,13 +17,13 @@ returns-in_default-piece_room-clause-judges g c =
 
 -- the intake was given something
 pub feed_files-requires : goal.feed_files-requires
-feed_files-requires g c = (_, c.new-intake.ensures)
+feed_files-requires g c = c.new-question.ensures.going
 
 -- what was fed is checked
 pub returns-clause-judges : goal.returns-clause-judges
 returns-clause-judges g c =
     let bytes_of = g.A.Archive.bytes_of c.args.archive.now in
-    judges-files bytes_of (g.A.Archive.opens c.args.archive.now) c.args.judging.now c.new-intake.result c.feed_files.new.taker c.deref-2.result.now
+    judges-files bytes_of (g.A.Archive.opens c.args.archive.now) c.args.judging.now c.new-question.result c.feed_files.new.intake c.deref-2.result.now
     c.deref.result.now c.deref-3.result.now c.deref-5.result.now c.deref-6.result.now c.judge_as.result
     c.deref-2.ensures c.deref.ensures
     (subst (AreAllOf (bytes_of c.deref.result.now)) (sym c.deref-3.ensures.value) c.in-Ok.ensures.whole) (
@@ -32,8 +32,8 @@ returns-clause-judges g c =
       subst (AreAllOf (bytes_of (string_bytes c.args.judging.now.papers.certificate))) (sym c.deref-6.ensures.value)
           c.in_ok-papers.ensures.read.1,
     )
-    c.new-intake.ensures (subst (λ (fs : List (String Global)).
-    FeedsFiles HasTaken c.new-intake.result c.feed_files.new.taker
+    c.new-question.ensures.taken (subst (λ (fs : List (String Global)).
+    FeedsFiles HasReadByRows c.new-question.result.files c.feed_files.new.intake
     (map (λ f. bytes_of (string_bytes f)) fs)) c.deref-4.ensures.value c.in_ok-feed_files.ensures.fed)
     c.judge_as.ensures.ok c.judge_as.ensures.warnings c.judge_as.ensures.err c.in-Ok.ensures.opened
     c.in_ok-papers.ensures.opened

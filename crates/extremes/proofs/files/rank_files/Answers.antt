@@ -4,7 +4,7 @@ use Rattle.rank_input.specs.Feeding.{AreAllOf, AreOpened, FeedsFiles, IsTried, S
 use Rattle.rank_input.proofs.Openings.{stops-first, stops-later}
 use Rattle.std.proofs.lemmas.Result.{err_from_is_err_and}
 use Rattle.extremes.specs.Runs.{ranking_paths}
-use Rattle.rank_input.specs.Taken.{HasTaken}
+use Rattle.ghcn_series.specs.Gathered.{HasReadByRows}
 use Rattle.extremes.proofs.FedRuns.{ranks-files, ranks-memory}
 use Rattle.extremes.proofs.files.rank_files.Goals as goal
 
@@ -17,18 +17,18 @@ returns-in_default-piece_room-clause-ranks g c =
 
 -- the intake was given something
 pub feed_files-requires : goal.feed_files-requires
-feed_files-requires g c = (_, c.new-intake.ensures)
+feed_files-requires g c = c.new-question.ensures.going
 
 -- what was fed is ranked
 pub returns-clause-ranks : goal.returns-clause-ranks
 returns-clause-ranks g c =
     let bytes_of = g.A.Archive.bytes_of c.args.archive.now in
-    ranks-files bytes_of (g.A.Archive.opens c.args.archive.now) c.args.ranking.now c.new-intake.result c.feed_files.new.taker c.deref-2.result.now
+    ranks-files bytes_of (g.A.Archive.opens c.args.archive.now) c.args.ranking.now c.new-question.result c.feed_files.new.intake c.deref-2.result.now
     c.deref.result.now c.deref-3.result.now c.rank_fed.result.answer c.rank_fed.result.warnings c.deref-2.ensures
     c.deref.ensures
     (subst (AreAllOf (bytes_of c.deref.result.now)) (sym c.deref-3.ensures.value) c.in-Ok.ensures.whole)
-    c.new-intake.ensures
-    (subst (λ (fs : List (String Global)). FeedsFiles HasTaken c.new-intake.result c.feed_files.new.taker
+    c.new-question.ensures.taken
+    (subst (λ (fs : List (String Global)). FeedsFiles HasReadByRows c.new-question.result.files c.feed_files.new.intake
     (map (λ f. bytes_of (string_bytes f)) fs)) c.deref-4.ensures.value c.in_ok-feed_files.ensures.fed)
     c.rank_fed.ensures.ranks c.rank_fed.ensures.warnings c.in-Ok.ensures.opened
     (subst (λ (fs : List (String Global)). AreOpened (g.A.Archive.opens c.args.archive.now) (map string_bytes fs))

@@ -4,7 +4,7 @@ use Rattle.extremes.proofs.Answering.{judges_input}
 -- the verdict is that on what was given
 pub returns-clause-ok : goal.returns-clause-ok
 returns-clause-ok c =
-    judges_input c.args.intake c.in_ok-taken.taken.query c.in_ok-taken.taken.dataset c.args.report.now
+    judges_input c.args.question c.in_ok-taken.taken.query c.in_ok-taken.taken.dataset c.args.report.now
     c.args.certificate.now c.in_ok-verdict.verdict c.papers_of_one_element.ensures.right_report
     c.papers_of_one_element.ensures.right_certificate
     c.papers_are_said.ensures.report c.papers_are_said.ensures.certificate

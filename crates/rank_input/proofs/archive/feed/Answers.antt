@@ -6,18 +6,18 @@ use Rattle.rank_input.proofs.archive.feed.Goals.{in-Ok, in-Err+else-ne}
 
 -- at first nothing is read
 pub loop-init : goal.loop-init
-loop-init g c = fed-nothing g.T.Taker.has_taken c.args.taker.now (g.S.Read.remaining c.args.source.now)
+loop-init g c = fed-nothing g.L.LineReader.has_read c.args.intake.now (g.S.Read.remaining c.args.source.now)
 
--- the taker was given something
+-- the intake was given something
 pub end_of_file-requires : goal.end_of_file-requires
 end_of_file-requires g c =
-    fed-some g.T.Taker.has_taken c.args.taker.now c.loop.taker (g.S.Read.remaining c.args.source.now)
+    fed-some g.L.LineReader.has_read c.args.intake.now c.loop.intake (g.S.Read.remaining c.args.source.now)
     (g.S.Read.remaining c.loop.source) c.requires c.loop.invariant
 
 -- and more
 pub piece-requires : goal.piece-requires
 piece-requires g c =
-    fed-some g.T.Taker.has_taken c.args.taker.now c.loop.taker (g.S.Read.remaining c.args.source.now)
+    fed-some g.L.LineReader.has_read c.args.intake.now c.loop.intake (g.S.Read.remaining c.args.source.now)
     (g.S.Read.remaining c.loop.source) c.requires c.loop.invariant
 
 -- one read more
@@ -26,13 +26,13 @@ loop-preserved g c =
     let all = g.S.Read.remaining c.args.source.now in
     let left = g.S.Read.remaining c.loop.source in
     let next = g.S.Read.remaining c.read.new.self in
-    let has_taken = g.T.Taker.has_taken in
+    let has_read = g.L.LineReader.has_read in
     elim c.match-read.branch [
-      | in-Ok w ↦ subst (λ t. IsFedTo has_taken c.args.taker.now t all next) (sym w.taker-is)
-          (fed-more has_taken c.args.taker.now c.loop.taker w.piece.new.self all left next
+      | in-Ok w ↦ subst (λ t. IsFedTo has_read c.args.intake.now t all next) (sym w.intake-is)
+          (fed-more has_read c.args.intake.now c.loop.intake w.piece.new.self all left next
           (take w.in-Ok.count c.read.new.buf) c.loop.invariant w.in-Ok.ensures.bytes.0 w.piece.ensures.taken)
-      | in-Err+else-ne w ↦ subst (λ t. IsFedTo has_taken c.args.taker.now t all next) (sym w.taker-is)
-          (fed-kept has_taken c.args.taker.now c.loop.taker all left next c.loop.invariant w.in-Err.ensures.bytes)
+      | in-Err+else-ne w ↦ subst (λ t. IsFedTo has_read c.args.intake.now t all next) (sym w.intake-is)
+          (fed-kept has_read c.args.intake.now c.loop.intake all left next c.loop.invariant w.in-Err.ensures.bytes)
     ]
 
 -- all is read
@@ -41,7 +41,7 @@ returns-in-Ok-eq0-clause-fed g c =
     let some : 0 < length c.read.new.buf = grind
     (arith, nat_tests, c.if-is_empty.false, c.is_empty.ensures, c.loop.auto.buffer, c.read.auto.buf) in
     let none : c.in-Ok-eq0.field-0 ≡ 0 = omega arith in
-    fed-end g.T.Taker.has_taken c.args.taker.now c.loop.taker c.end_of_file.new.self
+    fed-end g.L.LineReader.has_read c.args.intake.now c.loop.intake c.end_of_file.new.self
     (g.S.Read.remaining c.args.source.now) (g.S.Read.remaining c.loop.source) (g.S.Read.remaining c.read.new.self)
     c.in-Ok-eq0.field-0 c.read.new.buf
     c.loop.invariant none c.in-Ok-eq0.ensures.bytes some c.end_of_file.ensures.taken

@@ -4,5 +4,5 @@ use Rattle.rank_input.proofs.archive.feed.Given as goal
 -- what was read so far is fed
 abbrev pub invariant-loop : goal.invariant-loop
 invariant-loop g l =
-    IsFedTo g.T.Taker.has_taken l.initial.taker l.taker (g.S.Read.remaining l.initial.source)
+    IsFedTo g.L.LineReader.has_read l.initial.intake l.intake (g.S.Read.remaining l.initial.source)
     (g.S.Read.remaining l.source)

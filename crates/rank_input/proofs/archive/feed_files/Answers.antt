@@ -9,11 +9,11 @@ use Rattle.rank_input.proofs.archive.feed_files.Goals as goal
 pub loop-path-init : goal.loop-path-init
 loop-path-init g c = record {
   some = c.requires;
-  fed = files-none g.T.Taker.has_taken c.args.taker.now;
+  fed = files-none g.L.LineReader.has_read c.args.intake.now;
   opened = tt;
 }
 
--- the taker was given something
+-- the intake was given something
 pub feed-requires : goal.feed-requires
 feed-requires g c = c.loop-path.invariant.some
 
@@ -25,7 +25,7 @@ loop-path-preserved g c =
     c.in-Ok.ensures.bytes ∙ ap (λ (t : List ℕ). bytes_of t) c.deref.ensures in
     record {
       some = c.in-Ok-feed.ensures.going;
-      fed = files-next g.T.Taker.has_taken c.args.taker.now c.loop-path.taker c.feed.new.taker
+      fed = files-next g.L.LineReader.has_read c.args.intake.now c.loop-path.intake c.feed.new.intake
           (λ path. bytes_of (string_bytes path))
           c.args.paths.now c.loop-path.path-index c.path-item.result (g.A.File.Read.remaining c.in-Ok.file)
           c.loop-path-test.true (sym c.path-item.is) same c.loop-path.invariant.fed c.in-Ok-feed.ensures.fed;
@@ -62,6 +62,6 @@ returns-clause-opened g c =
 pub returns-clause-fed : goal.returns-clause-fed
 returns-clause-fed g c =
     let bytes_of = g.A.Archive.bytes_of c.args.archive.now in
-    subst (FeedsFiles g.T.Taker.has_taken c.args.taker.now c.loop-path.taker)
+    subst (FeedsFiles g.L.LineReader.has_read c.args.intake.now c.loop-path.intake)
     (known-all (λ path. bytes_of (string_bytes path)) c.args.paths.now c.loop-path.path-index
     (omega (arith, c.loop-path-test.false))) c.loop-path.invariant.fed

@@ -8,4 +8,4 @@ decreases-loop-piece g l = length l.left
 
 -- something was taken
 abbrev pub invariant-loop-piece : goal.invariant-loop-piece
-invariant-loop-piece g l = HasTakenSome g.T.Taker.has_taken l.taker
+invariant-loop-piece g l = HasTakenSome g.L.LineReader.has_read l.intake

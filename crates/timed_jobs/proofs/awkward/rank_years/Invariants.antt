@@ -3,4 +3,4 @@ use Rattle.timed_jobs.proofs.awkward.rank_years.Given as goal
 
 -- something was taken
 abbrev pub invariant-loop-year : goal.invariant-loop-year
-invariant-loop-year g l = HasTakenSome l.intake
+invariant-loop-year g l = HasTakenSome l.question

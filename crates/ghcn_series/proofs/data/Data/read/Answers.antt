@@ -26,7 +26,7 @@ pub returns-clause-ok : goal.returns-clause-ok
 returns-clause-ok c =
     let fed = fed_files everything c.args.stations c.args.files.now c.loop-file.file-index in
     let all = all_texts c.args.files.now c.loop-file.file-index (omega (arith, c.loop-file-test.false)) in
-    let held = rw all at (c.in_ok-dataset.ensures.ok.is fed c.loop-file.invariant) in
+    let held = (rw all at (c.in_ok-dataset.ensures.ok.is fed c.loop-file.invariant)).held in
     rw (held.is, kept-everything held.whole) held.read
 
 -- the refusal of all files that were fed

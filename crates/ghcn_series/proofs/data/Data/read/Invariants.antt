@@ -1,8 +1,9 @@
 use Rattle.ghcn_files.specs.Elements.{everything}
-use Rattle.ghcn_series.specs.Pieces.{HasFed}
+use Rattle.ghcn_series.specs.Cut.{HasFed}
+use Rattle.ghcn_series.specs.Gathered.{HasReadByRows}
 use Rattle.ghcn_series.proofs.FedFiles.{fed_files}
 use Rattle.ghcn_series.proofs.data.Data.read.Given as goal
 
 -- the files so far were fed
 abbrev pub invariant-loop-file : goal.invariant-loop-file
-invariant-loop-file l = HasFed l.reader (fed_files everything l.fn.stations l.files l.file-index)
+invariant-loop-file l = HasFed HasReadByRows l.cutter (fed_files everything l.fn.stations l.files l.file-index)

@@ -1,6 +1,7 @@
-use Rattle.ghcn_series.specs.Pieces.{HasFedSome}
+use Rattle.ghcn_series.specs.Cut.{HasFedSome}
+use Rattle.ghcn_series.specs.Gathered.{HasReadByRows}
 use Rattle.reading_tests.proofs.series.pieces.read_by_bytes.Given as goal
 
 -- the reader can be fed more
 abbrev pub invariant-loop-byte : goal.invariant-loop-byte
-invariant-loop-byte l = HasFedSome l.reader
+invariant-loop-byte l = HasFedSome HasReadByRows l.reader
