@@ -10,8 +10,9 @@ from itertools import product
 from pathlib import Path
 
 ROOT = Path(__file__).resolve().parent.parent
-# Types that are printed, and are neither errors nor verdicts: an element's code, a query's canonical text, and an ID.
-OTHERS = {"Element", "Query", "Printed"}
+# Types that are printed, and are neither errors nor verdicts: an element's code, a query's canonical text, an ID, and
+# words for people, which a contract and a test of their crate hold.
+OTHERS = {"Element", "Query", "Printed", "Explanation", "Found", "WrongWord", "MoreWords", "Shown", "ShownText"}
 # What a command prints besides messages: types, or variants of them.
 PRINTED = {
     "rank": ("Fault",), "describe": ("Fault",), "merge": ("MergingFault",),
