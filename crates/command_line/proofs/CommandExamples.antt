@@ -1,9 +1,10 @@
 -- The meaning of arguments that are written out.
-use Rattle.std.proofs.Common.{◌≡◌, List, [], ◌∷◌, Some, None, option_map, codes, refl}
+use Rattle.std.proofs.Common.{◌≡◌, List, [], ◌∷◌, Some, None, option_map, codes, refl, true, false, IfSome}
 use Rattle.clap.specs.Words.{Text, fault_of, subcommand_of, first_of, one_of, all_of}
-use Rattle.clap.specs.declared.error.ErrorKind.TheVariants.{DisplayVersion, MissingRequiredArgument, ValueValidation}
+use Rattle.clap.specs.declared.error.ErrorKind.TheVariants.{DisplayVersion, MissingRequiredArgument, ValueValidation, UnknownArgument}
+use Rattle.clap.specs.declared.error.ErrorKind.TheVariants.{ArgumentConflict}
 use Rattle.clap.proofs.OnLiterals.{clap_on_literals}
-use Rattle.command_line.specs.CommandLine.{extremes_app, papers_to_merge}
+use Rattle.command_line.specs.CommandLine.{extremes_app, papers_to_merge, FitTogether}
 
 -- a command line with both options, a guess and two files
 abbrev words : List Text
@@ -172,3 +173,87 @@ describe_without : fault_of extremes_app (codes "extremes" ∷ codes "describe" 
     ≡ MissingRequiredArgument ∷ []
 unfolding clap_on_literals
 describe_without = refl
+
+-- a command line whose files are a, and those of a list whose names end by NUL
+abbrev of_a_list : List Text
+of_a_list = codes "extremes" ∷ codes "rank" ∷ codes "--query=q" ∷ codes "--stations=s" ∷ codes "a" ∷ codes "-0"
+    ∷ codes "--files-from" ∷ codes "l" ∷ []
+
+-- `clap` has no error to report
+list_right : fault_of extremes_app of_a_list ≡ []
+unfolding clap_on_literals
+list_right = refl
+
+-- its list is l
+list_named : option_map (λ p. first_of (codes "files-from") p.1) (subcommand_of extremes_app of_a_list)
+    ≡ Some (Some (codes "l"))
+unfolding clap_on_literals
+list_named = refl
+
+-- `-0` is `--null`
+list_null : option_map (λ p. one_of (codes "null") p.1) (subcommand_of extremes_app of_a_list)
+    ≡ Some (Some (codes "true"))
+unfolding clap_on_literals
+list_null = refl
+
+-- and its file is a
+list_files : option_map (λ p. all_of (codes "files") p.1) (subcommand_of extremes_app of_a_list)
+    ≡ Some (Some (codes "a" ∷ []))
+unfolding clap_on_literals
+list_files = refl
+
+-- without these options there is no list
+no_list : option_map (λ p. first_of (codes "files-from") p.1) (subcommand_of extremes_app to_check) ≡ Some None
+unfolding clap_on_literals
+no_list = refl
+
+-- and names don't end by NUL
+no_null : option_map (λ p. one_of (codes "null") p.1) (subcommand_of extremes_app to_check)
+    ≡ Some (Some (codes "false"))
+unfolding clap_on_literals
+no_null = refl
+
+-- a list can be described
+list_described : fault_of extremes_app (codes "extremes" ∷ codes "describe" ∷ codes "--stations=s"
+    ∷ codes "--files-from=-" ∷ codes "--null" ∷ []) ≡ []
+unfolding clap_on_literals
+list_described = refl
+
+-- and checked as a part
+list_checked : fault_of extremes_app (codes "extremes" ∷ codes "check" ∷ codes "--part" ∷ codes "--query=q"
+    ∷ codes "--stations=s" ∷ codes "--certificate=c" ∷ codes "--report=r" ∷ codes "--files-from=l" ∷ codes "-0" ∷ [])
+    ≡ []
+unfolding clap_on_literals
+list_checked = refl
+
+-- there is one list at most
+two_lists : fault_of extremes_app (codes "extremes" ∷ codes "describe" ∷ codes "--stations=s" ∷ codes "--files-from=l"
+    ∷ codes "--files-from=m" ∷ []) ≡ ArgumentConflict ∷ []
+unfolding clap_on_literals
+two_lists = refl
+
+-- reports and certificates to merge have no list
+merge_list : fault_of extremes_app (codes "extremes" ∷ codes "merge" ∷ codes "--query=q" ∷ codes "--files-from=l" ∷ [])
+    ≡ UnknownArgument ∷ []
+unfolding clap_on_literals
+merge_list = refl
+
+-- and their names don't end by NUL
+merge_null : fault_of extremes_app (codes "extremes" ∷ codes "merge" ∷ codes "--query=q" ∷ codes "-0" ∷ [])
+    ≡ UnknownArgument ∷ []
+unfolding clap_on_literals
+merge_null = refl
+
+-- a command line whose names end by NUL, though it has no list
+abbrev null_alone : List Text
+null_alone = codes "extremes" ∷ codes "describe" ∷ codes "--stations=s" ∷ codes "-0" ∷ codes "a" ∷ []
+
+-- `clap` has no error to report
+null_alone_read : fault_of extremes_app null_alone ≡ []
+unfolding clap_on_literals
+null_alone_read = refl
+
+-- but what it is given doesn't fit together
+null_without_list : IfSome (subcommand_of extremes_app null_alone) (λ met. FitTogether met.0 met.1) → ⊥
+unfolding clap_on_literals
+null_without_list fit = let bad : false ≡ true = fit.1 (λ same. absurd cc) refl in absurd cc

@@ -1,12 +1,12 @@
 -- What is read of a parse, by the words of its meaning.
 use Rattle.std.proofs.Common.{◌≡◌, Bool, true, false, List, ◌∷◌, Option, Some, None, IsSomeAnd, unwrap_or, option_map}
-use Rattle.std.proofs.Common.{is_some, codes, refl, sym, ap, ap₂, subst, arith, length, ◌%◌, map, get_or, ◌∙◌, ◌⊎◌, inl, inr, ◌||◌}
+use Rattle.std.proofs.Common.{is_some, IsSome, IfSome, true≢false, codes, refl, sym, ap, ap₂, subst, arith, length, ◌%◌, map, get_or, ◌∙◌, ◌⊎◌, inl, inr, ◌||◌}
 use Rattle.std.specs.Prelude.{Box, if◌then◌else◌, ℤ, ℕ, [], Result, Ok, Err}
 use Rattle.std.specs.Box.{box_value}
 use Rattle.std.proofs.lemmas.List.{length-map}
 use denote.Ref.{Bor}
 use Rattle.std.specs.Int.{w64}
-use Rattle.std.specs.Str.Parse.{ParsesSigned, ParsesUnsigned}
+use Rattle.std.specs.Str.Parse.{ParsesSigned, ParsesUnsigned, ParsesBool}
 use Rattle.clap.specs.declared.builder.ValueParser.{ValueParser}
 use Rattle.clap.specs.Words.{Row, Rule, Text, Shape, Kinds, IsAmong, ReadsOne, fault_of, subcommand_of, subcommand_rows}
 use Rattle.clap.specs.declared.error.ErrorKind.{ErrorKind}
@@ -22,7 +22,8 @@ use Rattle.command_line.specs.declared.asked.Part.{Part}
 use Rattle.command_line.specs.declared.asked.Command.{Command}
 use Rattle.command_line.specs.declared.asked.Command.TheVariants.{Sample, Rank, Merge, Check, Describe}
 use Rattle.command_line.specs.CommandLine.{extremes_app, paths_of, papers_to_merge, AreInPairs, IsGuess, IsCount, IsFlag}
-use Rattle.command_line.specs.CommandLine.{IsCommand, IsCommandOf}
+use Rattle.command_line.specs.CommandLine.{IsName, IsCommand, IsCommandOf, FitTogether, HasListIfNull, AreFiles}
+use Rattle.command_line.specs.declared.asked.NamedFiles.{NamedFiles}
 
 -- what is some value is it
 pub some_is : {X : Type 0} (o : Option X) (v : X) → IsSomeAnd o (λ r. r ≡ v) → o ≡ Some v
@@ -98,14 +99,6 @@ one_of_four s t u v p r false false true fourth e = inr (inr (inl (met_is _ _ r 
 one_of_four s t u v p r false false false true e = inr (inr (inr (met_is _ _ r e)))
 one_of_four s t u v p r false false false false e = absurd cc
 
--- it is one of the four names
-abbrev pub IsOneOf : Text → Text → Text → Text → Text → Type 0
-IsOneOf a b c d name = (name ≡ a) ⊎ ((name ≡ b) ⊎ ((name ≡ c) ⊎ (name ≡ d)))
-
--- it is the name of a subcommand of the program
-abbrev pub IsName : Text → Type 0
-IsName name = IsOneOf (codes "rank") (codes "merge") (codes "check") (codes "describe") name
-
 -- a subcommand that the program's arguments name is one of these
 met_name : (stop : Option (Text × List Text)) (r : Text × List Row) → entered (built extremes_app) stop ≡ Some r
     → IsName r.0
@@ -126,9 +119,20 @@ name_met o = option_map (λ b. (out-SubCommand (box_value b)).name.now) o
 -- if one was met, and none but some names can be, it has one of them
 pub met_one : {Z : Type 0} (P : Text → Type 0) (o : Option (Box SubCommand Z)) (t : Option (Text × List Row))
     → is_some o ≡ true → subcommand_rows o ≡ t → ((r : Text × List Row) → t ≡ Some r → P r.0)
-    → (name : Text) × (name_met o ≡ Some name) × P name
+    → IsSomeAnd (subcommand_rows o) (λ r. P r.0)
 met_one P None t some e only = absurd cc
-met_one P (Some s) t some e only = (_, refl, only _ (sym e))
+met_one P (Some s) t some e only = only _ (sym e)
+
+-- so one was met
+pub some_met : (P : Text → Type 0) (o : Option (Text × List Row)) → IsSomeAnd o (λ r. P r.0) → IsSome o
+some_met P None is = absurd is
+some_met P (Some r) is = refl
+
+-- one that was met has a name of those
+pub name_of_met : {Z : Type 0} (P : Text → Type 0) (o : Option (Box SubCommand Z))
+    → IsSomeAnd (subcommand_rows o) (λ r. P r.0) → (name : Text) × (name_met o ≡ Some name) × P name
+name_of_met P None is = absurd is
+name_of_met P (Some s) is = (_, refl, is)
 
 -- one that was met by a name, and the rows after it
 pub met_rows : {Z : Type 0} (o : Option (Box SubCommand Z)) (name : Text) (rows : List Row) → name_met o ≡ Some name
@@ -138,13 +142,15 @@ met_rows (Some s) name rows is behind =
     ap₂ (λ (a : Text) (b : List Row). Some (a, b)) (ap (λ (q : Option Text). unwrap_or q name) is)
     (ap (λ (q : Option (List Row)). unwrap_or q rows) behind)
 
--- two that are met as one have one name and the same rows
-met_same : (a b : Text) (rows others : List Row)
-    → ◌≡◌ {A = Option (Text × List Row)} (Some (a, rows)) (Some (b, others)) → (a ≡ b) × (rows ≡ others)
-met_same a b rows others e = (
-  ap (λ (q : Option (Text × List Row)). (unwrap_or q (a, rows)).0) e,
-  ap (λ (q : Option (Text × List Row)). (unwrap_or q (a, rows)).1) e,
-)
+module _ (P : Text → List Row → Type 0) (o : Option (Text × List Row)) (name : Text) (rows : List Row)
+    (e : o ≡ Some (name, rows)) where
+  -- a fact of one that is met by its name
+  pub fact-met : P name rows → IfSome o (λ m. P m.0 m.1)
+  fact-met fact = subst (λ (q : Option (Text × List Row)). IfSome q (λ m. P m.0 m.1)) (sym e) fact
+
+  -- and by its name a fact of one that is met
+  pub met-fact : IfSome o (λ m. P m.0 m.1) → P name rows
+  met-fact fact = subst (λ (q : Option (Text × List Row)). IfSome q (λ m. P m.0 m.1)) e fact
 
 -- each part has a report and a certificate
 pub paths-even : (parts : List Part) → length (paths_of parts) % 2 ≡ 0
@@ -154,6 +160,10 @@ paths-even (p ∷ ps) = let rest = paths-even ps in omega (arith, rest)
 -- equal texts begin alike
 first_code : (a : ℕ) (more bs : List ℕ) → a ∷ more ≡ bs → a ≡ get_or bs 0 a
 first_code a more bs e = ap (λ (t : List ℕ). get_or t 0 a) e
+
+-- a name that begins otherwise isn't `merge`
+pub other_name : (name : Text) (first : ℕ) → (first ≡ 109 → ⊥) → get_or name 0 109 ≡ first → name ≡ codes "merge" → ⊥
+other_name name first other begins e = other (sym begins ∙ ap (λ (t : List ℕ). get_or t 0 109) e)
 
 -- so the reports and certificates of a command that merges come in pairs
 merges-pairs : (name : Text) (rows : List Row) (c : Command) → IsCommand name rows c → name ≡ codes "merge"
@@ -171,26 +181,66 @@ merges-pairs name rows (Describe stations files) (inr (inl is)) e = absurd is.1
 merges-pairs name rows (Merge query certificate parts) (inr (inl is)) e =
     ap (λ (ps : List Text). length ps % 2) (sym is.1.2) ∙ paths-even parts.items
 
--- arguments without an error in which a subcommand was met by this name, with these rows after it, name the command
--- that is read of the rows
-pub command-met : {Z : Type 0} (words : List Text) (o : Option (Box SubCommand Z)) (name : Text) (rows : List Row)
-    (c : Command) → fault_of extremes_app words ≡ [] → subcommand_rows o ≡ subcommand_of extremes_app words
-    → name_met o ≡ Some name → option_map (λ p. p.1) (subcommand_rows o) ≡ Some rows → IsCommand name rows c
+-- of two that are read as one the second is there if the first is
+pub mapped_some : {X Y Z : Type 0} (f : X → Z) (g : Y → Z) (a : Option X) (b : Option Y) → option_map f a ≡ option_map g b
+    → IsSome a → IsSome b
+mapped_some f g a (Some y) e some = refl
+mapped_some f g (Some x) None e some = absurd cc
+mapped_some f g None None e some = some
+
+-- a value that is read of another is there if that is
+some_read : {X Z : Type 0} (f : X → Z) (a : Option X) (b : Option Z) → option_map f a ≡ b → IsSome a → IsSome b
+some_read f (Some x) b e some = subst (λ o. IsSome o) e refl
+some_read f None b e some = absurd cc
+
+-- and it is there only if that is
+pub read_some : {X Z : Type 0} (f : X → Z) (a : Option X) (b : Option Z) → option_map f a ≡ b → IsSome b → IsSome a
+read_some f (Some x) b e some = refl
+read_some f None b e some = subst (λ o. IsSome o) (sym e) some
+
+-- files that are named with `--null` are named by a list too
+files-listed : (rows : List Row) (files : NamedFiles) → AreFiles rows files → HasListIfNull rows
+files-listed rows files are given =
+    some_read _ files.list _ are.list (are.listed (are.null.1 given))
+
+-- so is it with the files of each command that has files
+lists-null : (name : Text) (rows : List Row) (c : Command) → IsCommand name rows c → (name ≡ codes "merge" → ⊥)
+    → HasListIfNull rows
+lists-null name rows c (inr (inl is)) other = absurd (other is.0)
+lists-null name rows Sample (inl is) other = absurd is.1
+lists-null name rows (Rank stations query workers guess certificate files) (inl is) other =
+    files-listed rows files is.1.5
+lists-null name rows (Merge query certificate parts) (inl is) other = absurd is.1
+lists-null name rows (Check stations query report certificate part files) (inl is) other = absurd is.1
+lists-null name rows (Describe stations files) (inl is) other = absurd is.1
+lists-null name rows Sample (inr (inr (inl is))) other = absurd is.1
+lists-null name rows (Rank stations query workers guess certificate files) (inr (inr (inl is))) other = absurd is.1
+lists-null name rows (Merge query certificate parts) (inr (inr (inl is))) other = absurd is.1
+lists-null name rows (Check stations query report certificate part files) (inr (inr (inl is))) other =
+    files-listed rows files is.1.5
+lists-null name rows (Describe stations files) (inr (inr (inl is))) other = absurd is.1
+lists-null name rows Sample (inr (inr (inr is))) other = absurd is.1
+lists-null name rows (Rank stations query workers guess certificate files) (inr (inr (inr is))) other = absurd is.1
+lists-null name rows (Merge query certificate parts) (inr (inr (inr is))) other = absurd is.1
+lists-null name rows (Check stations query report certificate part files) (inr (inr (inr is))) other = absurd is.1
+lists-null name rows (Describe stations files) (inr (inr (inr is))) other = files-listed rows files is.1.1
+
+-- arguments without an error that name a subcommand name the command that is read of it
+pub command-met : (words : List Text) (met : Option (Text × List Row)) (c : Command) → fault_of extremes_app words ≡ []
+    → met ≡ subcommand_of extremes_app words → IsSome met → IfSome met (λ m. IsCommand m.0 m.1 c)
     → IsCommandOf words c
-command-met words o name rows c read rows_are met behind is =
-    let entered : subcommand_of extremes_app words ≡ Some (name, rows) = sym rows_are ∙ met_rows o name rows met
-    behind in
-    record {
-      name = name;
-      rows = rows;
-      right = record {
-        read = read;
-        paired = λ others e. let same = met_same name (codes "merge") rows others (sym entered ∙ e) in
-            subst AreInPairs same.1 (merges-pairs name rows c is same.0);
-      };
-      entered = entered;
-      named = is;
-    }
+command-met words None c read same some is = absurd cc
+command-met words (Some m) c read same some is = record {
+  name = m.0;
+  rows = m.1;
+  right = record {
+    read = read;
+    together = subst (λ (o : Option (Text × List Row)). IfSome o (λ r. FitTogether r.0 r.1)) same
+        (merges-pairs m.0 m.1 c is, lists-null m.0 m.1 c is);
+  };
+  entered = sym same;
+  named = is;
+}
 
 -- so do reports and certificates that are lent, if those of the rows do
 pub lent-pairs : (papers : List (Bor Text)) (rows : List Row) → map (λ s. s.now) papers ≡ papers_to_merge rows
@@ -216,9 +266,20 @@ count_read gives parses None count none value = none refl
 count_read gives parses (Some t) None none value = let r = value t refl in parses t (Err r.0) r.1
 count_read gives parses (Some t) (Some n) none value = let r = parses t (Ok n) (value t refl) in (r.0.0, r.1)
 
--- what is read of the text of a flag is what the text says
-pub flag_read : (text : Option Text) (on : Bool) → (text ≡ None → on ≡ false)
-    → (text ≡ Some (codes "true") → on ≡ true) → (text ≡ Some (codes "false") → on ≡ false) → IsFlag text on
-flag_read None on none if_true if_false = none refl
-flag_read (Some t) on none if_true if_false =
-    (λ e. if_true (ap (λ (x : Text). Some x) e), λ e. if_false (ap (λ (x : Text). Some x) e))
+-- what is read of the text of a flag is whether it is `true`
+pub flag_read : (E : Type 0) (text : Option Text) (read : Option Bool) (on : Bool) → on ≡ unwrap_or read false
+    → (text ≡ None → read ≡ None) → ((t : Text) → text ≡ Some t → ReadsOne {E = E} ParsesBool t read) → IsFlag text on
+flag_read E None read on is none value = (
+  λ yes. absurd (true≢false (sym yes ∙ is ∙ ap (λ r. unwrap_or r false) (none refl))),
+  λ e. absurd cc,
+)
+flag_read E (Some t) (Some true) on is none value = (λ yes. ap (λ (x : Text). Some x) (value t refl), λ e. is)
+flag_read E (Some t) (Some false) on is none value = (
+  λ yes. absurd (true≢false (sym yes ∙ is)),
+  λ e. let bad : 102 ≡ 116 = first_code _ _ _ (sym (value t refl) ∙ ap (λ (o : Option Text). unwrap_or o t) e) in
+      absurd (omega (arith, bad)),
+)
+flag_read E (Some t) None on is none value = (
+  λ yes. absurd (true≢false (sym yes ∙ is)),
+  λ e. absurd ((value t refl).1.0 (ap (λ (o : Option Text). unwrap_or o t) e)),
+)

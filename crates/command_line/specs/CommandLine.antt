@@ -1,5 +1,5 @@
 -- What the arguments ask for, in the terms of `clap`.
-use Rattle.std.specs.Prelude.{◌≡◌, ◌⊎◌, List, [], ◌∷◌, map, codes, Option, Some, None, unwrap_or, Bool, true, false}
+use Rattle.std.specs.Prelude.{◌≡◌, ◌≢◌, ◌↔◌, ◌⊎◌, IsSome, IfSome, List, [], ◌∷◌, map, codes, Option, Some, None, unwrap_or, Bool, true}
 use Rattle.std.specs.Prelude.{String, string_bytes, ⊤}
 use Rattle.std.specs.Prelude.{length, ◌%◌, ℕ, ◌<◌, ◌^◌, ℤ, pos, negsuc, FitsSigned}
 use Rattle.std.specs.Option.{option_map}
@@ -16,6 +16,7 @@ use Rattle.clap.specs.declared.builder.ArgAction.TheVariants.{Set, SetTrue, Appe
 use Rattle.clap.specs.declared.builder.ValueParser.{ValueParser}
 use Rattle.clap.specs.declared.builder.ValueParser.TheVariants.{Signed, Unsigned}
 use Rattle.command_line.specs.declared.asked.Part.{Part}
+use Rattle.command_line.specs.declared.asked.NamedFiles.{NamedFiles}
 use Rattle.command_line.specs.declared.asked.CommandFault.{CommandFault}
 use Rattle.command_line.specs.declared.asked.CommandFault.TheVariants as fault
 use Rattle.command_line.specs.declared.asked.Command.{Command}
@@ -28,6 +29,10 @@ option_of name = record (new_rule name) { long = Some name; value_names = 1; act
 -- `--NAME`: a flag, which may be given once
 abbrev pub flag_of : Text → Rule
 flag_of name = record (new_rule name) { long = Some name; action = Some SetTrue }
+
+-- `-CHAR` is the same flag
+abbrev pub short_by : ℕ → Rule → Rule
+short_by char rule = record rule { short = Some char }
 
 -- an option which must be given
 abbrev pub required : Rule → Rule
@@ -57,14 +62,20 @@ many_of name = record (new_rule name) {
   action = Some Append;
 }
 
+-- a subcommand that daily files are given: a list of more, `--null` or `-0`, and then the files
+abbrev pub and_files : App → App
+and_files app = with_rule (with_rule (with_rule app
+    (option_of (codes "files-from")))
+    (short_by 48 (flag_of (codes "null")))) (many_of (codes "files"))
+
 -- `rank` with its options and files
 abbrev pub rank_app : App
-rank_app = with_rule (with_rule (with_rule (with_rule (with_rule (with_rule (new_app (codes "rank"))
+rank_app = and_files (with_rule (with_rule (with_rule (with_rule (with_rule (new_app (codes "rank"))
     (required (option_of (codes "stations"))))
     (required (option_of (codes "query"))))
     (parsed whole_count (option_of (codes "workers"))))
     (parsed whole_number (option_of (codes "guess"))))
-    (option_of (codes "certificate"))) (many_of (codes "files"))
+    (option_of (codes "certificate")))
 
 -- `merge` with its options, of which the query must be given, and the reports and certificates of parts
 abbrev pub merge_app : App
@@ -74,17 +85,17 @@ merge_app = with_rule (with_rule (with_rule (new_app (codes "merge"))
 
 -- `check` with its options, all of which must be given, its flag and files
 abbrev pub check_app : App
-check_app = with_rule (with_rule (with_rule (with_rule (with_rule (with_rule (new_app (codes "check"))
+check_app = and_files (with_rule (with_rule (with_rule (with_rule (with_rule (new_app (codes "check"))
     (required (option_of (codes "stations"))))
     (required (option_of (codes "query"))))
     (required (option_of (codes "report"))))
     (required (option_of (codes "certificate"))))
-    (flag_of (codes "part"))) (many_of (codes "files"))
+    (flag_of (codes "part")))
 
 -- `describe` with its option, which must be given, and files
 abbrev pub describe_app : App
-describe_app = with_rule (with_rule (new_app (codes "describe"))
-    (required (option_of (codes "stations")))) (many_of (codes "files"))
+describe_app = and_files (with_rule (new_app (codes "describe"))
+    (required (option_of (codes "stations"))))
 
 -- the program's command line: it has a version and the subcommands `rank`, `merge`, `check` and `describe`, and needs
 -- one of these
@@ -109,10 +120,19 @@ papers_to_merge rows = unwrap_or (all_of (codes "papers") rows) []
 abbrev pub AreInPairs : List Row → Type 0
 AreInPairs rows = length (papers_to_merge rows) % 2 ≡ 0
 
--- the arguments are a valid command line: `clap` reports no error, and reports and certificates to merge come in pairs
+-- if `--null` is given, so is a list
+abbrev pub HasListIfNull : List Row → Type 0
+HasListIfNull rows = one_of (codes "null") rows ≡ Some (codes "true") → IsSome (first_of (codes "files-from") rows)
+
+-- what a subcommand is given fits together: reports and certificates to merge come in pairs, and elsewhere `--null`
+-- comes with a list
+abbrev pub FitTogether : Text → List Row → Type 0
+FitTogether name rows = (name ≡ codes "merge" → AreInPairs rows) × (name ≢ codes "merge" → HasListIfNull rows)
+
+-- the arguments are a valid command line: `clap` reports no error, and what the subcommand is given fits together
 pub record AreRightWords (words : List Text) : Type 0 where
   pub read : fault_of extremes_app words ≡ []
-  pub paired : (rows : List Row) → subcommand_of extremes_app words ≡ Some (codes "merge", rows) → AreInPairs rows
+  pub together : IfSome (subcommand_of extremes_app words) (λ met. FitTogether met.0 met.1)
 
 -- the guess is the number of 64 bits that the text writes; there is none if no text is given
 abbrev pub IsGuess : Option Text → Option ℤ → Type 0
@@ -132,10 +152,17 @@ IsCount (Some text) (Some number) =
 abbrev pub AreWorkers : Option Text → ℕ → Type 0
 AreWorkers text workers = (given : Option ℕ) × IsCount text given × (workers ≡ unwrap_or given 4)
 
--- a flag is on if its text is `true`, which `clap` sets if the flag is given, and off if it is `false` or there is none
+-- a flag is on if and only if its text is `true`, which `clap` sets if the flag is given
 abbrev pub IsFlag : Option Text → Bool → Type 0
-IsFlag None on = on ≡ false
-IsFlag (Some text) on = (text ≡ codes "true" → on ≡ true) × (text ≡ codes "false" → on ≡ false)
+IsFlag text on = (on ≡ true) ↔ (text ≡ Some (codes "true"))
+
+-- the files and the list of more are those that a subcommand's matches have, and so is whether the names of the list
+-- end by NUL
+pub record AreFiles (rows : List Row) (files : NamedFiles) : Type 0 where
+  pub paths : map (λ s. string_bytes s) files.paths.items ≡ unwrap_or (all_of (codes "files") rows) []
+  pub list : option_map (λ s. string_bytes s) files.list ≡ first_of (codes "files-from") rows
+  pub null : IsFlag (one_of (codes "null") rows) files.null
+  pub listed : files.null ≡ true → IsSome files.list
 
 -- the command has the options and files of a subcommand's matches
 abbrev pub IsRank : List Row → Command → Type 0
@@ -149,7 +176,7 @@ IsRank rows (Rank stations query workers guess certificate files) =
     × AreWorkers (one_of (codes "workers") rows) workers
     × IsGuess (one_of (codes "guess") rows) guess
     × (option_map (λ s. string_bytes s) certificate ≡ first_of (codes "certificate") rows)
-    × (map (λ s. string_bytes s) files.items ≡ unwrap_or (all_of (codes "files") rows) [])
+    × AreFiles rows files
 
 -- the paths of the reports and certificates of parts, those of a part side by side
 abbrev pub paths_of : List Part → List Text
@@ -178,7 +205,7 @@ IsCheck rows (Check stations query report certificate part files) =
     × (string_bytes report ≡ unwrap_or (first_of (codes "report") rows) [])
     × (string_bytes certificate ≡ unwrap_or (first_of (codes "certificate") rows) [])
     × IsFlag (one_of (codes "part") rows) part
-    × (map (λ s. string_bytes s) files.items ≡ unwrap_or (all_of (codes "files") rows) [])
+    × AreFiles rows files
 
 -- the same for a subcommand that describes files
 abbrev pub IsDescribe : List Row → Command → Type 0
@@ -188,7 +215,11 @@ IsDescribe rows (Merge query certificate parts) = ⊥
 IsDescribe rows (Check stations query report certificate part files) = ⊥
 IsDescribe rows (Describe stations files) =
     (string_bytes stations ≡ unwrap_or (first_of (codes "stations") rows) [])
-    × (map (λ s. string_bytes s) files.items ≡ unwrap_or (all_of (codes "files") rows) [])
+    × AreFiles rows files
+
+-- it is the name of a subcommand
+abbrev pub IsName : Text → Type 0
+IsName name = (name ≡ codes "rank") ⊎ ((name ≡ codes "merge") ⊎ ((name ≡ codes "check") ⊎ (name ≡ codes "describe")))
 
 -- the command is that of the subcommand of this name, `rank`, `merge`, `check` or `describe`
 abbrev pub IsCommand : Text → List Row → Command → Type 0

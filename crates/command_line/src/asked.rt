@@ -7,7 +7,7 @@ use std::alloc::AllocError;
 pub enum Command {
     /// Without arguments: the ranking of the texts that are built in.
     Sample,
-    /// Rank the candidates of a query over files, named by their paths.
+    /// Rank the candidates of a query over files.
     Rank {
         stations: String,
         query: String,
@@ -17,7 +17,7 @@ pub enum Command {
         guess: Option<i64>,
         /// Where the certificate goes, if it is wanted.
         certificate: Option<String>,
-        files: Vec<String>,
+        files: NamedFiles,
     },
     /// Merge the reports and the certificates of parts into those of all files. No data is read.
     Merge {
@@ -26,7 +26,7 @@ pub enum Command {
         certificate: Option<String>,
         parts: Vec<Part>,
     },
-    /// Check a report and a certificate against files, named by their paths.
+    /// Check a report and a certificate against files.
     Check {
         stations: String,
         query: String,
@@ -34,13 +34,24 @@ pub enum Command {
         certificate: String,
         /// Whether the files are a part of those that the report and the certificate cover.
         part: bool,
-        files: Vec<String>,
+        files: NamedFiles,
     },
-    /// Describe what files hold, named by their paths.
+    /// Describe what files hold.
     Describe {
         stations: String,
-        files: Vec<String>,
+        files: NamedFiles,
     },
+}
+
+/// The daily files that a command names.
+#[derive(Debug, Drop)]
+pub struct NamedFiles {
+    /// Paths of files and of folders.
+    pub paths: Vec<String>,
+    /// A list of more, which come after these. `-` is standard input.
+    pub list: Option<String>,
+    /// Whether the names of the list end by NUL, and not by the end of a line.
+    pub null: bool,
 }
 
 /// The report and the certificate of a part, named by their paths.

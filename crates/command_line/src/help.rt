@@ -34,8 +34,18 @@ pub const MERGED_CERTIFICATE_HELP: &str =
 pub const PART_HELP: &str =
     "The files are those of some stations; the report and the certificate are those of a whole archive";
 
+/// The help of `--files-from`.
+pub const LIST_HELP: &str =
+    "A list of more daily files and folders, one on each line. - is standard input";
+
+/// The help of `--null`.
+pub const NULL_HELP: &str =
+    "Each name of LIST ends with a NUL instead of a line end, as find -print0 prints them";
+
 /// The help of the daily files.
-pub const FILES_HELP: &str = "Daily files, .dly, uncompressed";
+pub const FILES_HELP: &str =
+    "Daily files, .dly, uncompressed, or folders. A folder stands for its .dly files, but not for
+          those in folders in it";
 
 /// The help of the reports and certificates to merge.
 pub const PAPERS_HELP: &str = "The report and the certificate of a part, then those of the next";
@@ -60,6 +70,13 @@ pub const ODD_PAPERS: &str =
     "error: each report is followed by its certificate, and the last one has none
 
 Usage: extremes merge --query <QUERY> [--certificate <OUT>] [REPORT CERTIFICATE]...
+
+For more information, try '--help'.
+";
+
+/// The text for `--null` without a list, in the format of the parser's texts.
+pub const NULL_WITHOUT_LIST: &str =
+    "error: --null says how the names of a list end, and --files-from names no list
 
 For more information, try '--help'.
 ";
@@ -96,16 +113,17 @@ Elements:
   SNWD     snow depth, whole millimetres
 
 Examples:
-  extremes rank --stations ghcnd-stations.txt --query 'top 10 highest TMAX' *.dly
+  extremes rank --stations ghcnd-stations.txt --query 'top 10 highest TMAX' ghcnd_all
   extremes rank --stations ghcnd-stations.txt --query 'top 5 sum 3 PRCP country GM' GM*.dly
   extremes rank --stations ghcnd-stations.txt \\
       --query 'top 3 dry box 36 -115 42 -109 from 1991-01-01 to 2020-12-31' US*.dly
 
 Exit statuses:
   0        done: the report is on standard output
-  1        refused: one line on standard error says why
+  1        refused: standard error says why
   2        the command line isn't valid, or asks for help
-  3        a file can't be read, or the report or the certificate can't be written
+  3        a file, a folder or a list can't be read, a folder has no daily files, a list has no names,
+           or the report or the certificate can't be written
 
 All files are read to the end before an error is reported; an unreadable one is reported first. OUT
 is a file, even if its name is -. 'file not written -' means that standard output can't be written.
@@ -120,7 +138,8 @@ Refusals (A is the number of a word of the query, F that of a daily file, L that
   refused 1 StationLine line L WHY        line L of the station list fails the test WHY
   refused 2 TooManyStations               the station list has more than 1048576 stations
   refused 3 Memory                        out of memory: the system gave no more
-  refused 5 DailyLine file F line L WHY   line L of daily file F fails the test WHY
+  refused 5 DailyLine file F line L WHY   line L of daily file F fails the test WHY. If a folder or a
+                                          list is passed, 'at PATH:L' follows on a line of its own
   refused 6 TooManyFiles                  there are more than 1048576 daily files
   refused 7 QueryTooLong                  the query has more than 256 bytes
   refused 8 UnexpectedWord A              no query has this word at that place
@@ -217,16 +236,17 @@ report and the same certificate.
 
 Examples:
   extremes check --stations ghcnd-stations.txt --query 'top 10 highest TMAX' \\
-      --report report.txt --certificate certificate.txt *.dly
+      --report report.txt --certificate certificate.txt ghcnd_all
   extremes check --part --stations ghcnd-stations.txt --query 'top 10 highest TMAX' \\
       --report report.txt --certificate certificate.txt GM*.dly
 
 Exit statuses:
   0        accepted
-  1        refused: the report or the certificate, by a line on standard output, or the input, by one
-           on standard error
+  1        refused: the report or the certificate, by a line on standard output, or the input, by
+           standard error
   2        the command line isn't valid, or asks for help
-  3        a file can't be read, or the verdict can't be written
+  3        a file, a folder or a list can't be read, a folder has no daily files, a list has no names,
+           or the verdict can't be written
 
 'extremes rank --help' describes queries, and lists what each refusal of the input means.";
 
@@ -252,12 +272,13 @@ The lines of elements, of other codes, of unlisted stations and of blanks add up
 leaves out the lines with another code, whatever else they hold.
 
 Example:
-  extremes describe --stations ghcnd-stations.txt *.dly
+  extremes describe --stations ghcnd-stations.txt ghcnd_all
 
 Exit statuses:
   0        done: the description is on standard output
-  1        refused: one line on standard error says why
+  1        refused: standard error says why
   2        the command line isn't valid, or asks for help
-  3        a file can't be read, or the description can't be written
+  3        a file, a folder or a list can't be read, a folder has no daily files, a list has no names,
+           or the description can't be written
 
 'extremes rank --help' lists what each refusal means.";

@@ -7,5 +7,5 @@ mod asked;
 mod help;
 mod words;
 
-pub use asked::{Command, CommandFault, Part};
+pub use asked::{Command, CommandFault, NamedFiles, Part};
 pub use words::command;

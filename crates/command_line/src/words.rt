@@ -1,21 +1,22 @@
 //! Reading the arguments of a command line.
 
-ghost use Rattle.std.specs.Prelude.{◌≡◌, ◌≢◌, IfOk, IfErr, [], Ok, map, option_map, unwrap_or, false, string_bytes, length, ◌%◌};
-ghost use Rattle.clap.specs.Words.{app_of, first_of, kind_of, found_of, rows_of, rule_of};
+ghost use Rattle.std.specs.Prelude.{◌≡◌, ◌≢◌, IfOk, IfErr, IfSome, IsSomeAnd, [], Ok, map, option_map, unwrap_or, false, string_bytes, length, ◌%◌, codes};
+ghost use Rattle.clap.specs.Words.{app_of, first_of, one_of, kind_of, found_of, rows_of, rule_of, subcommand_rows_of};
 ghost use Rattle.clap.specs.declared.builder.Command.TheViews.{out-Command as fields_of};
 ghost use Rattle.command_line.specs.CommandLine.{extremes_app, rank_app, merge_app, check_app, describe_app};
-ghost use Rattle.command_line.specs.CommandLine.{option_of, flag_of, required, many_of, is_global, paths_of};
-ghost use Rattle.command_line.specs.CommandLine.{all_words, AreRightWords, AreInPairs, IsCommandOf};
-ghost use Rattle.command_line.specs.CommandLine.{IsRank, IsMerge, IsCheck, IsDescribe};
+ghost use Rattle.command_line.specs.CommandLine.{option_of, flag_of, required, many_of, is_global, and_files};
+ghost use Rattle.command_line.specs.CommandLine.{all_words, AreRightWords, FitTogether, AreInPairs, HasListIfNull};
+ghost use Rattle.command_line.specs.CommandLine.{IsCommandOf, IsName, IsCommand, IsRank, IsMerge, IsCheck, IsDescribe};
+ghost use Rattle.command_line.specs.CommandLine.{AreFiles, IsFlag, paths_of};
 ghost use Rattle.command_line.specs.CommandLine.{AskVersion, MayAskVersion, TellsVersion, OnVersion};
 ghost use Rattle.command_line.specs.declared.asked.Command.TheVariants as commands;
 ghost use Rattle.command_line.specs.declared.asked.CommandFault.TheVariants as faults;
 
-use crate::asked::{Command, CommandFault, Part};
+use crate::asked::{Command, CommandFault, NamedFiles, Part};
 use crate::help::{
-    CERTIFICATE_HELP, CHECK_HELP, DESCRIBE_HELP, FILES_HELP, GUESS_HELP, HELP, MERGE_HELP,
-    MERGE_USAGE, MERGED_CERTIFICATE_HELP, ODD_PAPERS, PAPERS_HELP, PART_HELP, QUERY_HELP,
-    RANK_HELP, STATIONS_HELP, USAGE, VERSION, WORKERS_HELP,
+    CERTIFICATE_HELP, CHECK_HELP, DESCRIBE_HELP, FILES_HELP, GUESS_HELP, HELP, LIST_HELP,
+    MERGE_HELP, MERGE_USAGE, MERGED_CERTIFICATE_HELP, NULL_HELP, NULL_WITHOUT_LIST, ODD_PAPERS,
+    PAPERS_HELP, PART_HELP, QUERY_HELP, RANK_HELP, STATIONS_HELP, USAGE, VERSION, WORKERS_HELP,
 };
 use clap::error::ErrorKind;
 use clap::{Arg, ArgAction, ArgMatches, Error, value_parser};
@@ -70,23 +71,34 @@ fn named_command(alloc: Global, words: &[String]) -> Result<Command, CommandFaul
     ensures asked { IfErr result (OnVersion (MayAskVersion (all_words words.now))) }
 {
     let all = with_name(alloc, words)?;
-    let matches = match program(alloc)?.try_get_matches_from(all.as_slice()) {
-        Ok(matches) => matches,
-        Err(error) => return Err(fault_of(alloc, &error)),
-    };
+    match program(alloc)?.try_get_matches_from(all.as_slice()) {
+        Ok(matches) => command_of(alloc, &matches),
+        Err(error) => Err(fault_of(alloc, &error)),
+    }
+}
+
+/// The command that the matches of the program name, or the error of options that don't fit together.
+fn command_of(alloc: Global, matches: &ArgMatches) -> Result<Command, CommandFault>
+    requires { IsSomeAnd (subcommand_rows_of matches.now) (λ met. IsName met.0) }
+    ensures ok { IfOk result (λ command.
+        IfSome (subcommand_rows_of matches.now) (λ met. IsCommand met.0 met.1 command)) }
+    ensures together { IfSome (subcommand_rows_of matches.now) (λ met. FitTogether met.0 met.1)
+        → IfErr result (λ f. f ≡ faults.Memory) }
+    ensures asked { IfErr result (OnVersion ⊥) }
+{
     if let Some(rank) = matches.subcommand_matches("rank") {
-        return Ok(rank_of(alloc, rank)?);
+        return rank_of(alloc, rank);
     }
     if let Some(merge) = matches.subcommand_matches("merge") {
         return merge_of(alloc, merge);
     }
     if let Some(check) = matches.subcommand_matches("check") {
-        return Ok(check_of(alloc, check)?);
+        return check_of(alloc, check);
     }
     let Some(describe) = matches.subcommand_matches("describe") else {
         unreachable!();
     };
-    Ok(describe_of(alloc, describe)?)
+    describe_of(alloc, describe)
 }
 
 /// The program's name, and then all arguments.
@@ -126,15 +138,15 @@ fn rank_words<'a>(alloc: Global) -> Result<clap::Command<'a>, AllocError>
 {
     let workers = option(alloc, "workers", "N", WORKERS_HELP).value_parser(value_parser!(u64));
     let guess = option(alloc, "guess", "SCORE", GUESS_HELP).value_parser(value_parser!(i64));
-    clap::Command::new(alloc, "rank")
+    let rank = clap::Command::new(alloc, "rank")
         .about("Prints the k best records of a query")
         .after_help(RANK_HELP)
         .arg(needed(alloc, "stations", "FILE", STATIONS_HELP))?
         .arg(needed(alloc, "query", "QUERY", QUERY_HELP))?
         .arg(workers)?
         .arg(guess)?
-        .arg(option(alloc, "certificate", "OUT", CERTIFICATE_HELP))?
-        .arg(many(alloc, "files", "FILE", FILES_HELP))
+        .arg(option(alloc, "certificate", "OUT", CERTIFICATE_HELP))?;
+    with_files(alloc, rank)
 }
 
 /// The arguments of `merge`.
@@ -156,15 +168,15 @@ fn check_words<'a>(alloc: Global) -> Result<clap::Command<'a>, AllocError>
     ensures app { IfOk result (λ c. app_of c ≡ check_app) }
     ensures local { IfOk result (λ c. (fields_of c).has_globals ≡ false) }
 {
-    clap::Command::new(alloc, "check")
+    let check = clap::Command::new(alloc, "check")
         .about("Checks a report and a certificate, whatever program made them")
         .after_help(CHECK_HELP)
         .arg(needed(alloc, "stations", "FILE", STATIONS_HELP))?
         .arg(needed(alloc, "query", "QUERY", QUERY_HELP))?
         .arg(needed(alloc, "report", "FILE", "The report"))?
         .arg(needed(alloc, "certificate", "FILE", "The certificate"))?
-        .arg(flag(alloc, "part", PART_HELP))?
-        .arg(many(alloc, "files", "FILE", FILES_HELP))
+        .arg(flag(alloc, "part", PART_HELP))?;
+    with_files(alloc, check)
 }
 
 /// The arguments of `describe`.
@@ -172,10 +184,25 @@ fn describe_words<'a>(alloc: Global) -> Result<clap::Command<'a>, AllocError>
     ensures app { IfOk result (λ c. app_of c ≡ describe_app) }
     ensures local { IfOk result (λ c. (fields_of c).has_globals ≡ false) }
 {
-    clap::Command::new(alloc, "describe")
+    let describe = clap::Command::new(alloc, "describe")
         .about("Counts what daily files hold")
         .after_help(DESCRIBE_HELP)
-        .arg(needed(alloc, "stations", "FILE", STATIONS_HELP))?
+        .arg(needed(alloc, "stations", "FILE", STATIONS_HELP))?;
+    with_files(alloc, describe)
+}
+
+/// A subcommand with the arguments that name daily files, after its own.
+fn with_files<'a>(
+    alloc: Global,
+    command: clap::Command<'a>,
+) -> Result<clap::Command<'a>, AllocError>
+    requires { (fields_of command).has_globals ≡ false }
+    ensures app { IfOk result (λ c. app_of c ≡ and_files (app_of command.entry)) }
+    ensures local { IfOk result (λ c. (fields_of c).has_globals ≡ false) }
+{
+    command
+        .arg(option(alloc, "files-from", "LIST", LIST_HELP))?
+        .arg(flag(alloc, "null", NULL_HELP).short('0'))?
         .arg(many(alloc, "files", "FILE", FILES_HELP))
 }
 
@@ -222,17 +249,20 @@ fn many<'a>(alloc: Global, name: &'a str, value: &'a str, help: &'a str) -> Arg<
         .action(ArgAction::Append)
 }
 
-/// The command that the matches of `rank` name.
-fn rank_of(alloc: Global, matches: &ArgMatches) -> Result<Command, AllocError>
-    ensures { IfOk result (IsRank (rows_of (found_of matches.now))) }
+/// The command that the matches of `rank` name, or the error of `--null` without a list.
+fn rank_of(alloc: Global, matches: &ArgMatches) -> Result<Command, CommandFault>
+    ensures ok { IfOk result (IsRank (rows_of (found_of matches.now))) }
+    ensures listed { HasListIfNull (rows_of (found_of matches.now)) → IfErr result (λ f. f ≡ faults.Memory) }
+    ensures asked { IfErr result (OnVersion ⊥) }
 {
+    let files = files_of(alloc, matches)?;
     Ok(Command::Rank {
         stations: text(alloc, matches, "stations")?,
         query: text(alloc, matches, "query")?,
         workers: matches.get_one("workers").unwrap_or(WORKERS),
         guess: matches.get_one("guess"),
         certificate: copy(alloc, matches.get_str("certificate"))?,
-        files: copies(alloc, matches.get_strs("files").unwrap_or(&[]))?,
+        files,
     })
 }
 
@@ -253,28 +283,59 @@ fn merge_of(alloc: Global, matches: &ArgMatches) -> Result<Command, CommandFault
     })
 }
 
-/// The command that the matches of `check` name.
-fn check_of(alloc: Global, matches: &ArgMatches) -> Result<Command, AllocError>
-    ensures { IfOk result (IsCheck (rows_of (found_of matches.now))) }
+/// The command that the matches of `check` name, or the error of `--null` without a list.
+fn check_of(alloc: Global, matches: &ArgMatches) -> Result<Command, CommandFault>
+    ensures ok { IfOk result (IsCheck (rows_of (found_of matches.now))) }
+    ensures listed { HasListIfNull (rows_of (found_of matches.now)) → IfErr result (λ f. f ≡ faults.Memory) }
+    ensures asked { IfErr result (OnVersion ⊥) }
 {
+    let files = files_of(alloc, matches)?;
     Ok(Command::Check {
         stations: text(alloc, matches, "stations")?,
         query: text(alloc, matches, "query")?,
         report: text(alloc, matches, "report")?,
         certificate: text(alloc, matches, "certificate")?,
-        part: matches.get_flag("part"),
-        files: copies(alloc, matches.get_strs("files").unwrap_or(&[]))?,
+        part: is_given(matches, "part"),
+        files,
     })
 }
 
-/// The command that the matches of `describe` name.
-fn describe_of(alloc: Global, matches: &ArgMatches) -> Result<Command, AllocError>
-    ensures { IfOk result (IsDescribe (rows_of (found_of matches.now))) }
+/// The command that the matches of `describe` name, or the error of `--null` without a list.
+fn describe_of(alloc: Global, matches: &ArgMatches) -> Result<Command, CommandFault>
+    ensures ok { IfOk result (IsDescribe (rows_of (found_of matches.now))) }
+    ensures listed { HasListIfNull (rows_of (found_of matches.now)) → IfErr result (λ f. f ≡ faults.Memory) }
+    ensures asked { IfErr result (OnVersion ⊥) }
 {
+    let files = files_of(alloc, matches)?;
     Ok(Command::Describe {
         stations: text(alloc, matches, "stations")?,
-        files: copies(alloc, matches.get_strs("files").unwrap_or(&[]))?,
+        files,
     })
+}
+
+/// The daily files that the matches of a subcommand name, or the error of `--null` without a list.
+fn files_of(alloc: Global, matches: &ArgMatches) -> Result<NamedFiles, CommandFault>
+    ensures ok { IfOk result (AreFiles (rows_of (found_of matches.now))) }
+    ensures listed { HasListIfNull (rows_of (found_of matches.now)) → IfErr result (λ f. f ≡ faults.Memory) }
+    ensures asked { IfErr result (OnVersion ⊥) }
+{
+    let list = matches.get_str("files-from");
+    let null = is_given(matches, "null");
+    if null && list.is_none() {
+        return Err(CommandFault::Words(String::from_str(alloc, NULL_WITHOUT_LIST)?));
+    }
+    Ok(NamedFiles {
+        paths: copies(alloc, matches.get_strs("files").unwrap_or(&[]))?,
+        list: copy(alloc, list)?,
+        null,
+    })
+}
+
+/// Whether a flag is given.
+fn is_given(matches: &ArgMatches, flag: &str) -> bool
+    ensures { IsFlag (one_of flag.now (rows_of (found_of matches.now))) result }
+{
+    matches.get_one(flag).unwrap_or(false)
 }
 
 /// The text that is given under a name, or the empty text.

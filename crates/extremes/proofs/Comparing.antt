@@ -33,12 +33,14 @@ module _ {X : Type 0} (P : X → Type 0) where
   all-whole xs i le was = subst (λ l. All P l) (take-whole xs i le) was
 
 -- a certificate's file is in use, or isn't, by what it is compared with
-pub used-as : {A : Type 0} (shares : Sharing) (holds : Holding) (s t : List ℕ) (fs gs : List (String A)) (was is : Bool)
-    → s ≡ t → fs ≡ gs → was ≡ is → IsInUse shares holds s fs was → IsInUse shares holds t gs is
-used-as shares holds s t fs gs was is same_list same_files same used =
-    subst (IsInUse shares holds t gs) same
-    (subst (λ f. IsInUse shares holds t f was) same_files
-    (subst (λ l. IsInUse shares holds l fs was) same_list used))
+pub used-as : {A : Type 0} (shares : Sharing) (holds : Holding) (s t : List ℕ) (k l : Option (List ℕ))
+    (fs gs : List (String A)) (was is : Bool) → s ≡ t → k ≡ l → fs ≡ gs → was ≡ is
+    → IsInUse shares holds s k fs was → IsInUse shares holds t l gs is
+used-as shares holds s t k l fs gs was is same_stations same_list same_files same used =
+    subst (IsInUse shares holds t l gs) same
+    (subst (λ f. IsInUse shares holds t l f was) same_files
+    (subst (λ m. IsInUse shares holds t m fs was) same_list
+    (subst (λ m. IsInUse shares holds m k fs was) same_stations used)))
 
 module _ (uses : Using) (named : Option (Bor (List ℕ))) (path : Option (List ℕ))
     (same : option_map (λ p. p.now) named ≡ path) where

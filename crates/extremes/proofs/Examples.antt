@@ -5,8 +5,10 @@ use Rattle.std.specs.Fmt.{digits}
 use Rattle.ghcn_series.specs.declared.counts.Foreign.{Foreign}
 use Rattle.ghcn_series.specs.declared.counts.OddLines.{OddLines}
 use Rattle.ghcn_series.specs.declared.counts.Warnings.{Warnings}
+use Rattle.ghcn_series.specs.declared.fault.DailyWhy.TheVariants.{DuplicateMonth}
+use Rattle.rank_input.specs.declared.fault.Fault.TheVariants.{DailyLine, QueryEnds}
 use Rattle.extremes.specs.Messages.{foreign_warning, odd_warning, warning_lines, unlisted_warning, not_read_line}
-use Rattle.extremes.specs.Messages.{not_written_line}
+use Rattle.extremes.specs.Messages.{not_written_line, place_lines, unnumbered_place}
 
 -- two daily files
 abbrev paths : List (List ℕ)
@@ -49,3 +51,22 @@ not-read = refl
 
 not-written : not_written_line (codes "out") ≡ Some (codes "file not written out")
 not-written = refl
+
+-- line 30 of the second file is bad, and the arguments are a folder, or these files
+placed : unnumbered_place (codes "folder" ∷ []) paths (DailyLine 2 30 DuplicateMonth) ≡ Some (codes "at b c.dly:30") ∷ []
+unfolding digits
+placed = refl
+
+numbered : unnumbered_place paths paths (DailyLine 2 30 DuplicateMonth) ≡ []
+numbered = refl
+
+-- there is no third file, and no file 0
+absent : place_lines paths (DailyLine 3 30 DuplicateMonth) ≡ []
+absent = refl
+
+before-first : place_lines paths (DailyLine 0 30 DuplicateMonth) ≡ []
+before-first = refl
+
+-- the query isn't in a daily file
+unplaced : unnumbered_place [] paths QueryEnds ≡ []
+unplaced = refl

@@ -1,5 +1,6 @@
 pub mod Delivering
 pub mod Comparing
+pub mod NamedFiles
 pub mod PrintedLines
 pub mod Examples
 pub mod PlanAnswers

@@ -1,17 +1,23 @@
 -- Lines that are printed one after the other.
-use Rattle.std.proofs.Common.{◌≡◌, ℕ, zero, suc, ◌<◌, List, [], ◌∷◌, ◌++◌, length, map, Option, None, Some}
-use Rattle.std.proofs.Common.{refl, sym, ap, subst, ◌∙◌, inl, inr, arith, append_assoc, Bor}
+use Rattle.std.proofs.Common.{◌≡◌, ℕ, zero, suc, ◌-◌, ◌<◌, ◌≤◌, List, [], ◌∷◌, ◌++◌, length, map, Option, None, Some}
+use Rattle.std.proofs.Common.{refl, sym, ap, subst, ◌∙◌, inl, inr, arith, append_assoc, Bor, Bool, true, false}
 use Rattle.std.proofs.lemmas.Option.{slice_get-map, slice_get_past, slice_get_read}
-use Rattle.std.specs.Prelude.{codes, option_map, Result, Ok, String, string_bytes}
+use Rattle.std.specs.Prelude.{bytes_eq, codes, if◌then◌else◌, option_map, Result, Ok, String, string_bytes}
+use Rattle.std.specs.Cmp.Lexicographic.{pointwise}
 use Rattle.std.specs.Fmt.{decimal}
 use Rattle.std.specs.List.{slice_get}
-use Rattle.std.specs.Option.{option_and_then}
+use Rattle.std.specs.Option.{SomeIff, option_and_then}
 use Rattle.std.specs.Slice.{IsItemAt}
 use Rattle.ghcn_series.specs.declared.counts.Foreign.{Foreign}
 use Rattle.ghcn_series.specs.declared.counts.OddLines.{OddLines}
 use Rattle.ghcn_series.specs.declared.counts.LinePlace.{LinePlace}
 use Rattle.ghcn_series.specs.declared.counts.Warnings.{Warnings}
+use Rattle.ghcn_series.specs.declared.fault.DailyWhy.{DailyWhy}
 use Rattle.rank_input.specs.declared.fault.Fault.{Fault}
+use Rattle.rank_input.specs.declared.fault.Fault.TheVariants.{StationLine, TooManyStations, Memory, DailyLine}
+use Rattle.rank_input.specs.declared.fault.Fault.TheVariants.{TooManyFiles, QueryTooLong, UnexpectedWord, QueryEnds}
+use Rattle.rank_input.specs.declared.fault.Fault.TheVariants.{OutOfLimits, BadDate, BadBox, EmptyPeriod, BadWorkers}
+use Rattle.rank_input.specs.declared.fault.Fault.TheVariants.{BadGuess}
 use Rattle.extremes.specs.declared.papers.Papers.{Papers}
 use Rattle.extremes.specs.declared.ending.Ending.{Ending}
 use Rattle.extremes.specs.declared.ending.Ending.TheVariants.{Done, Refused, Words, File}
@@ -20,7 +26,7 @@ use Rattle.extremes.specs.declared.describe.DescriptionText.{DescriptionText}
 use Rattle.extremes.specs.declared.judgement.Judgement.{Judgement}
 use Rattle.extremes.specs.Printed.{ArePrinted, IsPrinted, IsTextShown, IsTold}
 use Rattle.extremes.specs.Messages.{Line, LinePrinting, ArePrintedLines, Streams, streams, after_lines, line_naming}
-use Rattle.extremes.specs.Messages.{warning_lines}
+use Rattle.extremes.specs.Messages.{input_lines, numbered_path, place_lines, place_text, unnumbered_place, warning_lines}
 use Rattle.extremes.specs.Messages.{foreign_text, foreign_warning, odd_text, odd_warning, odd_warning_at, unlisted_warning}
 
 module _ {M : Type 0} (prints : LinePrinting M) where
@@ -157,35 +163,156 @@ module _ {M : Type 0} (prints : LinePrinting M) (held given : Option (List ℕ))
   papers-after papers path puts more File (inr is) = inr (is.0, with-both more _ is.1)
 
   -- and an answer that isn't an error
-  pub answer-after : {F : Type 0} (line : F → Line) (answer : Result Papers F) (papers : Papers)
+  pub answer-after : {F : Type 0} (lines : F → List Line) (answer : Result Papers F) (papers : Papers)
       (path : Option (List ℕ)) (puts : Putting) (ending : Ending) → answer ≡ Ok papers
       → ArePrinted (after_lines (unlisted_warning papers.unlisted) (streams (ArePrintedLines prints between after) held given))
       papers path puts ending
-      → IsPrinted line (streams (ArePrintedLines prints before after) held given) answer first path puts ending
-  answer-after {F} line answer papers path puts ending same is =
-      subst (λ (a : Result Papers F). IsPrinted line (streams (ArePrintedLines prints before after) held given) a first path
+      → IsPrinted lines (streams (ArePrintedLines prints before after) held given) answer first path puts ending
+  answer-after {F} lines answer papers path puts ending same is =
+      subst (λ (a : Result Papers F). IsPrinted lines (streams (ArePrintedLines prints before after) held given) a first path
       puts ending) (sym same) (papers-after papers path puts (unlisted_warning papers.unlisted) ending is)
 
-module _ {A : Type 0} (s : Streams) (files named : List (String A)) (ending : Ending) (same : files ≡ named) where
-  -- what is printed of files is printed of the same files
-  pub told_of : (line : Fault → Line) (judged : Result (Judgement × Warnings) Fault)
-      → IsTold line s judged (map string_bytes files) ending → IsTold line s judged (map string_bytes named) ending
-  told_of line judged = subst (λ (fs : List (String A)). IsTold line s judged (map string_bytes fs) ending) same
+module _ {A : Type 0} (line : Fault → Line) (s : Streams) (files named arguments words : List (String A)) (ending : Ending)
+    (same : files ≡ named) (same_words : arguments ≡ words) where
+  -- what is printed of files is printed of the same files, under the same arguments
+  pub told_of : (judged : Result (Judgement × Warnings) Fault)
+      → IsTold line s judged (map string_bytes arguments) (map string_bytes files) ending
+      → IsTold line s judged (map string_bytes words) (map string_bytes named) ending
+  told_of judged is =
+      subst (λ (fs : List (String A)). IsTold line s judged (map string_bytes words) (map string_bytes fs) ending) same
+      (subst (λ (ws : List (String A)). IsTold line s judged (map string_bytes ws) (map string_bytes files) ending) same_words
+      is)
 
   -- and what is shown of them is shown of the same files
-  pub shown_of : (line : Fault → Line) (described : Result DescriptionText Fault)
-      → IsTextShown line s described (map string_bytes files) ending
-      → IsTextShown line s described (map string_bytes named) ending
-  shown_of line described =
-      subst (λ (fs : List (String A)). IsTextShown line s described (map string_bytes fs) ending) same
+  pub shown_of : (described : Result DescriptionText Fault)
+      → IsTextShown line s described (map string_bytes arguments) (map string_bytes files) ending
+      → IsTextShown line s described (map string_bytes words) (map string_bytes named) ending
+  shown_of described is =
+      subst (λ (fs : List (String A)). IsTextShown line s described (map string_bytes words) (map string_bytes fs) ending) same
+      (subst (λ (ws : List (String A)). IsTextShown line s described (map string_bytes ws) (map string_bytes files) ending)
+      same_words is)
 
--- what is printed of files is printed of the same files, with the certificate in the file of the same path
-pub printed-as : {A F : Type 0} (line : F → Line) (s : Streams) (answer : Result Papers F) (files named : List (String A))
-    (warnings : Warnings) (path other : Option (List ℕ)) (puts : Putting) (ending : Ending) → files ≡ named → path ≡ other
-    → IsPrinted line s answer (warning_lines (map string_bytes files) warnings) path puts ending
-    → IsPrinted line s answer (warning_lines (map string_bytes named) warnings) other puts ending
-printed-as {A} line s answer files named warnings path other puts ending same_files same_path is =
-    subst (λ (fs : List (String A)). IsPrinted line s answer (warning_lines (map string_bytes fs) warnings) other puts ending)
-    same_files
-    (subst (λ (p : Option (List ℕ)). IsPrinted line s answer (warning_lines (map string_bytes files) warnings) p puts ending)
-    same_path is)
+  -- and what is printed of them, with the certificate in the file of the same path
+  pub printed-as : (answer : Result Papers Fault) (warnings : Warnings) (path other : Option (List ℕ)) (puts : Putting)
+      → path ≡ other
+      → IsPrinted (input_lines line (map string_bytes arguments) (map string_bytes files)) s answer
+      (warning_lines (map string_bytes files) warnings) path puts ending
+      → IsPrinted (input_lines line (map string_bytes words) (map string_bytes named)) s answer
+      (warning_lines (map string_bytes named) warnings) other puts ending
+  printed-as answer warnings path other puts same_path is =
+      subst (λ (fs : List (String A)). IsPrinted (input_lines line (map string_bytes words) (map string_bytes fs)) s answer
+      (warning_lines (map string_bytes fs) warnings) other puts ending) same
+      (subst (λ (ws : List (String A)). IsPrinted (input_lines line (map string_bytes ws) (map string_bytes files)) s answer
+      (warning_lines (map string_bytes files) warnings) other puts ending) same_words
+      (subst (λ (p : Option (List ℕ)). IsPrinted (input_lines line (map string_bytes arguments) (map string_bytes files)) s
+      answer (warning_lines (map string_bytes files) warnings) p puts ending) same_path is))
+
+-- an error that isn't of a daily line has no place
+no-place : (paths : List (List ℕ)) (fault : Fault)
+    → ((file line : ℕ) (why : DailyWhy) → fault ≡ DailyLine file line why → ⊥) → place_lines paths fault ≡ []
+no-place paths (StationLine line why) absent = refl
+no-place paths TooManyStations absent = refl
+no-place paths (Memory m) absent = refl
+no-place paths (DailyLine file line why) absent = absurd (absent file line why refl)
+no-place paths TooManyFiles absent = refl
+no-place paths QueryTooLong absent = refl
+no-place paths (UnexpectedWord at) absent = refl
+no-place paths QueryEnds absent = refl
+no-place paths (OutOfLimits at) absent = refl
+no-place paths (BadDate at) absent = refl
+no-place paths (BadBox at) absent = refl
+no-place paths EmptyPeriod absent = refl
+no-place paths BadWorkers absent = refl
+no-place paths BadGuess absent = refl
+
+-- the place of an error, by whether the arguments are the paths
+place-by : (arguments paths : List (List ℕ)) (fault : Fault) (are : Bool) → are ≡ pointwise bytes_eq paths arguments
+    → unnumbered_place arguments paths fault ≡ (if are then [] else place_lines paths fault)
+place-by arguments paths fault are same = ap (λ (b : Bool). if b then [] else place_lines paths fault) (sym same)
+
+-- no place is printed if the arguments are the paths
+pub numbered-place : (arguments paths : List (List ℕ)) (fault : Fault) (are : Bool)
+    → are ≡ pointwise bytes_eq paths arguments → are ≡ true → unnumbered_place arguments paths fault ≡ []
+numbered-place arguments paths fault are same is = place-by arguments paths fault are same
+    ∙ ap (λ (b : Bool). if b then [] else place_lines paths fault) is
+
+-- if they aren't, that of the error is
+pub other-place : (arguments paths : List (List ℕ)) (fault : Fault) (are : Bool)
+    → are ≡ pointwise bytes_eq paths arguments → are ≡ false
+    → unnumbered_place arguments paths fault ≡ place_lines paths fault
+other-place arguments paths fault are same is = place-by arguments paths fault are same
+    ∙ ap (λ (b : Bool). if b then [] else place_lines paths fault) is
+
+-- the text of a place, from its end
+place-nested : (line : ℕ) (path : List ℕ)
+    → place_text line path ≡ codes "at " ++ (path ++ (codes ":" ++ decimal line))
+place-nested line path = append_assoc (codes "at " ++ path) (codes ":") (decimal line)
+    ∙ append_assoc (codes "at ") path (codes ":" ++ decimal line)
+
+module _ {M : Type 0} (prints : LinePrinting M) (before after : M) (arguments paths : List (List ℕ)) (fault : Fault)
+    (are : Bool) (same : are ≡ pointwise bytes_eq paths arguments) where
+  -- an error of a daily line is followed by its place
+  pub place-printed : (file line : ℕ) (why : DailyWhy) → are ≡ false → fault ≡ DailyLine file line why
+      → ArePrintedLines prints before after (line_naming (place_text line) (numbered_path paths file))
+      → ArePrintedLines prints before after (unnumbered_place arguments paths fault)
+  place-printed file line why isnt is printed = subst (λ l. ArePrintedLines prints before after l)
+      (sym (other-place arguments paths fault are same isnt ∙ ap (place_lines paths) is)) printed
+
+module _ {M : Type 0} (prints : LinePrinting M) (m : M) (arguments paths : List (List ℕ)) (fault : Fault)
+    (are : Bool) (same : are ≡ pointwise bytes_eq paths arguments) where
+  -- nothing is printed if the arguments are the paths
+  pub place-numbered : are ≡ true → ArePrintedLines prints m m (unnumbered_place arguments paths fault)
+  place-numbered is = line-none prints m _ (numbered-place arguments paths fault are same is)
+
+  -- or if the error isn't of a daily line
+  pub place-absent : are ≡ false → ((file line : ℕ) (why : DailyWhy) → fault ≡ DailyLine file line why → ⊥)
+      → ArePrintedLines prints m m (unnumbered_place arguments paths fault)
+  place-absent isnt absent = line-none prints m _
+      (other-place arguments paths fault are same isnt ∙ no-place paths fault absent)
+
+-- the number of a file is one more than its place
+number-of : (file place : ℕ) (found : Option ℕ) → SomeIff found (1 ≤ file) (file - 1) → found ≡ Some place
+    → file ≡ suc place
+number-of file place found is some =
+    let at : SomeIff (Some place) (1 ≤ file) (file - 1) =
+    subst (λ (f : Option ℕ). SomeIff f (1 ≤ file) (file - 1)) some is in
+    omega (arith, at.0, at.1)
+
+-- a file without a place has number 0
+unnumbered : (file : ℕ) (found : Option ℕ) → SomeIff found (1 ≤ file) (file - 1)
+    → ((place : ℕ) → found ≡ Some place → ⊥) → file ≡ 0
+unnumbered zero found is absent = refl
+unnumbered (suc before) None is absent = absurd (is (omega arith))
+unnumbered (suc before) (Some place) is absent = absurd (absent place refl)
+
+-- there is no line on it
+pub unnumbered-unprinted : {M A : Type 0} (prints : LinePrinting M) (m : M) (files : List (String A)) (file line : ℕ)
+    (found : Option ℕ) → SomeIff found (1 ≤ file) (file - 1) → ((place : ℕ) → found ≡ Some place → ⊥)
+    → ArePrintedLines prints m m (line_naming (place_text line) (numbered_path (map string_bytes files) file))
+unnumbered-unprinted prints m files file line found is absent = line-none prints m _
+    (ap (λ n. line_naming (place_text line) (numbered_path (map string_bytes files) n)) (unnumbered file found is absent))
+
+module _ {M A : Type 0} (prints : LinePrinting M) (files : List (String A)) (found : Option (Bor (String A)))
+    (file place line : ℕ) (before : Option ℕ) (counted : SomeIff before (1 ≤ file) (file - 1)) (was : before ≡ Some place)
+    (at : IsItemAt files place found) where
+  -- the line on a place, by what is found there
+  numbered-found : line_naming (place_text line) (numbered_path (map string_bytes files) file)
+      ≡ line_naming (place_text line) (option_map (λ path. string_bytes path.now) found)
+  numbered-found = ap (λ n. line_naming (place_text line) (numbered_path (map string_bytes files) n))
+      (number-of file place before counted was)
+      ∙ ap (λ path. line_naming (place_text line) path) (paths-at files place found at)
+
+  -- it is printed with the path that is found
+  pub line-of-printed : (old new : M) (path : Bor (String A)) → found ≡ Some path
+      → prints old (Some (codes "at " ++ (string_bytes path.now ++ (codes ":" ++ decimal line)))) new
+      → ArePrintedLines prints old new (line_naming (place_text line) (numbered_path (map string_bytes files) file))
+  line-of-printed old new path some printed = line-alone prints old new _ _
+      (numbered-found ∙ ap (λ f. line_naming (place_text line) (option_map (λ path. string_bytes path.now) f)) some)
+      (subst (λ t. prints old (Some t) new) (sym (place-nested line (string_bytes path.now))) printed)
+
+  -- and isn't if no path is found
+  pub line-of-unprinted : (m : M) → ((path : Bor (String A)) → found ≡ Some path → ⊥)
+      → ArePrintedLines prints m m (line_naming (place_text line) (numbered_path (map string_bytes files) file))
+  line-of-unprinted m absent = line-none prints m _
+      (numbered-found ∙ ap (λ f. line_naming (place_text line) (option_map (λ path. string_bytes path.now) f))
+      (none-found found absent))

@@ -2,6 +2,7 @@
 use Rattle.std.specs.Prelude.{◌≡◌, ◌⊎◌, ℕ, Bool, true, false, List, [], ◌∷◌, Option, None, IsSomeAnd, IfSome}
 use Rattle.std.specs.Prelude.{map, option_map, Result, string_bytes}
 use Rattle.command_line.specs.declared.asked.Command.{Command}
+use Rattle.command_line.specs.declared.asked.NamedFiles.{NamedFiles}
 use Rattle.command_line.specs.declared.asked.Part.{Part}
 use Rattle.command_line.specs.declared.asked.Command.TheVariants.{Sample, Rank, Merge, Check, Describe}
 use Rattle.ghcn_series.specs.declared.counts.Warnings.{Warnings}
@@ -12,8 +13,10 @@ use Rattle.extremes.specs.declared.judgement.Judgement.{Judgement}
 use Rattle.extremes.specs.declared.merge.MergingFault.{MergingFault}
 use Rattle.extremes.specs.declared.ending.Ending.{Ending}
 use Rattle.extremes.specs.declared.ending.Ending.TheVariants.{File}
-use Rattle.extremes.specs.Targets.{Holding, IsInUse, IsPaperOrOutput, Putting, PutsNothing, Sharing}
-use Rattle.extremes.specs.Messages.{Line, Streams, not_read_line, not_written_line, warning_lines}
+use Rattle.extremes.specs.Environments.{Environment}
+use Rattle.extremes.specs.Messages.{Line, Streams, input_lines, not_read_line, not_written_line, only_line, warning_lines}
+use Rattle.extremes.specs.NamedRuns.{RunsNamed, arguments_of, list_of}
+use Rattle.extremes.specs.Targets.{Holding, IsInUse, IsPaperOrOutput, PutsNothing, Sharing}
 use Rattle.extremes.specs.Printed.{IsPrinted, IsTold, IsTextShown}
 use Rattle.extremes.specs.Runs.{RanksFiles, JudgesFiles, IsRankedAlone, ranking_paths, judging_paths}
 use Rattle.extremes.specs.declared.sample.TheConstants.{STATIONS, DAILY, QUERY}
@@ -38,39 +41,13 @@ abbrev pub Using : Type 1
 Using = List ℕ → Bool → Type 0
 
 -- the file of a ranking's certificate is so by what it may be found to share with others, and to hold
-abbrev pub ranking_uses : (List ℕ → Sharing) → (List ℕ → Holding) → Ranking → Using
-ranking_uses shares holds r path used =
-    IsInUse (shares path) (holds path) (string_bytes r.stations) r.files.items used
+abbrev pub ranking_uses : (List ℕ → Sharing) → (List ℕ → Holding) → Ranking → Option (List ℕ) → Using
+ranking_uses shares holds r list path used =
+    IsInUse (shares path) (holds path) (string_bytes r.stations) list r.files.items used
 
 -- and that of a merge's
 abbrev pub merge_uses : (List ℕ → Sharing) → (List ℕ → Holding) → List Part → Using
 merge_uses shares holds parts path used = IsPaperOrOutput (shares path) (holds path) parts used
-
--- what is known of a run: the bytes of files, and whether they can be opened; what the certificate's file may be found
--- to share and to hold, and what is put into it; the lines of errors; and what was printed
-pub record Environment : Type 1 where
-  pub bytes_of : Known
-  pub opens : Opening
-  pub shares : List ℕ → Sharing
-  pub holds : List ℕ → Holding
-  pub puts : Putting
-  pub line : Fault → Line
-  pub merging_line : MergingFault → Line
-  pub streams : Streams
-
--- an environment of these
-abbrev pub environment : Known → Opening → (List ℕ → Sharing) → (List ℕ → Holding) → Putting → (Fault → Line)
-    → (MergingFault → Line) → Streams → Environment
-environment bytes_of opens shares holds puts line merging_line streams = record {
-  bytes_of = bytes_of;
-  opens = opens;
-  shares = shares;
-  holds = holds;
-  puts = puts;
-  line = line;
-  merging_line = merging_line;
-  streams = streams;
-}
 
 -- the certificate's file is found to be in use, and nothing is printed but a line on standard error that names it
 pub record EndsAtOut (uses : Using) (s : Streams) (path : Option (List ℕ)) (ending : Ending) : Type 0 where
@@ -86,36 +63,37 @@ IsSampleRanked answer = IsRankedAlone None QUERY.now STATIONS.now (DAILY.now ∷
 pub record PrintsSample (e : Environment) (ending : Ending) : Type 0 where
   pub answer : Result Papers Fault
   pub ranked : IsSampleRanked answer
-  pub printed : IsPrinted e.line e.streams answer [] None e.puts ending
+  pub printed : IsPrinted (only_line e.line) e.streams answer [] None e.puts ending
 
 -- the ranking of files that are named is printed, and its certificate goes to the file of a path if there is one
-pub record PrintsRanking (e : Environment) (r : Ranking) (path : Option (List ℕ)) (ending : Ending) : Type 0 where
+pub record PrintsRanking (e : Environment) (r : Ranking) (files : NamedFiles) (path : Option (List ℕ)) (ending : Ending)
+    : Type 0 where
   pub answer : Result Papers Fault
   pub warnings : Warnings
   pub ranked : RanksFiles e.bytes_of e.opens r answer warnings
-  pub printed : IsPrinted e.line e.streams answer (warning_lines (map string_bytes r.files.items) warnings) path e.puts
-      ending
+  pub printed : IsPrinted (input_lines e.line (arguments_of files) (map string_bytes r.files.items)) e.streams answer
+      (warning_lines (map string_bytes r.files.items) warnings) path e.puts ending
 
 -- so it is with the merge of the reports and certificates of parts that are named
 pub record PrintsMerge (e : Environment) (query : List ℕ) (parts : List Part) (path : Option (List ℕ)) (ending : Ending)
     : Type 0 where
   pub answer : Result Papers MergingFault
   pub merged : MergesFiles e.bytes_of e.opens query parts answer
-  pub printed : IsPrinted e.merging_line e.streams answer [] path e.puts ending
+  pub printed : IsPrinted (only_line e.merging_line) e.streams answer [] path e.puts ending
 
 -- the judgement of a report and a certificate that are named is printed
 pub record PrintsJudgement (bytes_of : Known) (opens : Opening) (line : Fault → Line) (s : Streams) (j : Judging)
-    (ending : Ending) : Type 0 where
+    (files : NamedFiles) (ending : Ending) : Type 0 where
   pub answer : Result (Judgement × Warnings) Fault
   pub judged : JudgesFiles bytes_of opens j answer
-  pub told : IsTold line s answer (map string_bytes j.files.items) ending
+  pub told : IsTold line s answer (arguments_of files) (map string_bytes j.files.items) ending
 
 -- the description of files that are named is printed
 pub record PrintsDescription (bytes_of : Known) (opens : Opening) (line : Fault → Line) (s : Streams) (d : Describing)
-    (ending : Ending) : Type 0 where
+    (files : NamedFiles) (ending : Ending) : Type 0 where
   pub answer : Result DescriptionText Fault
   pub described : DescribesFiles bytes_of opens d answer
-  pub shown : IsTextShown line s answer (map string_bytes d.files.items) ending
+  pub shown : IsTextShown line s answer (arguments_of files) (map string_bytes d.files.items) ending
 
 -- a run finds its certificate's file in use, and ends at it; or it finds that this file isn't in use, and ends at a
 -- file that it reads, or is printed
@@ -125,9 +103,9 @@ Runs e uses path paths prints ending = (PutsNothing e.puts × EndsAtOut uses e.s
     ⊎ (IfSome path (λ p. uses p false) × prints ending)
 
 -- so a ranking does
-abbrev pub RunsRanking : Environment → Ranking → Option (List ℕ) → Ending → Type 0
-RunsRanking e r path ending =
-    Runs e (ranking_uses e.shares e.holds r) path (ranking_paths r) (PrintsRanking e r path) ending
+abbrev pub RunsRanking : Environment → Ranking → NamedFiles → Option (List ℕ) → Ending → Type 0
+RunsRanking e r files path ending = Runs e (ranking_uses e.shares e.holds r (list_of files)) path (ranking_paths r)
+    (PrintsRanking e r files path) ending
 
 -- and a merge
 abbrev pub RunsMerge : Environment → List ℕ → List Part → Option (List ℕ) → Ending → Type 0
@@ -135,36 +113,38 @@ RunsMerge e query parts path ending =
     Runs e (merge_uses e.shares e.holds parts) path (parts_paths parts) (PrintsMerge e query parts path) ending
 
 -- a check ends at a file that it reads, or its judgement is printed
-abbrev pub RunsJudging : Known → Opening → (Fault → Line) → Streams → Judging → Ending → Type 0
-RunsJudging bytes_of opens line s j ending =
-    EndsAtAFile opens s (judging_paths j) ending ⊎ PrintsJudgement bytes_of opens line s j ending
+abbrev pub RunsJudging : Known → Opening → (Fault → Line) → Streams → Judging → NamedFiles → Ending → Type 0
+RunsJudging bytes_of opens line s j files ending =
+    EndsAtAFile opens s (judging_paths j) ending ⊎ PrintsJudgement bytes_of opens line s j files ending
 
 -- so it is with a description
-abbrev pub RunsDescribing : Known → Opening → (Fault → Line) → Streams → Describing → Ending → Type 0
-RunsDescribing bytes_of opens line s d ending =
-    EndsAtAFile opens s (describing_paths d) ending ⊎ PrintsDescription bytes_of opens line s d ending
+abbrev pub RunsDescribing : Known → Opening → (Fault → Line) → Streams → Describing → NamedFiles → Ending → Type 0
+RunsDescribing bytes_of opens line s d files ending =
+    EndsAtAFile opens s (describing_paths d) ending ⊎ PrintsDescription bytes_of opens line s d files ending
 
--- what a run of a command prints and writes, and how it ends: the files are those that it names, in its order
+-- what a run of a command prints and writes, and how it ends: the daily files are those that it names, in its order
 abbrev pub IsCommandRun : Environment → Command → Ending → Type 0
 IsCommandRun e Sample ending = PrintsSample e ending
 IsCommandRun e (Rank stations query workers guess certificate files) ending =
-    RunsRanking e (record {
+    RunsNamed e files (λ paths. RunsRanking e (record {
       stations = stations;
-      files = files;
+      files = paths;
       query = query;
       workers = workers;
       guess = guess;
-    }) (option_map string_bytes certificate) ending
+    }) files (option_map string_bytes certificate)) ending
 IsCommandRun e (Merge query certificate parts) ending =
     RunsMerge e (string_bytes query) parts.items (option_map string_bytes certificate) ending
 IsCommandRun e (Check stations query report certificate part files) ending =
-    PutsNothing e.puts × RunsJudging e.bytes_of e.opens e.line e.streams (record {
+    RunsNamed e files (λ paths end. PutsNothing e.puts × RunsJudging e.bytes_of e.opens e.line e.streams (record {
       stations = stations;
-      files = files;
+      files = paths;
       query = query;
       papers = record { report = report; certificate = certificate };
       part = part;
-    }) ending
+    }) files end) ending
 IsCommandRun e (Describe stations files) ending =
-    PutsNothing e.puts
-    × RunsDescribing e.bytes_of e.opens e.line e.streams (record { stations = stations; files = files }) ending
+    RunsNamed e files (λ paths end. PutsNothing e.puts × RunsDescribing e.bytes_of e.opens e.line e.streams (record {
+      stations = stations;
+      files = paths;
+    }) files end) ending

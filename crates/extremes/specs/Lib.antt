@@ -10,4 +10,6 @@ pub mod Merges
 pub mod Runs
 pub mod Describes
 pub mod RankedInParts
+pub mod Environments
+pub mod NamedRuns
 pub mod Commands

@@ -1,5 +1,7 @@
 -- What is printed on standard error: lines, each by its text.
-use Rattle.std.specs.Prelude.{ℕ, zero, suc, List, [], ◌∷◌, ◌++◌, codes, Option, None, Some}
+use Rattle.std.specs.Prelude.{ℕ, zero, suc, if◌then◌else◌, List, [], ◌∷◌, ◌++◌, codes, Option, None, Some}
+use Rattle.std.specs.Prelude.{bytes_eq, string_bytes}
+use Rattle.std.specs.Cmp.Lexicographic.{pointwise}
 use Rattle.std.specs.List.{FoldsTo, slice_get}
 use Rattle.std.specs.Option.{option_and_then}
 use Rattle.std.specs.Fmt.{decimal}
@@ -7,6 +9,13 @@ use Rattle.ghcn_series.specs.declared.counts.Foreign.{Foreign}
 use Rattle.ghcn_series.specs.declared.counts.LinePlace.{LinePlace}
 use Rattle.ghcn_series.specs.declared.counts.OddLines.{OddLines}
 use Rattle.ghcn_series.specs.declared.counts.Warnings.{Warnings}
+use Rattle.rank_input.specs.declared.fault.Fault.{Fault}
+use Rattle.rank_input.specs.declared.fault.Fault.TheVariants.{StationLine, TooManyStations, Memory, DailyLine}
+use Rattle.rank_input.specs.declared.fault.Fault.TheVariants.{TooManyFiles, QueryTooLong, UnexpectedWord, QueryEnds}
+use Rattle.rank_input.specs.declared.fault.Fault.TheVariants.{OutOfLimits, BadDate, BadBox, EmptyPeriod, BadWorkers}
+use Rattle.rank_input.specs.declared.fault.Fault.TheVariants.{BadGuess}
+use Rattle.rank_input.specs.declared.named.NotNamed.{NotNamed}
+use Rattle.rank_input.specs.declared.named.NotNamed.TheVariants as naming
 
 -- the text of a line, without its line feed, if it is known
 abbrev pub Line : Type 0
@@ -81,3 +90,48 @@ not_read_line path = Some (codes "file not read " ++ path)
 -- that it can't be written
 abbrev pub not_written_line : List ℕ → Line
 not_written_line path = Some (codes "file not written " ++ path)
+
+-- the line of an error, and no other
+abbrev pub only_line : {F : Type 0} → (F → Line) → F → List Line
+only_line line fault = line fault ∷ []
+
+-- the path of the file of this number; files count from 1
+abbrev pub numbered_path : List (List ℕ) → ℕ → Option (List ℕ)
+numbered_path paths zero = None
+numbered_path paths (suc place) = slice_get paths place
+
+-- where a line is: the path of its file, and its number
+abbrev pub place_text : ℕ → List ℕ → List ℕ
+place_text line path = codes "at " ++ path ++ codes ":" ++ decimal line
+
+-- the line on where a daily line is that an error names, if it names one
+abbrev pub place_lines : List (List ℕ) → Fault → List Line
+place_lines paths (StationLine line why) = []
+place_lines paths TooManyStations = []
+place_lines paths (Memory m) = []
+place_lines paths (DailyLine file line why) = line_naming (place_text line) (numbered_path paths file)
+place_lines paths TooManyFiles = []
+place_lines paths QueryTooLong = []
+place_lines paths (UnexpectedWord at) = []
+place_lines paths QueryEnds = []
+place_lines paths (OutOfLimits at) = []
+place_lines paths (BadDate at) = []
+place_lines paths (BadBox at) = []
+place_lines paths EmptyPeriod = []
+place_lines paths BadWorkers = []
+place_lines paths BadGuess = []
+
+-- that line, if these arguments aren't the paths of the files: then the number of a file isn't that of an argument
+abbrev pub unnumbered_place : List (List ℕ) → List (List ℕ) → Fault → List Line
+unnumbered_place arguments paths fault = if pointwise bytes_eq paths arguments then [] else place_lines paths fault
+
+-- the lines of an error of the input: its own, and then where the daily line is
+abbrev pub input_lines : (Fault → Line) → List (List ℕ) → List (List ℕ) → Fault → List Line
+input_lines line arguments paths fault = line fault ∷ unnumbered_place arguments paths fault
+
+-- the line of naming that stops: that the folder, the list or the file can't be read, or that memory ran out
+abbrev pub naming_line : (Fault → Line) → NotNamed → Line
+naming_line line (naming.Unreadable at) = not_read_line (string_bytes at)
+naming_line line (naming.Empty at) = not_read_line (string_bytes at)
+naming_line line (naming.NotText at) = not_read_line (string_bytes at)
+naming_line line naming.Memory = line (Memory (record {}))

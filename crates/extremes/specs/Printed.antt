@@ -16,7 +16,8 @@ use Rattle.extremes.specs.declared.judgement.Judgement.TheVariants.{Whole, Part}
 use Rattle.extremes.specs.Delivered.{HasBeginning, IsCutOff}
 use Rattle.extremes.specs.Ending.{ending_of}
 use Rattle.extremes.specs.Targets.{Putting, PutsNothing}
-use Rattle.extremes.specs.Messages.{Line, Streams, after_lines, not_written_line, unlisted_warning, warning_lines}
+use Rattle.extremes.specs.Messages.{Line, Streams, after_lines, input_lines, not_written_line, unlisted_warning}
+use Rattle.extremes.specs.Messages.{warning_lines}
 
 -- what a judgement says of a report and a certificate, without a line feed
 abbrev pub text_of : Judgement → List ℕ
@@ -58,25 +59,27 @@ ArePrinted s papers path puts File =
     ⊎ (IsReported papers path puts s.before s.after delivery.ReportFailed
     × s.says (not_written_line (codes "-") ∷ []))
 
--- an error prints its line on standard error and nothing on standard output, and the run ends as refused
-pub record IsRefused {F : Type 0} (line : F → Line) (s : Streams) (fault : F) (ending : Ending) : Type 0 where
+-- an error prints its lines on standard error and nothing on standard output, and the run ends as refused
+pub record IsRefused {F : Type 0} (lines : F → List Line) (s : Streams) (fault : F) (ending : Ending) : Type 0 where
   pub ends : ending ≡ Refused
   pub unprinted : s.after ≡ s.before
-  pub said : s.says (line fault ∷ [])
+  pub said : s.says (lines fault)
 
 -- after the warnings and the line on unlisted stations a report is printed, with its certificate in the file of a path
--- if there is one; an error prints its line alone, and writes nothing
-abbrev pub IsPrinted : {F : Type 0} → (F → Line) → Streams → Result Papers F → List Line → Option (List ℕ) → Putting
-    → Ending → Type 0
-IsPrinted line s (Ok papers) warnings path puts ending =
+-- if there is one; an error prints its lines alone, and writes nothing
+abbrev pub IsPrinted : {F : Type 0} → (F → List Line) → Streams → Result Papers F → List Line → Option (List ℕ)
+    → Putting → Ending → Type 0
+IsPrinted lines s (Ok papers) warnings path puts ending =
     ArePrinted (after_lines (warnings ++ unlisted_warning papers.unlisted) s) papers path puts ending
-IsPrinted line s (Err fault) warnings path puts ending = IsRefused line s fault ending × PutsNothing puts
+IsPrinted lines s (Err fault) warnings path puts ending = IsRefused lines s fault ending × PutsNothing puts
 
--- after the warnings on files of these paths the text of their description is shown; an error prints its line alone
-abbrev pub IsTextShown : (Fault → Line) → Streams → Result DescriptionText Fault → List (List ℕ) → Ending → Type 0
-IsTextShown line s (Ok text) paths ending =
+-- after the warnings on files of these paths, which these arguments name, the text of their description is shown; an
+-- error prints its lines alone
+abbrev pub IsTextShown : (Fault → Line) → Streams → Result DescriptionText Fault → List (List ℕ) → List (List ℕ)
+    → Ending → Type 0
+IsTextShown line s (Ok text) arguments paths ending =
     IsShown (after_lines (warning_lines paths text.warnings) s) text.bytes.items ending
-IsTextShown line s (Err fault) paths ending = IsRefused line s fault ending
+IsTextShown line s (Err fault) arguments paths ending = IsRefused (input_lines line arguments paths) s fault ending
 
 -- a judgement is printed as its line and ends the run as it says; or its line is cut off, and the run ends as a file
 -- that couldn't be written, as a line on standard error says
@@ -86,7 +89,10 @@ IsLineTold s judgement ending =
     ⊎ ((ending ≡ File) × IsCutOff (judgement_line judgement) s.before s.after
     × s.says (not_written_line (codes "-") ∷ []))
 
--- after the warnings on files of these paths it is printed; an error prints its line alone
-abbrev pub IsTold : (Fault → Line) → Streams → Result (Judgement × Warnings) Fault → List (List ℕ) → Ending → Type 0
-IsTold line s (Ok judged) paths ending = IsLineTold (after_lines (warning_lines paths judged.1) s) judged.0 ending
-IsTold line s (Err fault) paths ending = IsRefused line s fault ending
+-- after the warnings on files of these paths, which these arguments name, it is printed; an error prints its lines
+-- alone
+abbrev pub IsTold : (Fault → Line) → Streams → Result (Judgement × Warnings) Fault → List (List ℕ) → List (List ℕ)
+    → Ending → Type 0
+IsTold line s (Ok judged) arguments paths ending =
+    IsLineTold (after_lines (warning_lines paths judged.1) s) judged.0 ending
+IsTold line s (Err fault) arguments paths ending = IsRefused (input_lines line arguments paths) s fault ending

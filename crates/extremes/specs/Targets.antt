@@ -4,6 +4,7 @@ use Rattle.std.specs.Prelude.{String, string_bytes}
 use Rattle.std.specs.Io.KnownBytes.{Appends}
 use Rattle.std.specs.List.{All, Any}
 use Rattle.command_line.specs.declared.asked.Part.{Part}
+use Rattle.rank_input.specs.Named.{list_path}
 use Rattle.extremes.specs.Delivered.{HasBeginning}
 
 -- whether another path may be found to name the file of a certificate, and whether it may be found to name another
@@ -25,13 +26,18 @@ abbrev pub IsPaper : Sharing → Part → Bool → Type 0
 IsPaper shares part true = shares (string_bytes part.report) true ⊎ shares (string_bytes part.certificate) true
 IsPaper shares part false = shares (string_bytes part.report) false × shares (string_bytes part.certificate) false
 
--- it is taken, or found to be the station list or some daily file; or it isn't taken, and is compared with the station
--- list and each daily file, and found to be none of them
-abbrev pub IsInUse : {A : Type 0} → Sharing → Holding → List ℕ → List (String A) → Bool → Type 0
-IsInUse shares holds stations files true =
-    IsTaken shares holds true ⊎ shares stations true ⊎ Any (λ file. shares (string_bytes file) true) files
-IsInUse shares holds stations files false =
-    IsTaken shares holds false × shares stations false × All (λ file. shares (string_bytes file) false) files
+-- it is found to be the list of the daily files, or not to be it; if there is no list, it isn't
+abbrev pub IsList : Sharing → Option (List ℕ) → Bool → Type 0
+IsList shares None found = found ≡ false
+IsList shares (Some list) found = shares (list_path list) found
+
+-- it is taken, or found to be the station list, the list of the daily files or some daily file; or it isn't taken, and
+-- is compared with these lists and each daily file, and found to be none of them
+abbrev pub IsInUse : {A : Type 0} → Sharing → Holding → List ℕ → Option (List ℕ) → List (String A) → Bool → Type 0
+IsInUse shares holds stations list files true = IsTaken shares holds true ⊎ shares stations true
+    ⊎ IsList shares list true ⊎ Any (λ file. shares (string_bytes file) true) files
+IsInUse shares holds stations list files false = IsTaken shares holds false × shares stations false
+    × IsList shares list false × All (λ file. shares (string_bytes file) false) files
 
 -- it is taken, or found to be a report or a certificate of some part; or it isn't taken, and is compared with those of
 -- each part, and found to be none of them

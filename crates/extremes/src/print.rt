@@ -1,12 +1,16 @@
 //! What a run prints, and how it ends then.
 
-ghost use Rattle.std.specs.Prelude.{◌≡◌, [], ◌∷◌, IfSome, map, option_map, string_bytes};
+ghost use Rattle.std.specs.Prelude.{◌≡◌, [], ◌∷◌, IfSome, bytes_eq, map, option_map, string_bytes};
+ghost use Rattle.std.specs.Cmp.Lexicographic.{pointwise};
 ghost use Rattle.extremes.specs.declared.ending.Ending.TheVariants as endings;
 ghost use Rattle.extremes.specs.Printed.{ArePrinted, IsLineTold, IsPrinted, IsReported, IsShown};
 ghost use Rattle.extremes.specs.Printed.{IsTextShown, IsTold, judgement_line};
+ghost use Rattle.extremes.specs.NamedRuns.{naming_ending};
 ghost use Rattle.extremes.specs.Targets.{IsPut};
-ghost use Rattle.extremes.specs.Messages.{ArePrintedLines, after_lines, foreign_warning, not_read_line, not_written_line};
-ghost use Rattle.extremes.specs.Messages.{odd_warning, streams, unlisted_warning, warning_lines};
+ghost use Rattle.extremes.specs.Messages.{ArePrintedLines, after_lines, foreign_warning, input_lines, line_naming};
+ghost use Rattle.extremes.specs.Messages.{naming_line, not_read_line, not_written_line, numbered_path, odd_warning};
+ghost use Rattle.extremes.specs.Messages.{only_line, place_text, streams, unlisted_warning, unnumbered_place};
+ghost use Rattle.extremes.specs.Messages.{warning_lines};
 
 use crate::delivery::{Delivery, deliver, write_to_end, write_whole};
 use crate::describe::DescriptionText;
@@ -17,26 +21,37 @@ use crate::papers::Papers;
 use crate::rank::Ranked;
 use crate::target::Target;
 use arrayvec::ArrayVec;
+use ghcn_fields::Memory;
 use ghcn_series::{Foreign, LinePlace, OddLines, Warnings};
-use rank_input::Fault;
+use rank_input::{Fault, NotNamed};
 use std::fmt::Display;
 use std::io::Write;
 
 /// More bytes than any line of a judgement has: two numbers of 20 digits, and words of 40 bytes.
 const LONGEST_LINE: usize = 128;
 
+/// The paths of the daily files, in order, as they are printed.
+#[derive(Clone, Copy)]
+pub(crate) struct DailyPaths<'p> {
+    pub(crate) paths: &'p [String],
+    /// The arguments that name files or folders. If they are the paths, an argument is found by the
+    /// number of its file.
+    pub(crate) arguments: &'p [String],
+}
+
 /// Prints what a ranking of files returns, and then frees its data.
 pub(crate) fn print_ranked<M: Messages, T: Target, W: Write>(
     messages: &mut M,
     ranked: Ranked,
-    files: &[String],
+    files: DailyPaths,
     certificate: Option<&str>,
     target: &mut T,
     out: &mut W,
 ) -> Ending
-    ensures { IsPrinted ⟦<Fault as Display>⟧.output
+    ensures { IsPrinted (input_lines ⟦<Fault as Display>⟧.output (map string_bytes files.entry.arguments.now)
+        (map string_bytes files.entry.paths.now))
         (streams (ArePrintedLines M.prints messages.old messages.new) (W.contents out.old) (W.contents out.new))
-        ranked.answer (warning_lines (map string_bytes files.now) ranked.warnings)
+        ranked.answer (warning_lines (map string_bytes files.entry.paths.now) ranked.warnings)
         (option_map (λ path. path.now) certificate.entry)
         (IsPut T.opens T.abandons T.contents target.old target.new) result }
 {
@@ -47,9 +62,9 @@ pub(crate) fn print_ranked<M: Messages, T: Target, W: Write>(
     } = ranked;
     let papers = match answer {
         Ok(papers) => papers,
-        Err(fault) => return refused(messages, fault),
+        Err(fault) => return refused_input(messages, fault, files),
     };
-    print_warnings(messages, warnings, files);
+    print_warnings(messages, warnings, files.paths);
     let ending = print_papers(messages, &papers, certificate, target, out);
     drop(dataset);
     ending
@@ -64,6 +79,20 @@ pub(crate) fn not_read<M: Messages>(messages: &mut M, path: &str) -> Ending
     Ending::File
 }
 
+/// Prints why the daily files can't be named.
+pub(crate) fn not_named<M: Messages>(messages: &mut M, why: &NotNamed) -> Ending
+    ensures ending { result ≡ naming_ending why.now }
+    ensures line { ArePrintedLines M.prints messages.old messages.new
+        (naming_line ⟦<Fault as Display>⟧.output why.now ∷ []) }
+{
+    match why {
+        NotNamed::Unreadable(path) | NotNamed::Empty(path) | NotNamed::NotText(path) => {
+            not_read(messages, path)
+        }
+        NotNamed::Memory => refused(messages, Fault::Memory(Memory)),
+    }
+}
+
 /// Prints an error.
 pub(crate) fn refused<M: Messages, F: Display + Drop>(messages: &mut M, fault: F) -> Ending
     ensures ending { result ≡ endings.Refused }
@@ -71,6 +100,55 @@ pub(crate) fn refused<M: Messages, F: Display + Drop>(messages: &mut M, fault: F
 {
     messages.print(fault);
     Ending::Refused
+}
+
+/// Prints an error of the input. If the arguments aren't the paths of the files, a second line says
+/// where a bad daily line is.
+fn refused_input<M: Messages>(messages: &mut M, fault: Fault, files: DailyPaths) -> Ending
+    ensures ending { result ≡ endings.Refused }
+    ensures lines { ArePrintedLines M.prints messages.old messages.new
+        (input_lines ⟦<Fault as Display>⟧.output (map string_bytes files.entry.arguments.now)
+        (map string_bytes files.entry.paths.now) fault) }
+{
+    let ending = refused(messages, fault);
+    print_place(messages, fault, files);
+    ending
+}
+
+/// Prints where the bad daily line is that an error names, if it names one and the arguments aren't
+/// the paths of the files.
+fn print_place<M: Messages>(messages: &mut M, fault: Fault, files: DailyPaths)
+    ensures { ArePrintedLines M.prints messages.old messages.new
+        (unnumbered_place (map string_bytes files.entry.arguments.now)
+        (map string_bytes files.entry.paths.now) fault) }
+{
+    if are_arguments(files) {
+        return;
+    }
+    if let Fault::DailyLine { file, line, .. } = fault {
+        print_line_of(messages, file, line, files.paths);
+    }
+}
+
+/// Whether the arguments are the paths of the files.
+fn are_arguments(files: DailyPaths) -> bool
+    ensures { result ≡ pointwise bytes_eq (map string_bytes files.entry.paths.now)
+        (map string_bytes files.entry.arguments.now) }
+{
+    files.paths == files.arguments
+}
+
+/// Prints the path of a file and the number of a line of it. Files and lines count from 1.
+fn print_line_of<M: Messages>(messages: &mut M, file: u64, line: u64, paths: &[String])
+    ensures { ArePrintedLines M.prints messages.old messages.new
+        (line_naming (place_text line) (numbered_path (map string_bytes paths.now) file)) }
+{
+    let Some(place) = file.checked_sub(1) else {
+        return;
+    };
+    if let Some(path) = paths.get(place as usize) {
+        messages.print(format_args!("at {path}:{line}"));
+    }
 }
 
 /// Prints that a file can't be written.
@@ -153,7 +231,7 @@ pub fn print_answer<M: Messages, T: Target, W: Write, F: Display + Drop>(
     target: &mut T,
     out: &mut W,
 ) -> Ending
-    ensures { IsPrinted F.output
+    ensures { IsPrinted (only_line F.output)
         (streams (ArePrintedLines M.prints messages.old messages.new) (W.contents out.old) (W.contents out.new))
         answer [] (option_map (λ path. path.now) certificate.entry)
         (IsPut T.opens T.abandons T.contents target.old target.new) result }
@@ -214,19 +292,19 @@ fn write_papers<T: Target, W: Write>(
 pub(crate) fn print_description<M: Messages, W: Write>(
     messages: &mut M,
     described: Result<DescriptionText, Fault>,
-    files: &[String],
+    files: DailyPaths,
     out: &mut W,
 ) -> Ending
     ensures { IsTextShown ⟦<Fault as Display>⟧.output
         (streams (ArePrintedLines M.prints messages.old messages.new) (W.contents out.old) (W.contents out.new))
-        described (map string_bytes files.now) result }
+        described (map string_bytes files.entry.arguments.now) (map string_bytes files.entry.paths.now) result }
 {
     match described {
         Ok(text) => {
-            print_warnings(messages, text.warnings, files);
+            print_warnings(messages, text.warnings, files.paths);
             print_text(messages, &text.bytes, out)
         }
-        Err(fault) => refused(messages, fault),
+        Err(fault) => refused_input(messages, fault, files),
     }
 }
 
@@ -234,19 +312,19 @@ pub(crate) fn print_description<M: Messages, W: Write>(
 pub(crate) fn print_judgement<M: Messages, W: Write>(
     messages: &mut M,
     judged: Result<(Judgement, Warnings), Fault>,
-    files: &[String],
+    files: DailyPaths,
     out: &mut W,
 ) -> Ending
     ensures { IsTold ⟦<Fault as Display>⟧.output
         (streams (ArePrintedLines M.prints messages.old messages.new) (W.contents out.old) (W.contents out.new))
-        judged (map string_bytes files.now) result }
+        judged (map string_bytes files.entry.arguments.now) (map string_bytes files.entry.paths.now) result }
 {
     match judged {
         Ok((judgement, warnings)) => {
-            print_warnings(messages, warnings, files);
+            print_warnings(messages, warnings, files.paths);
             print_line(messages, &judgement, out)
         }
-        Err(fault) => refused(messages, fault),
+        Err(fault) => refused_input(messages, fault, files),
     }
 }
 

@@ -1,7 +1,9 @@
 //! A run of the program: reads its arguments, and does what they ask for.
 
-ghost use Rattle.std.specs.Prelude.{◌≡◌, option_map, string_bytes};
-ghost use Rattle.extremes.specs.Commands.{IsCommandRun, IsSampleRanked, environment};
+ghost use Rattle.std.specs.Prelude.{◌≡◌, IfErr, IfOk, option_map, string_bytes};
+ghost use Rattle.extremes.specs.Commands.{IsCommandRun, IsSampleRanked};
+ghost use Rattle.extremes.specs.Environments.{environment};
+ghost use Rattle.extremes.specs.NamedRuns.{StandForNamed, StopsNamed};
 ghost use Rattle.extremes.specs.Commands.{RunsRanking, RunsMerge, RunsJudging, RunsDescribing};
 ghost use Rattle.extremes.specs.Targets.{IsPut};
 ghost use Rattle.extremes.specs.Messages.{ArePrintedLines, streams};
@@ -14,16 +16,16 @@ use crate::merge::MergingFault;
 use crate::messages::{Messages, SystemMessages};
 use crate::papers::Papers;
 use crate::print::{
-    not_read, not_written, print_answer, print_description, print_judgement, print_ranked,
-    print_text, refused,
+    DailyPaths, not_named, not_read, not_written, print_answer, print_description, print_judgement,
+    print_ranked, print_text, refused,
 };
 use crate::rank::rank_serial;
 use crate::sample;
 use crate::system_target::SystemTarget;
 use crate::target::{Target, is_in_use, is_paper_or_output};
-use command_line::{Command, CommandFault, Part, command};
+use command_line::{Command, CommandFault, NamedFiles, Part, command};
 use ghcn_fields::Memory;
-use rank_input::{Archive, Fault, System};
+use rank_input::{Archive, Fault, NotNamed, System, name_files};
 use std::alloc::Global;
 use std::fmt::Display;
 use std::fs::File;
@@ -75,7 +77,7 @@ fn run_command<
     T: Target,
     W: Write,
 >(rt: &R, archive: &A, asked: Command, messages: &mut M, target: &mut T, out: &mut W) -> Ending
-    ensures { IsCommandRun (environment (A.bytes_of archive.now) (A.opens archive.now)
+    ensures { IsCommandRun (environment (A.bytes_of archive.now) (A.opens archive.now) (A.names_of archive.now)
         (T.one_file target.old) (T.other_text target.old)
         (IsPut T.opens T.abandons T.contents target.old target.new)
         ⟦<Fault as Display>⟧.output ⟦<MergingFault as Display>⟧.output
@@ -90,17 +92,29 @@ fn run_command<
             workers,
             guess,
             certificate,
-            files,
-        } => {
-            let ranking = Ranking {
-                stations,
-                files,
-                query,
-                workers,
-                guess,
-            };
-            run_ranking(rt, archive, &ranking, &certificate, messages, target, out)
-        }
+            files: named,
+        } => match daily_files(rt.alloc(), archive, &named) {
+            Ok(files) => {
+                let ranking = Ranking {
+                    stations,
+                    files,
+                    query,
+                    workers,
+                    guess,
+                };
+                run_ranking(
+                    rt,
+                    archive,
+                    &ranking,
+                    &named,
+                    &certificate,
+                    messages,
+                    target,
+                    out,
+                )
+            }
+            Err(why) => not_named(messages, &why),
+        },
         Command::Merge {
             query,
             certificate,
@@ -124,25 +138,60 @@ fn run_command<
             report,
             certificate,
             part,
-            files,
-        } => {
-            let papers = Part {
-                report,
-                certificate,
-            };
-            let judging = Judging {
-                stations,
-                files,
-                query,
-                papers,
-                part,
-            };
-            run_judging(rt.alloc(), archive, &judging, messages, out)
-        }
-        Command::Describe { stations, files } => {
-            let describing = Describing { stations, files };
-            run_describing(rt.alloc(), archive, &describing, messages, out)
-        }
+            files: named,
+        } => match daily_files(rt.alloc(), archive, &named) {
+            Ok(files) => {
+                let papers = Part {
+                    report,
+                    certificate,
+                };
+                let judging = Judging {
+                    stations,
+                    files,
+                    query,
+                    papers,
+                    part,
+                };
+                run_judging(rt.alloc(), archive, &judging, &named, messages, out)
+            }
+            Err(why) => not_named(messages, &why),
+        },
+        Command::Describe {
+            stations,
+            files: named,
+        } => match daily_files(rt.alloc(), archive, &named) {
+            Ok(files) => {
+                let describing = Describing { stations, files };
+                run_describing(rt.alloc(), archive, &describing, &named, messages, out)
+            }
+            Err(why) => not_named(messages, &why),
+        },
+    }
+}
+
+/// The paths of the daily files that a command names.
+fn daily_files<A: Archive>(
+    alloc: Global,
+    archive: &A,
+    named: &NamedFiles,
+) -> Result<Vec<String>, NotNamed>
+    ensures stand { IfOk result (StandForNamed (A.bytes_of archive.now) (A.opens archive.now)
+        (A.names_of archive.now) named.now) }
+    ensures stopped { IfErr result (StopsNamed (A.bytes_of archive.now) (A.opens archive.now)
+        (A.names_of archive.now) named.now) }
+{
+    let list = path_of(&named.list);
+    name_files(alloc, archive, &named.paths, list, named.null)
+}
+
+/// The paths of daily files, and the arguments that name them.
+fn daily_paths<'p>(files: &'p [String], named: &'p NamedFiles) -> DailyPaths<'p>
+    ensures paths { result.paths.now ≡ files.now }
+    ensures arguments { result.arguments.now ≡ named.now.paths.items }
+{
+    DailyPaths {
+        paths: files,
+        arguments: named.paths.as_slice(),
     }
 }
 
@@ -158,26 +207,31 @@ fn run_ranking<
     rt: &R,
     archive: &A,
     ranking: &Ranking,
+    named: &NamedFiles,
     certificate: &Option<String>,
     messages: &mut M,
     target: &mut T,
     out: &mut W,
 ) -> Ending
-    ensures { RunsRanking (environment (A.bytes_of archive.now) (A.opens archive.now)
+    ensures { RunsRanking (environment (A.bytes_of archive.now) (A.opens archive.now) (A.names_of archive.now)
         (T.one_file target.old) (T.other_text target.old)
         (IsPut T.opens T.abandons T.contents target.old target.new)
         ⟦<Fault as Display>⟧.output ⟦<MergingFault as Display>⟧.output
         (streams (ArePrintedLines M.prints messages.old messages.new) (W.contents out.old) (W.contents out.new)))
-        ranking.now (option_map string_bytes certificate.now) result }
+        ranking.now named.now (option_map string_bytes certificate.now) result }
 {
     let certificate = path_of(certificate);
     if let Some(path) = certificate {
-        if is_in_use(target, path, &ranking.stations, &ranking.files) {
+        let list = path_of(&named.list);
+        if is_in_use(target, path, &ranking.stations, list, &ranking.files) {
             return not_written(messages, path);
         }
     }
     match rank_files(rt, archive, ranking) {
-        Ok(ranked) => print_ranked(messages, ranked, &ranking.files, certificate, target, out),
+        Ok(ranked) => {
+            let files = daily_paths(&ranking.files, named);
+            print_ranked(messages, ranked, files, certificate, target, out)
+        }
         Err(path) => not_read(messages, path),
     }
 }
@@ -194,7 +248,7 @@ fn run_merge<A: Archive, M: Messages, T: Target, W: Write>(
     target: &mut T,
     out: &mut W,
 ) -> Ending
-    ensures { RunsMerge (environment (A.bytes_of archive.now) (A.opens archive.now)
+    ensures { RunsMerge (environment (A.bytes_of archive.now) (A.opens archive.now) (A.names_of archive.now)
         (T.one_file target.old) (T.other_text target.old)
         (IsPut T.opens T.abandons T.contents target.old target.new)
         ⟦<Fault as Display>⟧.output ⟦<MergingFault as Display>⟧.output
@@ -213,11 +267,11 @@ fn run_merge<A: Archive, M: Messages, T: Target, W: Write>(
     }
 }
 
-/// The path of a certificate's file, if one is named.
-fn path_of(certificate: &Option<String>) -> Option<&str>
-    ensures { option_map (λ path. path.now) result ≡ option_map string_bytes certificate.now }
+/// The path of a certificate's file or of a list, if one is named.
+fn path_of(named: &Option<String>) -> Option<&str>
+    ensures { option_map (λ path. path.now) result ≡ option_map string_bytes named.now }
 {
-    certificate.as_ref().map(|path| path.as_str())
+    named.as_ref().map(|path| path.as_str())
 }
 
 /// Checks a report and a certificate against files that are named, and prints the verdict.
@@ -225,15 +279,19 @@ fn run_judging<A: Archive, M: Messages, W: Write>(
     alloc: Global,
     archive: &A,
     judging: &Judging,
+    named: &NamedFiles,
     messages: &mut M,
     out: &mut W,
 ) -> Ending
     ensures { RunsJudging (A.bytes_of archive.now) (A.opens archive.now) ⟦<Fault as Display>⟧.output
         (streams (ArePrintedLines M.prints messages.old messages.new) (W.contents out.old) (W.contents out.new))
-        judging.now result }
+        judging.now named.now result }
 {
     match judge_files(alloc, archive, judging) {
-        Ok(judged) => print_judgement(messages, judged, &judging.files, out),
+        Ok(judged) => {
+            let files = daily_paths(&judging.files, named);
+            print_judgement(messages, judged, files, out)
+        }
         Err(path) => not_read(messages, path),
     }
 }
@@ -243,15 +301,19 @@ fn run_describing<A: Archive, M: Messages, W: Write>(
     alloc: Global,
     archive: &A,
     describing: &Describing,
+    named: &NamedFiles,
     messages: &mut M,
     out: &mut W,
 ) -> Ending
     ensures { RunsDescribing (A.bytes_of archive.now) (A.opens archive.now) ⟦<Fault as Display>⟧.output
         (streams (ArePrintedLines M.prints messages.old messages.new) (W.contents out.old) (W.contents out.new))
-        describing.now result }
+        describing.now named.now result }
 {
     match describe_files(alloc, archive, describing) {
-        Ok(described) => print_description(messages, described, &describing.files, out),
+        Ok(described) => {
+            let files = daily_paths(&describing.files, named);
+            print_description(messages, described, files, out)
+        }
         Err(path) => not_read(messages, path),
     }
 }

@@ -1,9 +1,11 @@
 //! Where the certificate goes: a file that the run neither reads nor prints to, and that holds at
 //! most an earlier certificate.
 
-ghost use Rattle.extremes.specs.Targets.{IsInUse, IsPaper, IsPaperOrOutput, IsTaken};
+ghost use Rattle.std.specs.Prelude.{option_map};
+ghost use Rattle.extremes.specs.Targets.{IsInUse, IsList, IsPaper, IsPaperOrOutput, IsTaken};
 
 use command_line::Part;
+use rank_input::list_path;
 use std::io;
 use std::io::Write;
 
@@ -51,13 +53,19 @@ pub trait Target: Write {
         ensures { abandons self.old self.new };
 }
 
-/// Whether a certificate's file holds anything else, or is the station list, a daily file or the
-/// file of standard output or standard error.
-pub(crate) fn is_in_use<T: Target>(target: &T, out: &str, stations: &str, files: &[String]) -> bool
+/// Whether a certificate's file holds anything else, or is the station list, the list of the daily
+/// files, a daily file or the file of standard output or standard error.
+pub(crate) fn is_in_use<T: Target>(
+    target: &T,
+    out: &str,
+    stations: &str,
+    list: Option<&str>,
+    files: &[String],
+) -> bool
     ensures { IsInUse (T.one_file target.now out.now) (T.other_text target.now out.now)
-        stations.now files.now result }
+        stations.now (option_map (λ l. l.now) list.entry) files.now result }
 {
-    if is_taken(target, out) || target.is_one_file(out, stations) {
+    if is_taken(target, out) || target.is_one_file(out, stations) || is_list(target, out, list) {
         return true;
     }
     for file in files {
@@ -99,4 +107,14 @@ fn is_taken<T: Target>(target: &T, out: &str) -> bool
     target.is_one_file(out, STANDARD_OUTPUT)
         || target.is_one_file(out, STANDARD_ERROR)
         || target.holds_other(out)
+}
+
+/// Whether a certificate's file is the list of the daily files, if there is one.
+fn is_list<T: Target>(target: &T, out: &str, list: Option<&str>) -> bool
+    ensures { IsList (T.one_file target.now out.now) (option_map (λ l. l.now) list.entry) result }
+{
+    match list {
+        Some(list) => target.is_one_file(out, list_path(list)),
+        None => false,
+    }
 }

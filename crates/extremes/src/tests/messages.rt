@@ -5,12 +5,16 @@ use crate::describe::DescriptionText;
 use crate::judgement::Judgement;
 use crate::messages::Messages;
 use crate::papers::Papers;
-use crate::print::{not_read, print_description, print_judgement, print_ranked};
+use crate::print::{
+    DailyPaths, not_named, not_read, print_description, print_judgement, print_ranked,
+};
 use crate::rank::Ranked;
-use ghcn_series::{Foreign, LinePlace, OddLines, Warnings};
+use ghcn_series::{DailyWhy, Foreign, LinePlace, OddLines, Warnings};
 use rank_check::Verdict;
+use rank_input::NotNamed;
 use std::alloc::{AllocError, Global};
 use std::fmt::{Display, Write};
+use std::process::Abort;
 use std::test::Fail;
 
 /// The lines that were printed, as long as there is memory.
@@ -42,6 +46,14 @@ fn paths(alloc: Global, count: u64) -> Result<Vec<String>, AllocError> {
     (0..count)
         .map(|number| format!(in alloc; "file {number}.dly"))
         .try_collect(alloc)
+}
+
+/// Files that are the arguments.
+fn as_arguments<'p>(files: &'p [String]) -> DailyPaths<'p> {
+    DailyPaths {
+        paths: files,
+        arguments: files,
+    }
 }
 
 /// This number of foreign files and of odd lines; the first of both are in one file.
@@ -109,7 +121,7 @@ fn lines_beside_a_report(rt: HostRuntime) -> Result<(), Fail> {
         print_ranked(
             &mut messages,
             ranked,
-            files.as_slice(),
+            as_arguments(&files),
             None,
             &mut target,
             &mut out,
@@ -129,11 +141,11 @@ fn lines_beside_a_description_and_a_verdict(rt: HostRuntime) -> Result<(), Fail>
         warnings: warnings(2, 7, 1),
     };
     let (mut messages, mut out) = (KeptLines::new(alloc), Vec::new(alloc));
-    print_description(&mut messages, Ok(text), files.as_slice(), &mut out);
+    print_description(&mut messages, Ok(text), as_arguments(&files), &mut out);
     assert_eq!(rt; messages.text.as_str(), expected);
     let judged = (Judgement::Whole(Verdict::Accepted), warnings(2, 7, 1));
     let mut messages = KeptLines::new(alloc);
-    print_judgement(&mut messages, Ok(judged), files.as_slice(), &mut out);
+    print_judgement(&mut messages, Ok(judged), as_arguments(&files), &mut out);
     assert_eq!(rt; messages.text.as_str(), expected);
     assert_eq!(rt; out.as_slice(), b"accepted\n".as_slice());
     Ok(())
@@ -144,4 +156,81 @@ fn lines_of_a_file(rt: HostRuntime) {
     let mut messages = KeptLines::new(rt.alloc());
     assert_eq!(rt; not_read(&mut messages, "no such file.dly"), Ending::File);
     assert_eq!(rt; messages.text.as_str(), "file not read no such file.dly\n");
+}
+
+/// An error of line 40 of the file of this number.
+fn bad_line(file: u64) -> Fault {
+    Fault::DailyLine {
+        file,
+        line: 40,
+        why: DailyWhy::DuplicateMonth,
+    }
+}
+
+#[test]
+fn places_of_bad_daily_lines(rt: HostRuntime) -> Result<(), Fail> {
+    let alloc = rt.alloc();
+    let (files, same, fewer) = (paths(alloc, 3)?, paths(alloc, 3)?, paths(alloc, 2)?);
+    let cases = [
+        (
+            same.as_slice(),
+            bad_line(3),
+            "refused 5 DailyLine file 3 line 40 DuplicateMonth\n",
+        ),
+        (
+            fewer.as_slice(),
+            bad_line(1),
+            "refused 5 DailyLine file 1 line 40 DuplicateMonth\nat file 0.dly:40\n",
+        ),
+        (
+            fewer.as_slice(),
+            bad_line(3),
+            "refused 5 DailyLine file 3 line 40 DuplicateMonth\nat file 2.dly:40\n",
+        ),
+        (
+            fewer.as_slice(),
+            Fault::UnexpectedWord(3),
+            "refused 8 UnexpectedWord 3\n",
+        ),
+    ];
+    for (arguments, fault, expected) in cases {
+        let files = DailyPaths {
+            paths: files.as_slice(),
+            arguments,
+        };
+        let (mut messages, mut out) = (KeptLines::new(alloc), Vec::new(alloc));
+        let ending = print_description(&mut messages, Err(fault), files, &mut out);
+        assert_eq!(rt; ending, Ending::Refused);
+        assert_eq!(rt; messages.text.as_str(), expected);
+        let mut messages = KeptLines::new(alloc);
+        print_judgement(&mut messages, Err(fault), files, &mut out);
+        assert_eq!(rt; messages.text.as_str(), expected);
+        assert!(rt; out.is_empty());
+    }
+    Ok(())
+}
+
+/// Prints why files can't be named.
+fn check_not_named<R: Abort + AllocGlobal>(rt: &R, why: &NotNamed, ending: Ending, line: &str) {
+    let mut messages = KeptLines::new(rt.alloc());
+    assert_eq!(rt; not_named(&mut messages, why), ending);
+    assert_eq!(rt; messages.text.as_str(), line);
+}
+
+#[test]
+fn lines_of_names(rt: HostRuntime) -> Result<(), Fail> {
+    let alloc = rt.alloc();
+    let list = NotNamed::Unreadable(String::from_str(alloc, "a list")?);
+    check_not_named(&rt, &list, Ending::File, "file not read a list\n");
+    let empty = NotNamed::Empty(String::from_str(alloc, "-")?);
+    check_not_named(&rt, &empty, Ending::File, "file not read -\n");
+    let folder = NotNamed::NotText(String::from_str(alloc, "x/y/")?);
+    check_not_named(&rt, &folder, Ending::File, "file not read x/y/\n");
+    check_not_named(
+        &rt,
+        &NotNamed::Memory,
+        Ending::Refused,
+        "refused 3 Memory\n",
+    );
+    Ok(())
 }

@@ -1,7 +1,7 @@
 //! What the arguments of a command line ask for, and the statuses.
 
 use super::*;
-use command_line::{Command, CommandFault, command};
+use command_line::{Command, CommandFault, NamedFiles, command};
 use std::alloc::{AllocError, Global};
 use std::test::Fail;
 
@@ -60,7 +60,7 @@ fn commands_of_words(rt: HostRuntime) -> Result<(), Fail> {
     assert_eq!(rt; workers, 64);
     assert_eq!(rt; guess, Some(-3));
     assert_eq!(rt; certificate.as_ref().map(|path| path.as_str()), Some("c"));
-    assert!(rt; are_words(files.as_slice(), &["a", "b"]));
+    assert!(rt; are_words(files.paths.as_slice(), &["a", "b"]));
     Ok(())
 }
 
@@ -135,7 +135,7 @@ fn commands_to_check(rt: HostRuntime) -> Result<(), Fail> {
     for (text, expected) in texts.iter().zip(["s", "q", "r", "c"]) {
         assert_eq!(rt; text.as_str(), expected);
     }
-    assert!(rt; are_words(files.as_slice(), &["a", "b"]));
+    assert!(rt; are_words(files.paths.as_slice(), &["a", "b"]));
     assert!(rt; !part);
     Ok(())
 }
@@ -167,7 +167,70 @@ fn commands_to_describe(rt: HostRuntime) -> Result<(), Fail> {
         return Err(Fail::from("no command to describe"));
     };
     assert_eq!(rt; stations.as_str(), "s");
-    assert!(rt; are_words(files.as_slice(), &["a", "b"]));
+    assert!(rt; are_words(files.paths.as_slice(), &["a", "b"]));
+    Ok(())
+}
+
+/// The daily files that a command names.
+fn files_of(command: Command) -> Option<NamedFiles> {
+    match command {
+        Command::Rank { files, .. }
+        | Command::Check { files, .. }
+        | Command::Describe { files, .. } => { Some(files) }
+        Command::Sample | Command::Merge { .. } => None,
+    }
+}
+
+#[test]
+fn commands_with_a_list(rt: HostRuntime) -> Result<(), Fail> {
+    let alloc = rt.alloc();
+    let rank: &[&str] = &["rank", "--stations=s", "--query=q"];
+    let check: &[&str] = &[
+        "check",
+        "--part",
+        "--stations=s",
+        "--query=q",
+        "--report=r",
+        "--certificate=c",
+    ];
+    let describe: &[&str] = &["describe", "--stations=s"];
+    let cases: [(&[&str], &[&str], Option<&str>, bool); 6] = [
+        (&[], &[], None, false),
+        (&["a"], &["a"], None, false),
+        (&["--files-from", "l"], &[], Some("l"), false),
+        (&["--files-from=-", "a"], &["a"], Some("-"), false),
+        (
+            &["a", "-0", "--files-from", "l", "b"],
+            &["a", "b"],
+            Some("l"),
+            true,
+        ),
+        (
+            &["--null", "--files-from=./-", "--", "-"],
+            &["-"],
+            Some("./-"),
+            true,
+        ),
+    ];
+    for front in [rank, check, describe] {
+        for (more, paths, list, null) in cases {
+            let mut words = words_of(alloc, front)?;
+            words.append(&mut words_of(alloc, more)?)?;
+            let Ok(asked) = command(alloc, words) else {
+                return Err(Fail::from("no command"));
+            };
+            let Some(files) = files_of(asked) else {
+                return Err(Fail::from("no files"));
+            };
+            assert!(rt; are_words(files.paths.as_slice(), paths), "at {more:?}");
+            assert_eq!(rt;
+                files.list.as_ref().map(|list| list.as_str()),
+                list,
+                "at {more:?}"
+            );
+            assert_eq!(rt; files.null, null, "at {more:?}");
+        }
+    }
     Ok(())
 }
 
@@ -196,7 +259,23 @@ fn shown(alloc: Global, words: &[&str]) -> Result<String, Fail> {
 #[test]
 fn texts_of_words(rt: HostRuntime) -> Result<(), Fail> {
     let odd = "error: each report is followed by its certificate, and the last one has none\n";
-    let cases: [(&[&str], &str); 7] = [
+    let null = "error: --null says how the names of a list end, and --files-from names no list\n";
+    let cases: [(&[&str], &str); 12] = [
+        (&["rank", "--stations=s", "--query=q", "--null", "a"], null),
+        (
+            &[
+                "check",
+                "--stations=s",
+                "--query=q",
+                "--report=r",
+                "--certificate=c",
+                "-0",
+            ],
+            null,
+        ),
+        (&["describe", "--stations=s", "-0"], null),
+        (&["merge", "--query=q", "--files-from=l"], "'--files-from'"),
+        (&["merge", "--query=q", "-0"], "'-0'"),
         (&["merge", "--query=q", "r"], odd),
         (&["merge", "r", "c", "s", "--query=q"], odd),
         (
@@ -244,6 +323,9 @@ fn helps_of_commands(rt: HostRuntime) -> Result<(), Fail> {
             "ghcnd-stations.txt \\\n      --query 'top 3 dry box",
         ),
         ("rank", "\n  SNWD     snow depth, whole millimetres\n"),
+        ("rank", "--files-from <LIST>"),
+        ("check", "-0, --null"),
+        ("describe", "A folder stands for its .dly files"),
         ("rank", "\n  refused 13 EmptyPeriod  "),
     ];
     for (command, part) in cases {

@@ -1,20 +1,12 @@
-use Rattle.std.proofs.Common.{◌∙◌, map, [], refl, codes}
-use Rattle.clap.specs.Words.{found_of}
-use Rattle.clap.proofs.WalkLemmas.{one_text-rows, raw_values-rows}
-use Rattle.command_line.proofs.CommandLines.{read_or, flag_read}
 use Rattle.command_line.proofs.words.check_of.Goals as goal
 
 -- each field is what the matches have under its name
-pub returns : goal.returns
-returns c = let f = found_of c.args.matches.now in (
+pub returns-clause-ok : goal.returns-clause-ok
+returns-clause-ok c = (
   c.in_ok-text.ensures,
   c.in_ok-text-2.ensures,
   c.in_ok-text-3.ensures,
   c.in_ok-text-4.ensures,
-  flag_read _ _
-      (λ e. c.get_flag.ensures.none (one_text-rows f (codes "part") ∙ e))
-      (λ e. c.get_flag.ensures.value (one_text-rows f (codes "part") ∙ e))
-      (λ e. c.get_flag.ensures.other (one_text-rows f (codes "part") ∙ e)),
-  c.in_ok-copies.ensures ∙ read_or (λ s. map (λ v. v.now) s.now) _ _ _ _ [] c.unwrap_or.ensures
-      (c.get_strs.ensures ∙ raw_values-rows f (codes "files")) refl,
+  c.is_given.ensures,
+  c.in_ok-files.ensures.ok,
 )

@@ -1,15 +1,15 @@
-use Rattle.std.proofs.Common.{◌∙◌, map, [], refl, codes}
+use Rattle.std.proofs.Common.{◌∙◌, codes}
 use Rattle.std.specs.Int.{w64}
 use Rattle.std.specs.Str.Parse.{ParsesSigned, ExplainsSignedError, HasSignedDigitsIfOk}
 use Rattle.std.specs.Str.Parse.{ParsesUnsigned, ExplainsUnsignedError, HasUnsignedDigitsIfOk}
 use Rattle.clap.specs.Words.{found_of}
-use Rattle.clap.proofs.WalkLemmas.{first_value-rows, one_text-rows, raw_values-rows}
-use Rattle.command_line.proofs.CommandLines.{read_or, guess_read, count_read}
+use Rattle.clap.proofs.WalkLemmas.{first_value-rows, one_text-rows}
+use Rattle.command_line.proofs.CommandLines.{guess_read, count_read}
 use Rattle.command_line.proofs.words.rank_of.Goals as goal
 
 -- each field is what the matches have under its name
-pub returns : goal.returns
-returns c = let f = found_of c.args.matches.now in (
+pub returns-clause-ok : goal.returns-clause-ok
+returns-clause-ok c = let f = found_of c.args.matches.now in (
   c.in_ok-text.ensures,
   c.in_ok-text-2.ensures,
   (
@@ -25,6 +25,5 @@ returns c = let f = found_of c.args.matches.now in (
       (λ e. c.get_one-2.ensures.none (one_text-rows f (codes "guess") ∙ e))
       (λ t e. c.get_one-2.ensures.value t (one_text-rows f (codes "guess") ∙ e)),
   c.in_ok-copy.ensures ∙ c.get_str.ensures ∙ first_value-rows f (codes "certificate"),
-  c.in_ok-copies.ensures ∙ read_or (λ s. map (λ v. v.now) s.now) _ _ _ _ [] c.unwrap_or-2.ensures
-      (c.get_strs.ensures ∙ raw_values-rows f (codes "files")) refl,
+  c.in_ok-files.ensures.ok,
 )

@@ -4,7 +4,7 @@ use Rattle.clap.specs.Words.{app_of, new_app, rule_of, with_rule}
 use Rattle.clap.specs.Simple.{app_of_fields}
 use Rattle.clap.specs.declared.builder.Command.TheViews.{out-Command as fields_of}
 use Rattle.clap.specs.declared.builder.ValueParser.{ValueParser}
-use Rattle.command_line.specs.CommandLine.{option_of, parsed, is_global, whole_number, whole_count}
+use Rattle.command_line.specs.CommandLine.{option_of, parsed, is_global, and_files, whole_number, whole_count}
 use Rattle.command_line.proofs.CommandLines.{parsed_by, either}
 use Rattle.command_line.proofs.words.rank_words.Goals as goal
 
@@ -29,24 +29,29 @@ returns c =
     = ap is_global c.value_parser-guess.ensures.others ∙ c.option-2.ensures.local in
     let made : app_of c.after_help.result ≡ new_app (codes "rank")
     = ap app_of_fields c.after_help.ensures ∙ ap app_of_fields c.about.ensures ∙ c.new.ensures.app in
-    let plain : (fields_of c.after_help.result).has_globals ≡ false
-    = ap (λ f. f.has_globals) c.after_help.ensures ∙ ap (λ f. f.has_globals) c.about.ensures ∙ c.new.ensures.local in
-    let options = c.in_ok-arg-5.ensures.shape c.option-3.ensures.local
+    let options = c.in_ok-rank.ensures.shape c.option-3.ensures.local
     ∙ ap₂ with_rule (c.in_ok-arg-4.ensures.shape local_guess
     ∙ ap₂ with_rule (c.in_ok-arg-3.ensures.shape local_workers
     ∙ ap₂ with_rule (c.in_ok-arg-2.ensures.shape c.needed-2.ensures.local
     ∙ ap₂ with_rule (c.in_ok-arg.ensures.shape c.needed.ensures.local
     ∙ ap₂ with_rule made c.needed.ensures.rule) c.needed-2.ensures.rule) workers_is) guess_is)
     c.option-3.ensures.rule in
-    let without = c.in_ok-arg-5.ensures.globals
+    record {
+      app = IfOk-weaker c.with_files.result _ _ (λ r h. h ∙ ap and_files options) c.with_files.ensures.app;
+      local = c.with_files.ensures.local;
+    }
+
+-- no argument of its own is one of subcommands
+pub with_files-requires : goal.with_files-requires
+with_files-requires c =
+    let local_workers : is_global c.value_parser-workers.result ≡ false
+    = ap is_global c.value_parser-workers.ensures.others ∙ c.option.ensures.local in
+    let local_guess : is_global c.value_parser-guess.result ≡ false
+    = ap is_global c.value_parser-guess.ensures.others ∙ c.option-2.ensures.local in
+    let plain : (fields_of c.after_help.result).has_globals ≡ false
+    = ap (λ f. f.has_globals) c.after_help.ensures ∙ ap (λ f. f.has_globals) c.about.ensures ∙ c.new.ensures.local in
+    c.in_ok-rank.ensures.globals
     ∙ ap₂ either (c.in_ok-arg-4.ensures.globals ∙ ap₂ either (c.in_ok-arg-3.ensures.globals
     ∙ ap₂ either (c.in_ok-arg-2.ensures.globals ∙ ap₂ either (c.in_ok-arg.ensures.globals
     ∙ ap₂ either plain c.needed.ensures.local) c.needed-2.ensures.local) local_workers) local_guess)
-    c.option-3.ensures.local in
-    record {
-      app = IfOk-weaker c.arg-6.result _ _
-          (λ r h. h.shape c.many.ensures.local ∙ ap₂ with_rule options c.many.ensures.rule)
-          c.arg-6.ensures;
-      local = IfOk-weaker c.arg-6.result _ _
-          (λ r h. h.globals ∙ ap₂ either without c.many.ensures.local) c.arg-6.ensures;
-    }
+    c.option-3.ensures.local

@@ -1,4 +1,4 @@
-use Rattle.std.proofs.Common.{inl, inr, refl}
+use Rattle.std.proofs.Common.{◌∙◌, inl, inr, refl}
 use Rattle.extremes.specs.Messages.{ArePrintedLines, streams}
 use Rattle.extremes.proofs.PrintedLines.{shown_of}
 use Rattle.extremes.proofs.run.run_describing.Goals as goal
@@ -8,10 +8,12 @@ pub returns-in-Ok : goal.returns-in-Ok
 returns-in-Ok g c = inr (record {
   answer = c.in-Ok.described;
   described = c.in-Ok.ensures.describes;
-  shown = shown_of
+  shown = shown_of _
       (streams (ArePrintedLines g.M.Messages.prints c.args.messages.now c.print_description.new.messages)
       (g.W.Write.contents c.args.out.now) (g.W.Write.contents c.print_description.new.out))
-      c.deref.result.now c.args.describing.now.files.items c.print_description.result c.deref.ensures.value _ _ c.print_description.ensures;
+      c.daily_paths-files.result.paths.now c.args.describing.now.files.items c.daily_paths-files.result.arguments.now
+      c.args.named.now.paths.items c.print_description.result (c.daily_paths-files.ensures.paths ∙ c.deref.ensures.value)
+      c.daily_paths-files.ensures.arguments _ c.print_description.ensures;
 })
 
 -- or a file can't be read

@@ -1,4 +1,4 @@
-use Rattle.std.proofs.Common.{inl, inr, refl}
+use Rattle.std.proofs.Common.{◌∙◌, inl, inr, refl}
 use Rattle.extremes.specs.Messages.{ArePrintedLines, streams}
 use Rattle.extremes.proofs.PrintedLines.{told_of}
 use Rattle.extremes.proofs.run.run_judging.Goals as goal
@@ -9,10 +9,12 @@ returns-in-Ok g c =
     inr (record {
       answer = c.in-Ok.judged;
       judged = c.in-Ok.ensures.judges;
-      told = told_of
+      told = told_of _
           (streams (ArePrintedLines g.M.Messages.prints c.args.messages.now c.print_judgement.new.messages)
           (g.W.Write.contents c.args.out.now) (g.W.Write.contents c.print_judgement.new.out))
-          c.deref.result.now c.args.judging.now.files.items c.print_judgement.result c.deref.ensures.value _ _ c.print_judgement.ensures;
+          c.daily_paths-files.result.paths.now c.args.judging.now.files.items c.daily_paths-files.result.arguments.now
+          c.args.named.now.paths.items c.print_judgement.result (c.daily_paths-files.ensures.paths ∙ c.deref.ensures.value)
+          c.daily_paths-files.ensures.arguments _ c.print_judgement.ensures;
     })
 
 -- or a file can't be read
