@@ -4,6 +4,7 @@ ghost use Rattle.std.specs.Prelude.{◌≡◌, option_map};
 ghost use Rattle.explanations.specs.Inputs.{IsOfInput, IsOfQuery, SaysWord, file_path};
 
 use crate::explanation::Explanation;
+use crate::notice::NO_MEMORY;
 use crate::query::{more_words, wrong_word};
 use crate::{daily, station};
 use rank_input::Fault;
@@ -57,7 +58,7 @@ pub fn of_input<'a>(fault: Fault, given: Given<'a>, line: Option<&'a [u8]>) -> E
             name: given.stations,
             says: "a station list has at most 1048576 stations",
         },
-        Fault::Memory(_) => Explanation::Plain("out of memory: the system gave no more"),
+        Fault::Memory(_) => Explanation::Plain(NO_MEMORY),
         Fault::DailyLine {
             file,
             line: number,

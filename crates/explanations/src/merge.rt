@@ -6,6 +6,7 @@ ghost use Rattle.explanations.specs.Texts.{Says, place_text};
 ghost use Rattle.explanations.specs.Merges.{certificate_path, merge_text, report_path};
 
 use crate::explanation::Explanation;
+use crate::notice::NO_MEMORY;
 use command_line::Part;
 use rank_merge::MergeFault;
 
@@ -68,7 +69,7 @@ pub fn of_merge(fault: MergeFault, parts: &[Part]) -> Explanation<'_>
             id,
             says: "certificates of two parts have this station; it may be in one part",
         },
-        MergeFault::Memory(_) => Explanation::Plain("out of memory: the system gave no more"),
+        MergeFault::Memory(_) => Explanation::Plain(NO_MEMORY),
     }
 }
 

@@ -23,3 +23,6 @@ pub const NOT_TEXT: &str = "a name in it isn't UTF-8 text";
 /// What is wrong with a file that a certificate can't be written to.
 pub const IN_USE: &str =
     "this run reads it or prints to it, or it holds something other than a certificate";
+
+/// What out of memory means.
+pub const NO_MEMORY: &str = "out of memory: the system gave no more";

@@ -10,10 +10,12 @@ use crate::again::{line_with_error, looks_compressed, read_again};
 use crate::explanation::Explanation;
 use crate::input::{Given, of_input, of_query};
 use crate::merge::of_merge;
-use crate::notice::{COMPRESSED, FOREIGN, IN_USE, ODD, UNLISTED};
+use crate::notice::{
+    COMPRESSED, FOREIGN, IN_USE, NO_MEMORY, NO_NAMES, NOT_TEXT, ODD, UNLISTED,
+};
 use command_line::Part;
 use ghcn_series::Warnings;
-use rank_input::{Archive, Fault};
+use rank_input::{Archive, Fault, NotNamed};
 use rank_merge::MergeFault;
 use rank_query::QueryFault;
 use std::alloc::{AllocError, Global};
@@ -132,9 +134,23 @@ impl ForPeople {
         }
     }
 
+    /// Explains why the daily files can't be named.
+    pub fn explain_names<A: Archive>(&mut self, alloc: Global, archive: &A, why: &NotNamed) {
+        match why {
+            NotNamed::Unreadable(path) => self.explain_unread(alloc, archive, path.as_str()),
+            NotNamed::Empty(path) => self.explain_file(alloc, path.as_str(), NO_NAMES),
+            NotNamed::NotText(path) => self.explain_file(alloc, path.as_str(), NOT_TEXT),
+            NotNamed::Memory => self.add(alloc, Explanation::Plain(NO_MEMORY)),
+        }
+    }
+
     /// Explains that a certificate's file is in use.
     pub fn explain_use(&mut self, alloc: Global, path: &str) {
-        let says = IN_USE;
+        self.explain_file(alloc, path, IN_USE);
+    }
+
+    /// Explains what is wrong with a file.
+    fn explain_file(&mut self, alloc: Global, path: &str, says: &'static str) {
         self.add(alloc, Explanation::Of { name: path, says });
     }
 

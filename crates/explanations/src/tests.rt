@@ -5,11 +5,12 @@ use crate::explanation::Explanation;
 use crate::input::{Given, of_input, of_query};
 use crate::merge::of_merge;
 use crate::notice::{COMPRESSED, FOREIGN, ODD, UNLISTED};
+use crate::people::ForPeople;
 use command_line::Part;
 use ghcn_fields::Memory;
 use ghcn_files::{LineWhy, StationId, StationWhy};
-use ghcn_series::DailyWhy;
-use rank_input::Fault;
+use ghcn_series::{DailyWhy, Foreign, LinePlace, OddLines, Warnings};
+use rank_input::{Fault, NotNamed, System};
 use rank_merge::MergeFault;
 use rank_query::{Query, QueryFault};
 use std::alloc::Global;
@@ -558,6 +559,59 @@ fn meanings_of_warnings(rt: HostRuntime) -> Result<(), Fail> {
     for (says, front) in cases {
         let said = format!(in alloc; "{}", Explanation::Plain(says))?;
         assert!(rt; said.starts_with(front) && said.len() <= 100);
+    }
+    Ok(())
+}
+
+#[test]
+fn words_that_people_read(rt: HostRuntime) -> Result<(), Fail> {
+    let alloc = rt.alloc();
+    let given = Given {
+        query: "top 1 dry",
+        stations: "/dev/null",
+        files: &[],
+    };
+    let fault = Fault::StationLine {
+        line: 2,
+        why: StationWhy::Short,
+    };
+    let warnings = Warnings {
+        foreign: Foreign {
+            count: 1,
+            first: Some(0),
+        },
+        odd: OddLines {
+            count: 1,
+            first: Some(LinePlace { file: 0, line: 1 }),
+        },
+    };
+    let archive = System(&rt);
+    let said = "a query has at most 256 bytes\n\
+        out of memory: the system gave no more\n\
+        /dev/null:2: too few columns; a line of the station list has at least 30\n\
+        out: this run reads it or prints to it, or it holds something other than a certificate\n\
+        foreign: files that have lines, but none of PRCP SNOW SNWD TMAX TMIN\n\
+        odd: lines that aren't laid out as daily lines are; daily lines may be lost with them\n\
+        unlisted: lines of stations that aren't in the station list; they were left out\n\
+        data: a folder without .dly files, or a list without names\n\
+        list: a name in it isn't UTF-8 text\n\
+        out of memory: the system gave no more\n\
+        no such file: ";
+    for is_read in [false, true] {
+        let mut words = ForPeople::new(alloc, is_read);
+        words.explain_query(alloc, QueryFault::QueryTooLong, "x");
+        words.explain_parts(alloc, MergeFault::Memory(Memory), &[]);
+        words.explain_input(alloc, &archive, fault, given);
+        words.explain_use(alloc, "out");
+        words.explain_warnings(alloc, warnings, 3);
+        let (empty, other) = (String::from_str(alloc, "data")?, String::from_str(alloc, "list")?);
+        words.explain_names(alloc, &archive, &NotNamed::Empty(empty));
+        words.explain_names(alloc, &archive, &NotNamed::NotText(other));
+        words.explain_names(alloc, &archive, &NotNamed::Memory);
+        let absent = String::from_str(alloc, "no such file")?;
+        words.explain_names(alloc, &archive, &NotNamed::Unreadable(absent));
+        assert_eq!(rt; words.lines().starts_with(said), is_read);
+        assert_eq!(rt; words.lines().is_empty(), !is_read);
     }
     Ok(())
 }
