@@ -10,8 +10,9 @@ from itertools import product
 from pathlib import Path
 
 ROOT = Path(__file__).resolve().parent.parent
-# Types that are printed, and are neither errors nor verdicts: an element's code, and a query's canonical text.
-OTHERS = {"Element", "Query"}
+# Types that are printed, and are neither errors nor verdicts: an element's code, a query's canonical text, and
+# words for people, which a contract and a test of their crate hold.
+OTHERS = {"Element", "Query", "Explanation", "Found", "WrongWord", "MoreWords", "Shown", "ShownText"}
 # What a command prints besides messages: types, or variants of them.
 PRINTED = {
     "rank": ("Fault",), "describe": ("Fault",), "merge": ("MergingFault",),

@@ -1,6 +1,7 @@
 pub mod Answer
 pub mod Ending
 pub mod Messages
+pub mod People
 pub mod Printed
 pub mod Delivered
 pub mod Targets

@@ -4,6 +4,7 @@
 mod delivery;
 mod describe;
 mod ending;
+mod explained;
 mod files;
 mod judge;
 mod judgement;
@@ -20,8 +21,10 @@ mod target;
 #[cfg(test)]
 mod tests;
 
+use std::io::IsTerminal;
 use std::process::ExitCode;
 
 fn main(rt: HostRuntime) -> ExitCode {
-    ExitCode::from(run::run(&rt).status())
+    let is_read = rt.stderr().is_terminal();
+    ExitCode::from(run::run(&rt, is_read).status())
 }

@@ -8,8 +8,10 @@ ghost use Rattle.extremes.specs.Commands.{RunsRanking, RunsMerge, RunsJudging, R
 ghost use Rattle.extremes.specs.FaultTexts.{fault_line, merging_line};
 ghost use Rattle.extremes.specs.Targets.{IsPut};
 ghost use Rattle.extremes.specs.Messages.{ArePrintedLines, streams};
+ghost use Rattle.extremes.specs.People.{IsForPeople, MayPrint};
 
 use crate::ending::Ending;
+use crate::explained::{explain_described, explain_judged, explain_merged, explain_ranked};
 use crate::files::{
     Describing, Judging, Ranking, describe_files, judge_files, merge_files, rank_files,
 };
@@ -24,6 +26,7 @@ use crate::sample;
 use crate::system_target::SystemTarget;
 use crate::target::{Target, is_in_use, is_paper_or_output};
 use command_line::{Command, CommandFault, NamedFiles, Part, command};
+use explanations::ForPeople;
 use ghcn_fields::Memory;
 use rank_input::{Archive, Fault, NotNamed, System, name_files};
 use std::alloc::Global;
@@ -34,9 +37,11 @@ use std::sync::Wait;
 use std::thread::Threads;
 use std::{env, io};
 
-/// Runs the command that the process's arguments ask for.
+/// Runs the command that the process's arguments ask for. If people read standard error, as on a
+/// terminal, words for them follow its lines.
 pub fn run<R: Files + Env + Print + Eprint + Threads + Wait + AllocGlobal + Sync>(
     rt: &R,
+    is_read: bool,
 ) -> Ending {
     let (_input, _output, _errors) = (placeholder(rt), placeholder(rt), placeholder(rt));
     let mut messages = SystemMessages(rt);
@@ -47,10 +52,11 @@ pub fn run<R: Files + Env + Print + Eprint + Threads + Wait + AllocGlobal + Sync
     match command(rt.alloc(), words) {
         Ok(asked) => {
             let mut target = SystemTarget::new(rt);
-            run_command(
+            run_for_people(
                 rt,
                 &System(rt),
                 asked,
+                is_read,
                 &mut messages,
                 &mut target,
                 &mut io::writer(rt),
@@ -67,6 +73,49 @@ pub fn run<R: Files + Env + Print + Eprint + Threads + Wait + AllocGlobal + Sync
     }
 }
 
+/// Runs a command, and then prints words for people, if they read standard error.
+fn run_for_people<
+    R: Threads + Wait + AllocGlobal + Sync,
+    A: Archive,
+    M: Messages,
+    T: Target,
+    W: Write,
+>(
+    rt: &R,
+    archive: &A,
+    asked: Command,
+    is_read: bool,
+    messages: &mut M,
+    target: &mut T,
+    out: &mut W,
+) -> Ending
+    ensures { IsForPeople M.prints is_read messages.new (λ between. IsCommandRun
+        (environment (A.bytes_of archive.now) (A.opens archive.now) (A.names_of archive.now)
+        (T.one_file target.old) (T.other_text target.old)
+        (IsPut T.opens T.abandons T.contents target.old target.new)
+        ⟦<Fault as Display>⟧.output ⟦<MergingFault as Display>⟧.output
+        (streams (ArePrintedLines M.prints messages.old between) (W.contents out.old) (W.contents out.new)))
+        asked result) }
+{
+    let mut words = ForPeople::new(rt.alloc(), is_read);
+    let ending = run_command(rt, archive, asked, messages, target, out, &mut words);
+    if !is_read {
+        return ending;
+    }
+    print_words(messages, words.lines());
+    ending
+}
+
+/// Prints words for people as a line, if there are any.
+fn print_words<M: Messages>(messages: &mut M, words: &str)
+    ensures { MayPrint M.prints messages.old messages.new }
+{
+    if words.is_empty() {
+        return;
+    }
+    messages.print(words);
+}
+
 /// Runs a command over the files of an archive, and prints the report or the verdict. A certificate
 /// goes to a target, and the other lines go to standard error.
 fn run_command<
@@ -75,7 +124,15 @@ fn run_command<
     M: Messages,
     T: Target,
     W: Write,
->(rt: &R, archive: &A, asked: Command, messages: &mut M, target: &mut T, out: &mut W) -> Ending
+>(
+    rt: &R,
+    archive: &A,
+    asked: Command,
+    messages: &mut M,
+    target: &mut T,
+    out: &mut W,
+    words: &mut ForPeople,
+) -> Ending
     ensures { IsCommandRun (environment (A.bytes_of archive.now) (A.opens archive.now) (A.names_of archive.now)
         (T.one_file target.old) (T.other_text target.old)
         (IsPut T.opens T.abandons T.contents target.old target.new)
@@ -110,9 +167,13 @@ fn run_command<
                     messages,
                     target,
                     out,
+                    words,
                 )
             }
-            Err(why) => not_named(messages, &why),
+            Err(why) => {
+                words.explain_names(rt.alloc(), archive, &why);
+                not_named(messages, &why)
+            }
         },
         Command::Merge {
             query,
@@ -129,6 +190,7 @@ fn run_command<
                 messages,
                 target,
                 out,
+                words,
             )
         }
         Command::Check {
@@ -151,9 +213,12 @@ fn run_command<
                     papers,
                     part,
                 };
-                run_judging(rt.alloc(), archive, &judging, &named, messages, out)
+                run_judging(rt.alloc(), archive, &judging, &named, messages, out, words)
             }
-            Err(why) => not_named(messages, &why),
+            Err(why) => {
+                words.explain_names(rt.alloc(), archive, &why);
+                not_named(messages, &why)
+            }
         },
         Command::Describe {
             stations,
@@ -161,9 +226,20 @@ fn run_command<
         } => match daily_files(rt.alloc(), archive, &named) {
             Ok(files) => {
                 let describing = Describing { stations, files };
-                run_describing(rt.alloc(), archive, &describing, &named, messages, out)
+                run_describing(
+                    rt.alloc(),
+                    archive,
+                    &describing,
+                    &named,
+                    messages,
+                    out,
+                    words,
+                )
             }
-            Err(why) => not_named(messages, &why),
+            Err(why) => {
+                words.explain_names(rt.alloc(), archive, &why);
+                not_named(messages, &why)
+            }
         },
     }
 }
@@ -211,6 +287,7 @@ fn run_ranking<
     messages: &mut M,
     target: &mut T,
     out: &mut W,
+    words: &mut ForPeople,
 ) -> Ending
     ensures { RunsRanking (environment (A.bytes_of archive.now) (A.opens archive.now) (A.names_of archive.now)
         (T.one_file target.old) (T.other_text target.old)
@@ -223,15 +300,20 @@ fn run_ranking<
     if let Some(path) = certificate {
         let list = path_of(&named.list);
         if is_in_use(target, path, &ranking.stations, list, &ranking.files) {
+            words.explain_use(rt.alloc(), path);
             return not_written(messages, path);
         }
     }
     match rank_files(rt, archive, ranking) {
         Ok(ranked) => {
+            explain_ranked(rt.alloc(), archive, ranking, &ranked, words);
             let files = daily_paths(&ranking.files, named);
             print_ranked(messages, ranked, files, certificate, target, out)
         }
-        Err(path) => not_read(messages, path),
+        Err(path) => {
+            words.explain_unread(rt.alloc(), archive, path);
+            not_read(messages, path)
+        }
     }
 }
 
@@ -246,6 +328,7 @@ fn run_merge<A: Archive, M: Messages, T: Target, W: Write>(
     messages: &mut M,
     target: &mut T,
     out: &mut W,
+    words: &mut ForPeople,
 ) -> Ending
     ensures { RunsMerge (environment (A.bytes_of archive.now) (A.opens archive.now) (A.names_of archive.now)
         (T.one_file target.old) (T.other_text target.old)
@@ -257,12 +340,19 @@ fn run_merge<A: Archive, M: Messages, T: Target, W: Write>(
     let certificate = path_of(certificate);
     if let Some(path) = certificate {
         if is_paper_or_output(target, path, parts) {
+            words.explain_use(alloc, path);
             return not_written(messages, path);
         }
     }
     match merge_files(alloc, archive, query, parts) {
-        Ok(merged) => print_answer(messages, merged, certificate, target, out),
-        Err(path) => not_read(messages, path),
+        Ok(merged) => {
+            explain_merged(alloc, query, parts, &merged, words);
+            print_answer(messages, merged, certificate, target, out)
+        }
+        Err(path) => {
+            words.explain_unread(alloc, archive, path);
+            not_read(messages, path)
+        }
     }
 }
 
@@ -281,6 +371,7 @@ fn run_judging<A: Archive, M: Messages, W: Write>(
     named: &NamedFiles,
     messages: &mut M,
     out: &mut W,
+    words: &mut ForPeople,
 ) -> Ending
     ensures { RunsJudging (A.bytes_of archive.now) (A.opens archive.now) fault_line
         (streams (ArePrintedLines M.prints messages.old messages.new) (W.contents out.old) (W.contents out.new))
@@ -288,10 +379,14 @@ fn run_judging<A: Archive, M: Messages, W: Write>(
 {
     match judge_files(alloc, archive, judging) {
         Ok(judged) => {
+            explain_judged(alloc, archive, judging, &judged, words);
             let files = daily_paths(&judging.files, named);
             print_judgement(messages, judged, files, out)
         }
-        Err(path) => not_read(messages, path),
+        Err(path) => {
+            words.explain_unread(alloc, archive, path);
+            not_read(messages, path)
+        }
     }
 }
 
@@ -303,6 +398,7 @@ fn run_describing<A: Archive, M: Messages, W: Write>(
     named: &NamedFiles,
     messages: &mut M,
     out: &mut W,
+    words: &mut ForPeople,
 ) -> Ending
     ensures { RunsDescribing (A.bytes_of archive.now) (A.opens archive.now) fault_line
         (streams (ArePrintedLines M.prints messages.old messages.new) (W.contents out.old) (W.contents out.new))
@@ -310,10 +406,14 @@ fn run_describing<A: Archive, M: Messages, W: Write>(
 {
     match describe_files(alloc, archive, describing) {
         Ok(described) => {
+            explain_described(alloc, archive, describing, &described, words);
             let files = daily_paths(&describing.files, named);
             print_description(messages, described, files, out)
         }
-        Err(path) => not_read(messages, path),
+        Err(path) => {
+            words.explain_unread(alloc, archive, path);
+            not_read(messages, path)
+        }
     }
 }
 

@@ -1,0 +1,21 @@
+-- Columns of a line, as they are shown.
+use Rattle.std.specs.Prelude.{ℕ, ◌+◌, ◌-◌, List, ◌++◌, codes, take, drop}
+use Rattle.std.specs.Fmt.{decimal}
+use Rattle.explanations.specs.Shown.{shown}
+
+-- those of a line from the first to the last, counted from 1, as far as it has them
+abbrev pub columns_of : List ℕ → ℕ → ℕ → List ℕ
+columns_of line first last = take (last - first + 1) (drop (first - 1) line)
+
+-- where these columns are, and what stands there
+abbrev pub columns_text : ℕ → ℕ → List ℕ → List ℕ
+columns_text first last bytes =
+    codes "columns " ++ decimal first ++ codes " to " ++ decimal last ++ codes ": '" ++ shown bytes ++ codes "'"
+
+-- so it is said of a line
+abbrev pub columns_in : List ℕ → ℕ → ℕ → List ℕ
+columns_in line first last = columns_text first last (columns_of line first last)
+
+-- how many columns there are
+abbrev pub count_text : ℕ → List ℕ
+count_text count = decimal count ++ codes " columns"

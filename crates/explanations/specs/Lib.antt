@@ -1,0 +1,11 @@
+pub mod Shown
+pub mod Columns
+pub mod Daily
+pub mod Station
+pub mod Places
+pub mod Queries
+pub mod Texts
+pub mod Again
+pub mod Inputs
+pub mod Merges
+pub mod People
