@@ -93,7 +93,7 @@ fn run_for_people<
         (environment (A.bytes_of archive.now) (A.opens archive.now) (A.names_of archive.now)
         (T.one_file target.old) (T.other_text target.old)
         (IsPut T.opens T.abandons T.contents target.old target.new)
-        ⟦<Fault as Display>⟧.output ⟦<MergingFault as Display>⟧.output
+        fault_line merging_line
         (streams (ArePrintedLines M.prints messages.old between) (W.contents out.old) (W.contents out.new)))
         asked result) }
 {
