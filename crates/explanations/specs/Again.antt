@@ -1,5 +1,5 @@
 -- The line of an error in a text that was read again.
-use Rattle.std.specs.Prelude.{◌≡◌, ℕ, List, Option, Some}
+use Rattle.std.specs.Prelude.{◌≡◌, ℕ, List, Some}
 use Rattle.std.specs.List.{slice_get}
 use Rattle.ghcn_fields.specs.Lines.{numbered_lines}
 use Rattle.rank_input.specs.declared.fault.Fault.{Fault}

@@ -1,7 +1,10 @@
 -- The words for people that a run gathers.
-use Rattle.std.specs.Prelude.{◌≡◌, ◌⊎◌, ℕ, Bool, true, ◌==◌, if◌then◌else◌, List, ◌++◌, length, codes, Option, Some}
-use Rattle.std.specs.Prelude.{IfSome, string_bytes}
+use Rattle.std.specs.Prelude.{◌≡◌, ◌⊎◌, ℕ, Bool, true, ◌==◌, ◌<◌, if◌then◌else◌, List, ◌++◌, length, codes, Option, Some}
+use Rattle.std.specs.Prelude.{IfSome, None, string_bytes}
+use Rattle.ghcn_series.specs.declared.counts.Warnings.{Warnings}
 use Rattle.rank_input.specs.declared.fault.Fault.{Fault}
+use Rattle.rank_input.specs.declared.named.NotNamed.{NotNamed}
+use Rattle.rank_input.specs.declared.named.NotNamed.TheVariants as naming
 use Rattle.explanations.specs.declared.explanation.Explanation.{Explanation}
 use Rattle.explanations.specs.declared.input.Given.{Given}
 use Rattle.explanations.specs.declared.people.ForPeople.{ForPeople}
@@ -43,3 +46,30 @@ compressed_text path = shown_text path ++ codes ": " ++ codes "it looks compress
 abbrev pub AddsInput : Fault → Given → ForPeople → ForPeople → Type 0
 AddsInput fault given old new = (new ≡ old) ⊎ AddsOne (IsAboutInput fault given) old new
     ⊎ Adds old new (Some (compressed_text (path_of given fault)))
+
+-- a file, a folder or a list, and what is wrong with it
+abbrev pub file_text : List ℕ → List ℕ → List ℕ
+file_text path says = shown_text path ++ codes ": " ++ says
+
+-- why daily files can't be named, if it isn't for the system's reason
+abbrev pub naming_text : NotNamed → Option (List ℕ)
+naming_text (naming.Unreadable at) = None
+naming_text (naming.Empty at) =
+    Some (file_text (string_bytes at) (codes "a folder without .dly files, or a list without names"))
+naming_text (naming.NotText at) = Some (file_text (string_bytes at) (codes "a name in it isn't UTF-8 text"))
+naming_text naming.Memory = Some (codes "out of memory: the system gave no more")
+
+-- a line is added if there is something that it is about
+abbrev pub AddsIfAny : ℕ → List ℕ → ForPeople → ForPeople → Type 0
+AddsIfAny count text old new = (count ≡ 0 → new ≡ old) × (0 < count → Adds old new (Some text))
+
+-- what each warning of a run means is added, after a line for each that comes before it
+pub record AddsMeanings (warnings : Warnings) (unlisted : ℕ) (old new : ForPeople) : Type 0 where
+  pub first : ForPeople
+  pub second : ForPeople
+  pub foreign : AddsIfAny warnings.foreign.count
+      (codes "foreign: files that have lines, but none of PRCP SNOW SNWD TMAX TMIN") old first
+  pub odd : AddsIfAny warnings.odd.count
+      (codes "odd: lines that aren't laid out as daily lines are; daily lines may be lost with them") first second
+  pub others : AddsIfAny unlisted
+      (codes "unlisted: lines of stations that aren't in the station list; they were left out") second new

@@ -1,7 +1,8 @@
 //! The words for people that a run gathers, to be printed after its lines.
 
-ghost use Rattle.std.specs.Prelude.{◌≡◌, ◌++◌, [], IfOk, IfSome, Some, string_bytes};
-ghost use Rattle.explanations.specs.People.{Adds, AddsInput, AddsOne, are_read, joined, lines_of};
+ghost use Rattle.std.specs.Prelude.{◌≡◌, ◌++◌, [], codes, IfOk, IfSome, Some, string_bytes};
+ghost use Rattle.explanations.specs.People.{Adds, AddsInput, AddsOne, AddsIfAny, AddsMeanings, are_read, file_text};
+ghost use Rattle.explanations.specs.People.{joined, lines_of, naming_text};
 ghost use Rattle.explanations.specs.Inputs.{IsOfQuery};
 ghost use Rattle.explanations.specs.Merges.{merge_text};
 ghost use Rattle.explanations.specs.Texts.{explanation_text};
@@ -10,9 +11,7 @@ use crate::again::{line_with_error, looks_compressed, read_again};
 use crate::explanation::Explanation;
 use crate::input::{Given, of_input, of_query};
 use crate::merge::of_merge;
-use crate::notice::{
-    COMPRESSED, FOREIGN, IN_USE, NO_MEMORY, NO_NAMES, NOT_TEXT, ODD, UNLISTED,
-};
+use crate::notice::{COMPRESSED, FOREIGN, IN_USE, NO_MEMORY, NO_NAMES, NOT_TEXT, ODD, UNLISTED};
 use command_line::Part;
 use ghcn_series::Warnings;
 use rank_input::{Archive, Fault, NotNamed};
@@ -114,7 +113,9 @@ impl ForPeople {
     }
 
     /// Explains that a file can't be read, by the system's reason if it can't be read again.
-    pub fn explain_unread<A: Archive>(&mut self, alloc: Global, archive: &A, path: &str) {
+    pub fn explain_unread<A: Archive>(&mut self, alloc: Global, archive: &A, path: &str)
+        ensures { are_read self.new ≡ are_read self.old }
+    {
         if !self.is_read {
             return;
         }
@@ -135,7 +136,9 @@ impl ForPeople {
     }
 
     /// Explains why the daily files can't be named.
-    pub fn explain_names<A: Archive>(&mut self, alloc: Global, archive: &A, why: &NotNamed) {
+    pub fn explain_names<A: Archive>(&mut self, alloc: Global, archive: &A, why: &NotNamed)
+        ensures { Adds self.old self.new (naming_text why.now) }
+    {
         match why {
             NotNamed::Unreadable(path) => self.explain_unread(alloc, archive, path.as_str()),
             NotNamed::Empty(path) => self.explain_file(alloc, path.as_str(), NO_NAMES),
@@ -145,25 +148,35 @@ impl ForPeople {
     }
 
     /// Explains that a certificate's file is in use.
-    pub fn explain_use(&mut self, alloc: Global, path: &str) {
+    pub fn explain_use(&mut self, alloc: Global, path: &str)
+        ensures { Adds self.old self.new (Some (file_text path.now
+            (codes "this run reads it or prints to it, or it holds something other than a certificate"))) }
+    {
         self.explain_file(alloc, path, IN_USE);
     }
 
     /// Explains what is wrong with a file.
-    fn explain_file(&mut self, alloc: Global, path: &str, says: &'static str) {
+    fn explain_file(&mut self, alloc: Global, path: &str, says: &'static str)
+        ensures { Adds self.old self.new (Some (file_text path.now says.now)) }
+    {
         self.add(alloc, Explanation::Of { name: path, says });
     }
 
     /// Explains what a run warns of: foreign files, odd lines, and that many lines of unlisted stations.
-    pub fn explain_warnings(&mut self, alloc: Global, warnings: Warnings, unlisted: u64) {
-        if warnings.foreign.count > 0 {
-            self.add(alloc, Explanation::Plain(FOREIGN));
-        }
-        if warnings.odd.count > 0 {
-            self.add(alloc, Explanation::Plain(ODD));
-        }
-        if unlisted > 0 {
-            self.add(alloc, Explanation::Plain(UNLISTED));
+    pub fn explain_warnings(&mut self, alloc: Global, warnings: Warnings, unlisted: u64)
+        ensures { AddsMeanings warnings unlisted self.old self.new }
+    {
+        self.explain_any(alloc, warnings.foreign.count, FOREIGN);
+        self.explain_any(alloc, warnings.odd.count, ODD);
+        self.explain_any(alloc, unlisted, UNLISTED);
+    }
+
+    /// Adds what a warning means, if there is something that it warns of.
+    fn explain_any(&mut self, alloc: Global, count: u64, says: &'static str)
+        ensures { AddsIfAny count says.now self.old self.new }
+    {
+        if count > 0 {
+            self.add(alloc, Explanation::Plain(says));
         }
     }
 }

@@ -604,7 +604,10 @@ fn words_that_people_read(rt: HostRuntime) -> Result<(), Fail> {
         words.explain_input(alloc, &archive, fault, given);
         words.explain_use(alloc, "out");
         words.explain_warnings(alloc, warnings, 3);
-        let (empty, other) = (String::from_str(alloc, "data")?, String::from_str(alloc, "list")?);
+        let (empty, other) = (
+            String::from_str(alloc, "data")?,
+            String::from_str(alloc, "list")?,
+        );
         words.explain_names(alloc, &archive, &NotNamed::Empty(empty));
         words.explain_names(alloc, &archive, &NotNamed::NotText(other));
         words.explain_names(alloc, &archive, &NotNamed::Memory);
