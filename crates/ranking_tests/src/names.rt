@@ -19,7 +19,7 @@ struct InMemory {
 }
 
 impl Archive for InMemory {
-    ghost use Rattle.std.specs.Prelude.{◌≡◌, ◌||◌, Some};
+    ghost use Rattle.std.specs.Prelude.{◌≡◌, ◌⊎◌, Some};
     ghost use Rattle.std.specs.Option.{is_some};
     ghost use Rattle.ranking_tests.specs.InMemory.{beside};
 
@@ -27,7 +27,8 @@ impl Archive for InMemory {
 
     ghost bytes_of = { λ a path. beside a.files.now path };
 
-    ghost opens = { λ a path opened. opened ≡ (is_some (beside a.files.now path) || is_some (beside a.folders.now path)) };
+    ghost opens = { λ a path opened.
+        (opened ≡ is_some (beside a.files.now path)) ⊎ (opened ≡ is_some (beside a.folders.now path)) };
 
     ghost names_of = { λ a path. Some (beside a.folders.now path) };
 
