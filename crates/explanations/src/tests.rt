@@ -175,9 +175,9 @@ fn kinds_of_errors_of_daily_lines(rt: HostRuntime) -> Result<(), Fail> {
             why,
         };
         // The file has changed: it ends before the line, or the line has no such error.
-        for text in ["", "one line\n", other.as_str()] {
-            assert_eq!(rt; line_with_error(alloc, fault, text.as_bytes()), None);
-        }
+        assert_eq!(rt; line_with_error(alloc, fault, b""), None);
+        assert_eq!(rt; line_with_error(alloc, fault, b"one line\n"), None);
+        assert_eq!(rt; line_with_error(alloc, fault, other.as_bytes()), None);
         let file = format!(in alloc; "\n{other}")?;
         assert_eq!(rt; line_with_error(alloc, fault, file.as_bytes()), None);
         let file = format!(in alloc; "\n{good}")?;
