@@ -174,46 +174,74 @@ fn commands_to_describe(rt: HostRuntime) -> Result<(), Fail> {
 /// The daily files that a command names.
 fn files_of(command: Command) -> Option<NamedFiles> {
     match command {
-        Command::Rank { files, .. }
-        | Command::Check { files, .. }
-        | Command::Describe { files, .. } => { Some(files) }
-        Command::Sample | Command::Merge { .. } => None,
+        Command::Rank {
+            stations: _stations,
+            query: _query,
+            workers: _workers,
+            guess: _guess,
+            certificate: _certificate,
+            files,
+        } => Some(files),
+        Command::Check {
+            stations: _stations,
+            query: _query,
+            report: _report,
+            certificate: _certificate,
+            part: _part,
+            files,
+        } => Some(files),
+        Command::Describe {
+            stations: _stations,
+            files,
+        } => Some(files),
+        Command::Sample => None,
+        Command::Merge {
+            query: _query,
+            certificate: _certificate,
+            parts: _parts,
+        } => None,
     }
 }
 
-#[test]
-fn commands_with_a_list(rt: HostRuntime) -> Result<(), Fail> {
-    let alloc = rt.alloc();
-    let rank: &[&str] = &["rank", "--stations=s", "--query=q"];
-    let check: &[&str] = &[
+/// The arguments that begin each command that is given daily files.
+const FRONTS: [&[&str]; 3] = [
+    &["rank", "--stations=s", "--query=q"],
+    &[
         "check",
         "--part",
         "--stations=s",
         "--query=q",
         "--report=r",
         "--certificate=c",
-    ];
-    let describe: &[&str] = &["describe", "--stations=s"];
-    let cases: [(&[&str], &[&str], Option<&str>, bool); 6] = [
-        (&[], &[], None, false),
-        (&["a"], &["a"], None, false),
-        (&["--files-from", "l"], &[], Some("l"), false),
-        (&["--files-from=-", "a"], &["a"], Some("-"), false),
-        (
-            &["a", "-0", "--files-from", "l", "b"],
-            &["a", "b"],
-            Some("l"),
-            true,
-        ),
-        (
-            &["--null", "--files-from=./-", "--", "-"],
-            &["-"],
-            Some("./-"),
-            true,
-        ),
-    ];
-    for front in [rank, check, describe] {
-        for (more, paths, list, null) in cases {
+    ],
+    &["describe", "--stations=s"],
+];
+
+/// Arguments that follow these, and the paths, the list and the flag that they name.
+const LISTS: [(&[&str], &[&str], Option<&str>, bool); 6] = [
+    (&[], &[], None, false),
+    (&["a"], &["a"], None, false),
+    (&["--files-from", "l"], &[], Some("l"), false),
+    (&["--files-from=-", "a"], &["a"], Some("-"), false),
+    (
+        &["a", "-0", "--files-from", "l", "b"],
+        &["a", "b"],
+        Some("l"),
+        true,
+    ),
+    (
+        &["--null", "--files-from=./-", "--", "-"],
+        &["-"],
+        Some("./-"),
+        true,
+    ),
+];
+
+#[test]
+fn commands_with_a_list(rt: HostRuntime) -> Result<(), Fail> {
+    let alloc = rt.alloc();
+    for front in FRONTS {
+        for (more, paths, list, null) in LISTS {
             let mut words = words_of(alloc, front)?;
             words.append(&mut words_of(alloc, more)?)?;
             let Ok(asked) = command(alloc, words) else {
@@ -223,11 +251,7 @@ fn commands_with_a_list(rt: HostRuntime) -> Result<(), Fail> {
                 return Err(Fail::from("no files"));
             };
             assert!(rt; are_words(files.paths.as_slice(), paths), "at {more:?}");
-            assert_eq!(rt;
-                files.list.as_ref().map(|list| list.as_str()),
-                list,
-                "at {more:?}"
-            );
+            assert_eq!(rt; files.list.as_deref(), list, "at {more:?}");
             assert_eq!(rt; files.null, null, "at {more:?}");
         }
     }
