@@ -15,7 +15,7 @@ words_wanted Nothing = []
 abbrev pub words_at : Place → List ℕ
 words_at places.Top = codes "top"
 words_at places.Rows = codes "a number from 1 to 1000"
-words_at places.Score = codes "highest lowest sum dry wet hot"
+words_at places.Score = codes "highest lowest sum dry wet hot cold"
 words_at places.Element = codes "PRCP SNOW SNWD TMAX TMIN"
 words_at places.Temperature = codes "TMAX TMIN"
 words_at places.Days = codes "a number from 1 to 366"

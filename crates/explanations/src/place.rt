@@ -62,7 +62,7 @@ impl Place {
         match self {
             Place::Top => Wanted::Form("top"),
             Place::Rows => Wanted::Form("a number from 1 to 1000"),
-            Place::Score => Wanted::OneOf("highest lowest sum dry wet hot"),
+            Place::Score => Wanted::OneOf("highest lowest sum dry wet hot cold"),
             Place::Element => Wanted::OneOf("PRCP SNOW SNWD TMAX TMIN"),
             Place::Temperature => Wanted::OneOf("TMAX TMIN"),
             Place::Days => Wanted::Form("a number from 1 to 366"),
@@ -92,7 +92,7 @@ fn after_score(word: &[u8]) -> Place {
         b"highest" => Place::Element,
         b"lowest" => Place::Temperature,
         b"sum" => Place::Days,
-        b"hot" => Place::Heat,
+        b"hot" | b"cold" => Place::Heat,
         _ => Place::Region,
     }
 }

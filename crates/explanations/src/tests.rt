@@ -276,7 +276,7 @@ fn other_errors_of_an_input(rt: HostRuntime) -> Result<(), Fail> {
         (Fault::BadDate(1), "top: top isn't top"),
         (
             Fault::BadBox(3),
-            "top 3 lowest: lowest is none of highest lowest sum dry wet hot",
+            "top 3 lowest: lowest is none of highest lowest sum dry wet hot cold",
         ),
         (
             Fault::EmptyPeriod,
@@ -303,11 +303,11 @@ fn words_of_queries(rt: HostRuntime) -> Result<(), Fail> {
         ("top 0 dry", "top 0: 0 isn't a number from 1 to 1000"),
         (
             "top 1",
-            "top 1: one of highest lowest sum dry wet hot has to follow",
+            "top 1: one of highest lowest sum dry wet hot cold has to follow",
         ),
         (
             "top 1 high",
-            "top 1 high: high is none of highest lowest sum dry wet hot",
+            "top 1 high: high is none of highest lowest sum dry wet hot cold",
         ),
         (
             "top 1 highest TMX",
@@ -328,6 +328,14 @@ fn words_of_queries(rt: HostRuntime) -> Result<(), Fail> {
         (
             "top 1 hot 1.25",
             "top 1 hot 1.25: 1.25 isn't a number from -100 to 100 with at most one decimal",
+        ),
+        (
+            "top 1 cold 101",
+            "top 1 cold 101: 101 isn't a number from -100 to 100 with at most one decimal",
+        ),
+        (
+            "top 1 cold",
+            "top 1 cold: a number from -100 to 100 with at most one decimal has to follow",
         ),
         (
             "top 1 wet  where",
@@ -406,7 +414,43 @@ fn words_of_queries(rt: HostRuntime) -> Result<(), Fail> {
     Ok(())
 }
 
-/// Each word that is offered may stand there: a query goes on with it, or it is whole.
+/// Words that may stand somewhere in a query.
+const WORDS: &str =
+    "top highest lowest sum dry wet hot cold PRCP SNOW SNWD TMAX TMIN box country state station months \
+                     days from to per year";
+
+/// Whether a text is a query, or the beginning of one.
+fn begins_a_query(text: &str) -> bool {
+    matches!(Query::parse(text), Ok(_) | Err(QueryFault::QueryEnds))
+}
+
+/// The words that are offered after the beginning of a query, if they are offered as words.
+fn offered_after(alloc: Global, begun: &str) -> Result<Option<String>, Fail> {
+    let wrong = format!(in alloc; "{begun} ~")?;
+    let Err(fault) = Query::parse(wrong.as_str()) else {
+        return Ok(None);
+    };
+    let said = format!(in alloc; "{}", of_query(fault, wrong.as_str()))?;
+    let offered = said
+        .rsplit_once(" is none of ")
+        .or(said.rsplit_once(" isn't "));
+    let Some((_, words)) = offered else {
+        return Ok(None);
+    };
+    Ok(Some(String::from_str(alloc, words)?))
+}
+
+fn is_among(word: &str, words: &str) -> bool {
+    for other in words.split(' ') {
+        if other == word {
+            return true;
+        }
+    }
+    false
+}
+
+/// The words that are offered somewhere are those that may stand there: with each of them a query goes on, or it is
+/// whole.
 #[test]
 fn words_that_are_offered(rt: HostRuntime) -> Result<(), Fail> {
     let alloc = rt.alloc();
@@ -416,32 +460,27 @@ fn words_that_are_offered(rt: HostRuntime) -> Result<(), Fail> {
         "top 1 highest",
         "top 1 lowest",
         "top 1 sum 3",
+        "top 1 hot 1",
+        "top 1 cold 1",
         "top 1 dry",
         "top 1 dry state NY",
         "top 1 dry months 1..2",
         "top 1 dry from 2019-01-01",
     ];
     for begun in cases {
-        let wrong = format!(in alloc; "{begun} ~")?;
-        let Err(fault) = Query::parse(wrong.as_str()) else {
-            assert!(rt; false, "{wrong}");
+        let Some(offered) = offered_after(alloc, begun)? else {
+            assert!(rt; false, "{begun}");
             continue;
         };
-        let said = format!(in alloc; "{}", of_query(fault, wrong.as_str()))?;
-        let offered = said
-            .rsplit_once(" is none of ")
-            .or(said.rsplit_once(" isn't "));
-        let Some((_, words)) = offered else {
-            assert!(rt; false, "{said}");
-            continue;
-        };
-        for word in words.split(' ') {
+        for word in offered.split(' ') {
             let longer = format!(in alloc; "{begun} {word}")?;
-            let read = Query::parse(longer.as_str());
-            assert!(rt;
-                matches!(read, Ok(_) | Err(QueryFault::QueryEnds)),
-                "{longer}"
-            );
+            assert!(rt; begins_a_query(longer.as_str()), "{longer}");
+        }
+        for word in WORDS.split(' ') {
+            let longer = format!(in alloc; "{begun} {word}")?;
+            if begins_a_query(longer.as_str()) {
+                assert!(rt; is_among(word, &offered), "{longer}");
+            }
         }
     }
     Ok(())
