@@ -350,10 +350,51 @@ fn helps_of_commands(rt: HostRuntime) -> Result<(), Fail> {
         ("rank", "--files-from <LIST>"),
         ("check", "-0, --null"),
         ("describe", "A folder stands for its .dly files"),
-        ("rank", "\n  refused 13 EmptyPeriod  "),
     ];
     for (command, part) in cases {
         let text = shown(rt.alloc(), &[command, "--help"])?;
+        assert!(rt; text.as_str().contains(part), "at {part:?}: {text}");
+    }
+    Ok(())
+}
+
+/// Each word of a query and each refusal has a line.
+#[test]
+fn help_of_rank(rt: HostRuntime) -> Result<(), Fail> {
+    let parts = [
+        "highest ELEM            greatest values of PRCP, SNOW, SNWD, TMAX or TMIN",
+        "lowest TEMP             lowest values of TMAX or TMIN",
+        "sum N FALL              greatest sums of N days in a row, 1 to 366, of PRCP or SNOW",
+        "dry, wet                longest spells of days below 1 mm, or of at least 1 mm",
+        "hot T                   longest spells of days whose TMAX is at least T,",
+        "cold T                  longest spells of days whose TMIN is at most T",
+        "box S W N E ",
+        "country CC ",
+        "state SS ",
+        "station ID\n",
+        "months A..B ",
+        "from YYYY-MM-DD to YYYY-MM-DD",
+        "refused 1 StationLine line L WHY ",
+        "refused 2 TooManyStations ",
+        "refused 3 Memory ",
+        "refused 5 DailyLine file F line L WHY ",
+        "refused 6 TooManyFiles ",
+        "refused 7 QueryTooLong ",
+        "refused 8 UnexpectedWord A ",
+        "refused 9 QueryEnds ",
+        "refused 10 OutOfLimits A ",
+        "refused 11 BadDate A ",
+        "refused 12 BadBox A ",
+        "refused 13 EmptyPeriod ",
+        "refused 18 BadWorkers ",
+        "refused 19 BadGuess ",
+        "Short, BadId, BadLatitude,",
+        "BadLongitude, BadElevation, Duplicate.",
+        "Short, TooLong, BadId, BadYear, BadMonth,",
+        "BadValue DAY, DuplicateMonth.",
+    ];
+    let text = shown(rt.alloc(), &["rank", "--help"])?;
+    for part in parts {
         assert!(rt; text.as_str().contains(part), "at {part:?}: {text}");
     }
     Ok(())
