@@ -175,11 +175,11 @@ merges-pairs name rows c (inr (inr (inl is))) e = let bad : 109 ≡ 99 = first_c
 merges-pairs name rows c (inr (inr (inr is))) e = let bad : 109 ≡ 100 = first_code _ _ _ (sym e ∙ is.0) in absurd
     (omega (arith, bad))
 merges-pairs name rows Sample (inr (inl is)) e = absurd is.1
-merges-pairs name rows (Rank stations query workers guess certificate files) (inr (inl is)) e = absurd is.1
-merges-pairs name rows (Check stations query report certificate part files) (inr (inl is)) e = absurd is.1
-merges-pairs name rows (Describe stations files) (inr (inl is)) e = absurd is.1
-merges-pairs name rows (Merge query certificate parts) (inr (inl is)) e =
-    ap (λ (ps : List Text). length ps % 2) (sym is.1.2) ∙ paths-even parts.items
+merges-pairs name rows (Rank asked) (inr (inl is)) e = absurd is.1
+merges-pairs name rows (Check asked) (inr (inl is)) e = absurd is.1
+merges-pairs name rows (Describe asked) (inr (inl is)) e = absurd is.1
+merges-pairs name rows (Merge asked) (inr (inl is)) e =
+    ap (λ (ps : List Text). length ps % 2) (sym is.1.2) ∙ paths-even asked.parts.items
 
 -- of two that are read as one the second is there if the first is
 pub mapped_some : {X Y Z : Type 0} (f : X → Z) (g : Y → Z) (a : Option X) (b : Option Y) → option_map f a ≡ option_map g b
@@ -208,22 +208,20 @@ lists-null : (name : Text) (rows : List Row) (c : Command) → IsCommand name ro
     → HasListIfNull rows
 lists-null name rows c (inr (inl is)) other = absurd (other is.0)
 lists-null name rows Sample (inl is) other = absurd is.1
-lists-null name rows (Rank stations query workers guess certificate files) (inl is) other =
-    files-listed rows files is.1.5
-lists-null name rows (Merge query certificate parts) (inl is) other = absurd is.1
-lists-null name rows (Check stations query report certificate part files) (inl is) other = absurd is.1
-lists-null name rows (Describe stations files) (inl is) other = absurd is.1
+lists-null name rows (Rank asked) (inl is) other = files-listed rows asked.files is.1.5
+lists-null name rows (Merge asked) (inl is) other = absurd is.1
+lists-null name rows (Check asked) (inl is) other = absurd is.1
+lists-null name rows (Describe asked) (inl is) other = absurd is.1
 lists-null name rows Sample (inr (inr (inl is))) other = absurd is.1
-lists-null name rows (Rank stations query workers guess certificate files) (inr (inr (inl is))) other = absurd is.1
-lists-null name rows (Merge query certificate parts) (inr (inr (inl is))) other = absurd is.1
-lists-null name rows (Check stations query report certificate part files) (inr (inr (inl is))) other =
-    files-listed rows files is.1.5
-lists-null name rows (Describe stations files) (inr (inr (inl is))) other = absurd is.1
+lists-null name rows (Rank asked) (inr (inr (inl is))) other = absurd is.1
+lists-null name rows (Merge asked) (inr (inr (inl is))) other = absurd is.1
+lists-null name rows (Check asked) (inr (inr (inl is))) other = files-listed rows asked.files is.1.5
+lists-null name rows (Describe asked) (inr (inr (inl is))) other = absurd is.1
 lists-null name rows Sample (inr (inr (inr is))) other = absurd is.1
-lists-null name rows (Rank stations query workers guess certificate files) (inr (inr (inr is))) other = absurd is.1
-lists-null name rows (Merge query certificate parts) (inr (inr (inr is))) other = absurd is.1
-lists-null name rows (Check stations query report certificate part files) (inr (inr (inr is))) other = absurd is.1
-lists-null name rows (Describe stations files) (inr (inr (inr is))) other = files-listed rows files is.1.1
+lists-null name rows (Rank asked) (inr (inr (inr is))) other = absurd is.1
+lists-null name rows (Merge asked) (inr (inr (inr is))) other = absurd is.1
+lists-null name rows (Check asked) (inr (inr (inr is))) other = absurd is.1
+lists-null name rows (Describe asked) (inr (inr (inr is))) other = files-listed rows asked.files is.1.1
 
 -- arguments without an error that name a subcommand name the command that is read of it
 pub command-met : (words : List Text) (met : Option (Text × List Row)) (c : Command) → fault_of extremes_app words ≡ []

@@ -167,16 +167,15 @@ pub record AreFiles (rows : List Row) (files : NamedFiles) : Type 0 where
 -- the command has the options and files of a subcommand's matches
 abbrev pub IsRank : List Row → Command → Type 0
 IsRank rows Sample = ⊥
-IsRank rows (Merge query certificate parts) = ⊥
-IsRank rows (Check stations query report certificate part files) = ⊥
-IsRank rows (Describe stations files) = ⊥
-IsRank rows (Rank stations query workers guess certificate files) =
-    (string_bytes stations ≡ unwrap_or (first_of (codes "stations") rows) [])
-    × (string_bytes query ≡ unwrap_or (first_of (codes "query") rows) [])
-    × AreWorkers (one_of (codes "workers") rows) workers
-    × IsGuess (one_of (codes "guess") rows) guess
-    × (option_map (λ s. string_bytes s) certificate ≡ first_of (codes "certificate") rows)
-    × AreFiles rows files
+IsRank rows (Merge asked) = ⊥
+IsRank rows (Check asked) = ⊥
+IsRank rows (Describe asked) = ⊥
+IsRank rows (Rank asked) = (string_bytes asked.stations ≡ unwrap_or (first_of (codes "stations") rows) [])
+    × (string_bytes asked.query ≡ unwrap_or (first_of (codes "query") rows) [])
+    × AreWorkers (one_of (codes "workers") rows) asked.workers
+    × IsGuess (one_of (codes "guess") rows) asked.guess
+    × (option_map (λ s. string_bytes s) asked.certificate ≡ first_of (codes "certificate") rows)
+    × AreFiles rows asked.files
 
 -- the paths of the reports and certificates of parts, those of a part side by side
 abbrev pub paths_of : List Part → List Text
@@ -185,37 +184,34 @@ paths_of parts = flat_map (λ p. string_bytes p.report ∷ string_bytes p.certif
 -- the same for a subcommand that merges parts
 abbrev pub IsMerge : List Row → Command → Type 0
 IsMerge rows Sample = ⊥
-IsMerge rows (Rank stations query workers guess certificate files) = ⊥
-IsMerge rows (Check stations query report certificate part files) = ⊥
-IsMerge rows (Describe stations files) = ⊥
-IsMerge rows (Merge query certificate parts) =
-    (string_bytes query ≡ unwrap_or (first_of (codes "query") rows) [])
-    × (option_map (λ s. string_bytes s) certificate ≡ first_of (codes "certificate") rows)
-    × (paths_of parts.items ≡ papers_to_merge rows)
+IsMerge rows (Rank asked) = ⊥
+IsMerge rows (Check asked) = ⊥
+IsMerge rows (Describe asked) = ⊥
+IsMerge rows (Merge asked) = (string_bytes asked.query ≡ unwrap_or (first_of (codes "query") rows) [])
+    × (option_map (λ s. string_bytes s) asked.certificate ≡ first_of (codes "certificate") rows)
+    × (paths_of asked.parts.items ≡ papers_to_merge rows)
 
 -- the same for a subcommand that checks a report and a certificate
 abbrev pub IsCheck : List Row → Command → Type 0
 IsCheck rows Sample = ⊥
-IsCheck rows (Merge query certificate parts) = ⊥
-IsCheck rows (Rank stations query workers guess certificate files) = ⊥
-IsCheck rows (Describe stations files) = ⊥
-IsCheck rows (Check stations query report certificate part files) =
-    (string_bytes stations ≡ unwrap_or (first_of (codes "stations") rows) [])
-    × (string_bytes query ≡ unwrap_or (first_of (codes "query") rows) [])
-    × (string_bytes report ≡ unwrap_or (first_of (codes "report") rows) [])
-    × (string_bytes certificate ≡ unwrap_or (first_of (codes "certificate") rows) [])
-    × IsFlag (one_of (codes "part") rows) part
-    × AreFiles rows files
+IsCheck rows (Merge asked) = ⊥
+IsCheck rows (Rank asked) = ⊥
+IsCheck rows (Describe asked) = ⊥
+IsCheck rows (Check asked) = (string_bytes asked.stations ≡ unwrap_or (first_of (codes "stations") rows) [])
+    × (string_bytes asked.query ≡ unwrap_or (first_of (codes "query") rows) [])
+    × (string_bytes asked.report ≡ unwrap_or (first_of (codes "report") rows) [])
+    × (string_bytes asked.certificate ≡ unwrap_or (first_of (codes "certificate") rows) [])
+    × IsFlag (one_of (codes "part") rows) asked.part
+    × AreFiles rows asked.files
 
 -- the same for a subcommand that describes files
 abbrev pub IsDescribe : List Row → Command → Type 0
 IsDescribe rows Sample = ⊥
-IsDescribe rows (Rank stations query workers guess certificate files) = ⊥
-IsDescribe rows (Merge query certificate parts) = ⊥
-IsDescribe rows (Check stations query report certificate part files) = ⊥
-IsDescribe rows (Describe stations files) =
-    (string_bytes stations ≡ unwrap_or (first_of (codes "stations") rows) [])
-    × AreFiles rows files
+IsDescribe rows (Rank asked) = ⊥
+IsDescribe rows (Merge asked) = ⊥
+IsDescribe rows (Check asked) = ⊥
+IsDescribe rows (Describe asked) = (string_bytes asked.stations ≡ unwrap_or (first_of (codes "stations") rows) [])
+    × AreFiles rows asked.files
 
 -- it is the name of a subcommand
 abbrev pub IsName : Text → Type 0

@@ -7,40 +7,53 @@ use std::alloc::AllocError;
 pub enum Command {
     /// Without arguments: the ranking of the texts that are built in.
     Sample,
-    /// Rank the candidates of a query over files.
-    Rank {
-        stations: String,
-        query: String,
-        /// How many workers look for records; 1 to 64 may run.
-        workers: u64,
-        /// A score, in the raw unit of the data, that the k-th best record should reach.
-        guess: Option<i64>,
-        /// Where the certificate goes, if it is wanted.
-        certificate: Option<String>,
-        files: NamedFiles,
-    },
-    /// Merge the reports and the certificates of parts into those of all files. No data is read.
-    Merge {
-        query: String,
-        /// Where the certificate goes, if it is wanted.
-        certificate: Option<String>,
-        parts: Vec<Part>,
-    },
-    /// Check a report and a certificate against files.
-    Check {
-        stations: String,
-        query: String,
-        report: String,
-        certificate: String,
-        /// Whether the files are a part of those that the report and the certificate cover.
-        part: bool,
-        files: NamedFiles,
-    },
-    /// Describe what files hold.
-    Describe {
-        stations: String,
-        files: NamedFiles,
-    },
+    Rank(RankArguments),
+    Merge(MergeArguments),
+    Check(CheckArguments),
+    Describe(DescribeArguments),
+}
+
+/// What is ranked: the candidates of a query over files.
+#[derive(Debug, Drop)]
+pub struct RankArguments {
+    pub stations: String,
+    pub query: String,
+    /// How many workers look for records; 1 to 64 may run.
+    pub workers: u64,
+    /// A score, in the raw unit of the data, that the k-th best record should reach.
+    pub guess: Option<i64>,
+    /// Where the certificate goes, if it is wanted.
+    pub certificate: Option<String>,
+    pub files: NamedFiles,
+}
+
+/// What is merged: the reports and the certificates of parts into those of all files. No data is
+/// read.
+#[derive(Debug, Drop)]
+pub struct MergeArguments {
+    pub query: String,
+    /// Where the certificate goes, if it is wanted.
+    pub certificate: Option<String>,
+    pub parts: Vec<Part>,
+}
+
+/// What is checked: a report and a certificate against files.
+#[derive(Debug, Drop)]
+pub struct CheckArguments {
+    pub stations: String,
+    pub query: String,
+    pub report: String,
+    pub certificate: String,
+    /// Whether the files are a part of those that the report and the certificate cover.
+    pub part: bool,
+    pub files: NamedFiles,
+}
+
+/// What is described: what files hold.
+#[derive(Debug, Drop)]
+pub struct DescribeArguments {
+    pub stations: String,
+    pub files: NamedFiles,
 }
 
 /// The daily files that a command names.

@@ -7,5 +7,8 @@ mod asked;
 mod help;
 mod words;
 
-pub use asked::{Command, CommandFault, NamedFiles, Part};
+pub use asked::{
+    CheckArguments, Command, CommandFault, DescribeArguments, MergeArguments, NamedFiles, Part,
+    RankArguments,
+};
 pub use words::command;

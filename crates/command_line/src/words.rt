@@ -12,7 +12,10 @@ ghost use Rattle.command_line.specs.CommandLine.{AskVersion, MayAskVersion, Tell
 ghost use Rattle.command_line.specs.declared.asked.Command.TheVariants as commands;
 ghost use Rattle.command_line.specs.declared.asked.CommandFault.TheVariants as faults;
 
-use crate::asked::{Command, CommandFault, NamedFiles, Part};
+use crate::asked::{
+    CheckArguments, Command, CommandFault, DescribeArguments, MergeArguments, NamedFiles, Part,
+    RankArguments,
+};
 use crate::help::{
     CERTIFICATE_HELP, CHECK_HELP, DESCRIBE_HELP, FILES_HELP, GUESS_HELP, HELP, LIST_HELP,
     MERGE_HELP, MERGE_USAGE, MERGED_CERTIFICATE_HELP, NULL_HELP, NULL_WITHOUT_LIST, ODD_PAPERS,
@@ -256,14 +259,14 @@ fn rank_of(alloc: Global, matches: &ArgMatches) -> Result<Command, CommandFault>
     ensures asked { IfErr result (OnVersion ⊥) }
 {
     let files = files_of(alloc, matches)?;
-    Ok(Command::Rank {
+    Ok(Command::Rank(RankArguments {
         stations: text(alloc, matches, "stations")?,
         query: text(alloc, matches, "query")?,
         workers: matches.get_one("workers").unwrap_or(WORKERS),
         guess: matches.get_one("guess"),
         certificate: copy(alloc, matches.get_str("certificate"))?,
         files,
-    })
+    }))
 }
 
 /// The command that the matches of `merge` name, or the error of a report without its certificate.
@@ -276,11 +279,11 @@ fn merge_of(alloc: Global, matches: &ArgMatches) -> Result<Command, CommandFault
     if papers.len() % 2 != 0 {
         return Err(CommandFault::Words(String::from_str(alloc, ODD_PAPERS)?));
     }
-    Ok(Command::Merge {
+    Ok(Command::Merge(MergeArguments {
         query: text(alloc, matches, "query")?,
         certificate: copy(alloc, matches.get_str("certificate"))?,
         parts: parts(alloc, papers)?,
-    })
+    }))
 }
 
 /// The command that the matches of `check` name, or the error of `--null` without a list.
@@ -290,14 +293,14 @@ fn check_of(alloc: Global, matches: &ArgMatches) -> Result<Command, CommandFault
     ensures asked { IfErr result (OnVersion ⊥) }
 {
     let files = files_of(alloc, matches)?;
-    Ok(Command::Check {
+    Ok(Command::Check(CheckArguments {
         stations: text(alloc, matches, "stations")?,
         query: text(alloc, matches, "query")?,
         report: text(alloc, matches, "report")?,
         certificate: text(alloc, matches, "certificate")?,
         part: is_given(matches, "part"),
         files,
-    })
+    }))
 }
 
 /// The command that the matches of `describe` name, or the error of `--null` without a list.
@@ -307,10 +310,10 @@ fn describe_of(alloc: Global, matches: &ArgMatches) -> Result<Command, CommandFa
     ensures asked { IfErr result (OnVersion ⊥) }
 {
     let files = files_of(alloc, matches)?;
-    Ok(Command::Describe {
+    Ok(Command::Describe(DescribeArguments {
         stations: text(alloc, matches, "stations")?,
         files,
-    })
+    }))
 }
 
 /// The daily files that the matches of a subcommand name, or the error of `--null` without a list.
