@@ -1,17 +1,17 @@
 -- Files that are named by the arguments and the list of a command.
-use Rattle.std.proofs.Common.{◌≡◌, ℕ, List, [], ◌∷◌, Option, option_map, map, Bor, Global, inl, inr, subst}
+use Rattle.std.proofs.Common.{◌≡◌, ℕ, List, [], ◌∷◌, Option, option_map, map, Bor, Global, subst}
 use Rattle.std.specs.Prelude.{IfErr, IfOk, Result, String, string_bytes}
 use Rattle.command_line.specs.declared.asked.NamedFiles.{NamedFiles}
+use Rattle.rank_input.specs.declared.fault.Fault.{Fault}
 use Rattle.rank_input.specs.declared.named.NotNamed.{NotNamed}
 use Rattle.rank_input.specs.Feeding.{Opening}
 use Rattle.rank_input.specs.Named.{StandFor}
 use Rattle.rank_input.specs.NamingStops.{StopsNaming}
 use Rattle.extremes.specs.declared.ending.Ending.{Ending}
-use Rattle.extremes.specs.Environments.{Environment, Folders}
+use Rattle.extremes.specs.Environments.{Folders}
 use Rattle.extremes.specs.Merges.{Known}
-use Rattle.extremes.specs.Messages.{naming_line}
-use Rattle.extremes.specs.NamedRuns.{Paths, RunsNamed, StandForNamed, StopsNamed, naming_ending}
-use Rattle.extremes.specs.Targets.{PutsNothing}
+use Rattle.extremes.specs.Messages.{Line, Streams, naming_line}
+use Rattle.extremes.specs.NamedRuns.{EndsUnnamed, Paths, RunsOver, StandForNamed, StopsNamed, naming_ending}
 
 module _ (bytes_of : Known) (opens : Opening) (names_of : Folders) (files : NamedFiles) (list : Option (Bor (List ℕ)))
     (words : List (String Global)) (same_list : option_map (λ l. l.now) list ≡ option_map string_bytes files.list)
@@ -35,21 +35,20 @@ module _ (bytes_of : Known) (opens : Opening) (names_of : Folders) (files : Name
       (subst (λ (l : Option (List ℕ)). IfErr result (StopsNaming bytes_of opens names_of files.null l
       (map string_bytes words))) same_list stops)
 
-module _ (e : Environment) (files : NamedFiles) (runs : Paths → Ending → Type 0) (ending : Ending) where
+module _ (bytes_of : Known) (opens : Opening) (names_of : Folders) (files : NamedFiles) (ending : Ending) where
   -- a run whose naming stops ends so
-  pub ends-unnamed : (why : NotNamed) → StopsNamed e.bytes_of e.opens e.names_of files why → ending ≡ naming_ending why
-      → e.streams.after ≡ e.streams.before → e.streams.says (naming_line e.line why ∷ []) → PutsNothing e.puts
-      → RunsNamed e files runs ending
-  ends-unnamed why stops ends unprinted said unput = inl (record {
+  pub ends-unnamed : (line : Fault → Line) (s : Streams) (why : NotNamed) → StopsNamed bytes_of opens names_of files why
+      → ending ≡ naming_ending why → s.after ≡ s.before → s.says (naming_line line why ∷ [])
+      → EndsUnnamed bytes_of opens names_of line s files ending
+  ends-unnamed line s why stops ends unprinted said = record {
     why = why;
     stops = stops;
     ends = ends;
     unprinted = unprinted;
     said = said;
-    unput = unput;
-  })
+  }
 
   -- and one whose files are named runs over them
-  pub runs-over : (paths : Paths) → StandForNamed e.bytes_of e.opens e.names_of files paths → runs paths ending
-      → RunsNamed e files runs ending
-  runs-over paths stand ran = inr (record { paths = paths; stand = stand; ran = ran })
+  pub runs-over : (runs : Paths → Ending → Type 0) (paths : Paths) → StandForNamed bytes_of opens names_of files paths
+      → runs paths ending → RunsOver bytes_of opens names_of files runs ending
+  runs-over runs paths stand ran = record { paths = paths; stand = stand; ran = ran }

@@ -1,9 +1,13 @@
 -- What a run returns for a command, by the bytes that files have, if those are known.
 use Rattle.std.specs.Prelude.{◌≡◌, ◌⊎◌, ℕ, Bool, true, false, List, [], ◌∷◌, Option, None, IsSomeAnd, IfSome}
 use Rattle.std.specs.Prelude.{map, option_map, Result, string_bytes}
+use Rattle.command_line.specs.declared.asked.CheckArguments.{CheckArguments}
 use Rattle.command_line.specs.declared.asked.Command.{Command}
+use Rattle.command_line.specs.declared.asked.DescribeArguments.{DescribeArguments}
+use Rattle.command_line.specs.declared.asked.MergeArguments.{MergeArguments}
 use Rattle.command_line.specs.declared.asked.NamedFiles.{NamedFiles}
 use Rattle.command_line.specs.declared.asked.Part.{Part}
+use Rattle.command_line.specs.declared.asked.RankArguments.{RankArguments}
 use Rattle.command_line.specs.declared.asked.Command.TheVariants.{Sample, Rank, Merge, Check, Describe}
 use Rattle.ghcn_series.specs.declared.counts.Warnings.{Warnings}
 use Rattle.rank_input.specs.declared.fault.Fault.{Fault}
@@ -13,9 +17,9 @@ use Rattle.extremes.specs.declared.judgement.Judgement.{Judgement}
 use Rattle.extremes.specs.declared.merge.MergingFault.{MergingFault}
 use Rattle.extremes.specs.declared.ending.Ending.{Ending}
 use Rattle.extremes.specs.declared.ending.Ending.TheVariants.{File}
-use Rattle.extremes.specs.Environments.{Environment}
+use Rattle.extremes.specs.Environments.{Environment, Folders}
 use Rattle.extremes.specs.Messages.{Line, Streams, input_lines, not_read_line, not_written_line, only_line, warning_lines}
-use Rattle.extremes.specs.NamedRuns.{RunsNamed, arguments_of, list_of}
+use Rattle.extremes.specs.NamedRuns.{EndsUnnamed, RunsOver, arguments_of, list_of}
 use Rattle.extremes.specs.Targets.{Holding, IsInUse, IsPaperOrOutput, PutsNothing, Sharing}
 use Rattle.extremes.specs.Printed.{IsPrinted, IsTold, IsTextShown}
 use Rattle.extremes.specs.Runs.{RanksFiles, JudgesFiles, IsRankedAlone, ranking_paths, judging_paths}
@@ -122,29 +126,51 @@ abbrev pub RunsDescribing : Known → Opening → (Fault → Line) → Streams �
 RunsDescribing bytes_of opens line s d files ending =
     EndsAtAFile opens s (describing_paths d) ending ⊎ PrintsDescription bytes_of opens line s d files ending
 
--- what a run of a command prints and writes, and how it ends: the daily files are those that it names, in its order
+-- what a run of a ranking prints and writes, and how it ends: first its files are named; if they can't be, that is the
+-- end, and else they are ranked in their order
+abbrev pub IsRankingRun : Environment → RankArguments → Ending → Type 0
+IsRankingRun e asked ending =
+    (PutsNothing e.puts × EndsUnnamed e.bytes_of e.opens e.names_of e.line e.streams asked.files ending)
+    ⊎ RunsOver e.bytes_of e.opens e.names_of asked.files (λ paths. RunsRanking e (record {
+      stations = asked.stations;
+      files = paths;
+      query = asked.query;
+      workers = asked.workers;
+      guess = asked.guess;
+    }) asked.files (option_map string_bytes asked.certificate)) ending
+
+-- so it is with a merge, whose parts are named as they are
+abbrev pub IsMergingRun : Environment → MergeArguments → Ending → Type 0
+IsMergingRun e asked ending =
+    RunsMerge e (string_bytes asked.query) asked.parts.items (option_map string_bytes asked.certificate) ending
+
+-- and with a check, whose files are named first
+abbrev pub IsJudgingRun : Known → Opening → Folders → (Fault → Line) → Streams → CheckArguments → Ending → Type 0
+IsJudgingRun bytes_of opens names_of line s asked ending =
+    EndsUnnamed bytes_of opens names_of line s asked.files ending
+    ⊎ RunsOver bytes_of opens names_of asked.files (λ paths. RunsJudging bytes_of opens line s (record {
+      stations = asked.stations;
+      files = paths;
+      query = asked.query;
+      papers = record { report = asked.report; certificate = asked.certificate };
+      part = asked.part;
+    }) asked.files) ending
+
+-- and with a description
+abbrev pub IsDescribingRun : Known → Opening → Folders → (Fault → Line) → Streams → DescribeArguments → Ending → Type 0
+IsDescribingRun bytes_of opens names_of line s asked ending =
+    EndsUnnamed bytes_of opens names_of line s asked.files ending
+    ⊎ RunsOver bytes_of opens names_of asked.files (λ paths. RunsDescribing bytes_of opens line s (record {
+      stations = asked.stations;
+      files = paths;
+    }) asked.files) ending
+
+-- what a run of a command prints and writes, and how it ends: a check and a description write no certificate
 abbrev pub IsCommandRun : Environment → Command → Ending → Type 0
 IsCommandRun e Sample ending = PrintsSample e ending
-IsCommandRun e (Rank stations query workers guess certificate files) ending =
-    RunsNamed e files (λ paths. RunsRanking e (record {
-      stations = stations;
-      files = paths;
-      query = query;
-      workers = workers;
-      guess = guess;
-    }) files (option_map string_bytes certificate)) ending
-IsCommandRun e (Merge query certificate parts) ending =
-    RunsMerge e (string_bytes query) parts.items (option_map string_bytes certificate) ending
-IsCommandRun e (Check stations query report certificate part files) ending =
-    RunsNamed e files (λ paths end. PutsNothing e.puts × RunsJudging e.bytes_of e.opens e.line e.streams (record {
-      stations = stations;
-      files = paths;
-      query = query;
-      papers = record { report = report; certificate = certificate };
-      part = part;
-    }) files end) ending
-IsCommandRun e (Describe stations files) ending =
-    RunsNamed e files (λ paths end. PutsNothing e.puts × RunsDescribing e.bytes_of e.opens e.line e.streams (record {
-      stations = stations;
-      files = paths;
-    }) files end) ending
+IsCommandRun e (Rank asked) ending = IsRankingRun e asked ending
+IsCommandRun e (Merge asked) ending = IsMergingRun e asked ending
+IsCommandRun e (Check asked) ending =
+    PutsNothing e.puts × IsJudgingRun e.bytes_of e.opens e.names_of e.line e.streams asked ending
+IsCommandRun e (Describe asked) ending =
+    PutsNothing e.puts × IsDescribingRun e.bytes_of e.opens e.names_of e.line e.streams asked ending

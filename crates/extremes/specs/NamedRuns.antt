@@ -1,18 +1,18 @@
 -- How a run goes on with the daily files that its command names.
-use Rattle.std.specs.Prelude.{◌≡◌, ◌⊎◌, ℕ, List, [], ◌∷◌, map, Option, option_map, Vec, String, string_bytes}
+use Rattle.std.specs.Prelude.{◌≡◌, ℕ, List, [], ◌∷◌, map, Option, option_map, Vec, String, string_bytes}
 use Rattle.std.specs.Global.{Global}
 use Rattle.command_line.specs.declared.asked.NamedFiles.{NamedFiles}
 use Rattle.rank_input.specs.declared.named.NotNamed.{NotNamed}
 use Rattle.rank_input.specs.declared.named.NotNamed.TheVariants.{Unreadable, Empty, NotText, Memory}
+use Rattle.rank_input.specs.declared.fault.Fault.{Fault}
 use Rattle.rank_input.specs.Feeding.{Opening}
 use Rattle.rank_input.specs.Named.{StandFor}
 use Rattle.rank_input.specs.NamingStops.{StopsNaming}
 use Rattle.extremes.specs.declared.ending.Ending.{Ending}
 use Rattle.extremes.specs.declared.ending.Ending.TheVariants.{File, Refused}
-use Rattle.extremes.specs.Environments.{Environment, Folders}
+use Rattle.extremes.specs.Environments.{Folders}
 use Rattle.extremes.specs.Merges.{Known}
-use Rattle.extremes.specs.Messages.{naming_line}
-use Rattle.extremes.specs.Targets.{PutsNothing}
+use Rattle.extremes.specs.Messages.{Line, Streams, naming_line}
 
 -- the paths of daily files
 abbrev pub Paths : Type 0
@@ -43,23 +43,18 @@ naming_ending (Empty at) = File
 naming_ending (NotText at) = File
 naming_ending Memory = Refused
 
--- the files of a command can't be named, nothing is printed but a line on standard error that says why, and nothing is
--- written
-pub record EndsUnnamed (e : Environment) (files : NamedFiles) (ending : Ending) : Type 0 where
+-- the files of a command can't be named, and nothing is printed but a line on standard error that says why
+pub record EndsUnnamed (bytes_of : Known) (opens : Opening) (names_of : Folders) (line : Fault → Line) (s : Streams)
+    (files : NamedFiles) (ending : Ending) : Type 0 where
   pub why : NotNamed
-  pub stops : StopsNamed e.bytes_of e.opens e.names_of files why
+  pub stops : StopsNamed bytes_of opens names_of files why
   pub ends : ending ≡ naming_ending why
-  pub unprinted : e.streams.after ≡ e.streams.before
-  pub said : e.streams.says (naming_line e.line why ∷ [])
-  pub unput : PutsNothing e.puts
+  pub unprinted : s.after ≡ s.before
+  pub said : s.says (naming_line line why ∷ [])
 
 -- the files of a command are named, and it runs over them
-pub record RunsOver (e : Environment) (files : NamedFiles) (runs : Paths → Ending → Type 0) (ending : Ending)
-    : Type 0 where
+pub record RunsOver (bytes_of : Known) (opens : Opening) (names_of : Folders) (files : NamedFiles)
+    (runs : Paths → Ending → Type 0) (ending : Ending) : Type 0 where
   pub paths : Paths
-  pub stand : StandForNamed e.bytes_of e.opens e.names_of files paths
+  pub stand : StandForNamed bytes_of opens names_of files paths
   pub ran : runs paths ending
-
--- first its files are named: if they can't be, that is the end of the run
-abbrev pub RunsNamed : Environment → NamedFiles → (Paths → Ending → Type 0) → Ending → Type 0
-RunsNamed e files runs ending = EndsUnnamed e files ending ⊎ RunsOver e files runs ending

@@ -1,6 +1,7 @@
 //! The k best records of GHCN-Daily files: a program over a library of its own.
 #![tactic(auto)]
 
+mod commands;
 mod delivery;
 mod describe;
 mod ending;

@@ -1,7 +1,10 @@
 //! What the arguments of a command line ask for, and the statuses.
 
 use super::*;
-use command_line::{Command, CommandFault, NamedFiles, command};
+use command_line::{
+    CheckArguments, Command, CommandFault, DescribeArguments, MergeArguments, NamedFiles,
+    RankArguments, command,
+};
 use std::alloc::{AllocError, Global};
 use std::test::Fail;
 
@@ -42,19 +45,17 @@ fn commands_of_words(rt: HostRuntime) -> Result<(), Fail> {
             "b",
         ],
     )?;
-    let Ok(
-        Command::Rank {
-            stations,
-            query,
-            workers,
-            guess,
-            certificate,
-            files,
-        },
-    ) = command(rt.alloc(), rank)
-    else {
+    let Ok(Command::Rank(asked)) = command(rt.alloc(), rank) else {
         return Err(Fail::from("no command to rank"));
     };
+    let RankArguments {
+        stations,
+        query,
+        workers,
+        guess,
+        certificate,
+        files,
+    } = asked;
     assert_eq!(rt; stations.as_str(), "s");
     assert_eq!(rt; query.as_str(), "q");
     assert_eq!(rt; workers, 64);
@@ -76,16 +77,14 @@ fn commands_to_merge(rt: HostRuntime) -> Result<(), Fail> {
         "s",
         "d",
     ];
-    let Ok(
-        Command::Merge {
-            query,
-            certificate,
-            parts,
-        },
-    ) = command(rt.alloc(), words_of(rt.alloc(), &merge)?)
-    else {
+    let Ok(Command::Merge(asked)) = command(rt.alloc(), words_of(rt.alloc(), &merge)?) else {
         return Err(Fail::from("no command to merge"));
     };
+    let MergeArguments {
+        query,
+        certificate,
+        parts,
+    } = asked;
     assert_eq!(rt; query.as_str(), "q");
     assert_eq!(rt; certificate.as_ref().map(|path| path.as_str()), Some("o"));
     assert_eq!(rt; parts.len(), 2);
@@ -94,16 +93,10 @@ fn commands_to_merge(rt: HostRuntime) -> Result<(), Fail> {
         assert_eq!(rt; part.certificate.as_str(), certificate);
     }
     let none = words_of(rt.alloc(), &["merge", "--query=q"])?;
-    let none = command(rt.alloc(), none);
-    assert!(rt;
-        matches!(
-            none,
-            Ok(Command::Merge {
-                certificate: None,
-                ..
-            })
-        )
-    );
+    let Ok(Command::Merge(asked)) = command(rt.alloc(), none) else {
+        return Err(Fail::from("no command to merge nothing"));
+    };
+    assert!(rt; asked.certificate.is_none());
     Ok(())
 }
 
@@ -118,19 +111,17 @@ fn commands_to_check(rt: HostRuntime) -> Result<(), Fail> {
         "a",
         "b",
     ];
-    let Ok(
-        Command::Check {
-            stations,
-            query,
-            report,
-            certificate,
-            part,
-            files,
-        },
-    ) = command(rt.alloc(), words_of(rt.alloc(), &check)?)
-    else {
+    let Ok(Command::Check(asked)) = command(rt.alloc(), words_of(rt.alloc(), &check)?) else {
         return Err(Fail::from("no command to check"));
     };
+    let CheckArguments {
+        stations,
+        query,
+        report,
+        certificate,
+        part,
+        files,
+    } = asked;
     let texts = [&stations, &query, &report, &certificate];
     for (text, expected) in texts.iter().zip(["s", "q", "r", "c"]) {
         assert_eq!(rt; text.as_str(), expected);
@@ -150,22 +141,20 @@ fn commands_to_check_a_part(rt: HostRuntime) -> Result<(), Fail> {
         "--report=r",
         "--certificate=c",
     ];
-    let of_part = words_of(rt.alloc(), &of_part)?;
-    assert!(rt;
-        matches!(
-            command(rt.alloc(), of_part),
-            Ok(Command::Check { part: true, .. })
-        )
-    );
+    let Ok(Command::Check(asked)) = command(rt.alloc(), words_of(rt.alloc(), &of_part)?) else {
+        return Err(Fail::from("no command to check a part"));
+    };
+    assert!(rt; asked.part);
     Ok(())
 }
 
 #[test]
 fn commands_to_describe(rt: HostRuntime) -> Result<(), Fail> {
     let describe = words_of(rt.alloc(), &["describe", "a", "--stations=s", "b"])?;
-    let Ok(Command::Describe { stations, files }) = command(rt.alloc(), describe) else {
+    let Ok(Command::Describe(asked)) = command(rt.alloc(), describe) else {
         return Err(Fail::from("no command to describe"));
     };
+    let DescribeArguments { stations, files } = asked;
     assert_eq!(rt; stations.as_str(), "s");
     assert!(rt; are_words(files.paths.as_slice(), &["a", "b"]));
     Ok(())
@@ -174,32 +163,11 @@ fn commands_to_describe(rt: HostRuntime) -> Result<(), Fail> {
 /// The daily files that a command names.
 fn files_of(command: Command) -> Option<NamedFiles> {
     match command {
-        Command::Rank {
-            stations: _stations,
-            query: _query,
-            workers: _workers,
-            guess: _guess,
-            certificate: _certificate,
-            files,
-        } => Some(files),
-        Command::Check {
-            stations: _stations,
-            query: _query,
-            report: _report,
-            certificate: _certificate,
-            part: _part,
-            files,
-        } => Some(files),
-        Command::Describe {
-            stations: _stations,
-            files,
-        } => Some(files),
+        Command::Rank(asked) => Some(asked.files),
+        Command::Check(asked) => Some(asked.files),
+        Command::Describe(asked) => Some(asked.files),
         Command::Sample => None,
-        Command::Merge {
-            query: _query,
-            certificate: _certificate,
-            parts: _parts,
-        } => None,
+        Command::Merge(_) => None,
     }
 }
 

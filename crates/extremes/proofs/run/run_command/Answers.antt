@@ -2,14 +2,13 @@ use Rattle.std.proofs.Common.{◌≡◌, [], refl, sym, subst}
 use Rattle.std.specs.Prelude.{None, Result}
 use Rattle.rank_input.specs.declared.fault.Fault.{Fault}
 use Rattle.command_line.specs.declared.asked.Command.{Command}
-use Rattle.command_line.specs.declared.asked.Command.TheVariants.{Sample, Rank, Check, Describe}
+use Rattle.command_line.specs.declared.asked.Command.TheVariants.{Sample, Rank, Merge, Check, Describe}
 use Rattle.extremes.specs.declared.papers.Papers.{Papers}
 use Rattle.extremes.specs.declared.ending.Ending.{Ending}
 use Rattle.extremes.specs.Printed.{IsPrinted}
 use Rattle.extremes.specs.Commands.{IsCommandRun, IsSampleRanked}
 use Rattle.extremes.specs.Environments.{Environment}
 use Rattle.extremes.specs.Messages.{only_line}
-use Rattle.extremes.proofs.NamedFiles.{ends-unnamed, runs-over}
 use Rattle.extremes.proofs.run.run_command.Goals as goal
 
 -- a run of the same command is one of it
@@ -28,31 +27,19 @@ pub returns-in-Sample : goal.returns-in-Sample
 returns-in-Sample g c =
     sample-run _ _ _ c.rank_sample.result c.in-Sample.is c.rank_sample.ensures c.print_answer.ensures
 
--- the files are named, and ranked
-pub returns-in-Ok : goal.returns-in-Ok
-returns-in-Ok g c =
-    as-asked _ _ (Rank c.in-Rank.stations c.in-Rank.query c.in-Rank.workers c.in-Rank.guess c.in-Rank.certificate
-    c.in-Rank.named) _ c.in-Rank.is
-    (runs-over _ _ _ _ c.in-Ok.files c.in-Ok.ensures.stand c.run_ranking.ensures)
+-- files are ranked
+pub returns-in-Rank : goal.returns-in-Rank
+returns-in-Rank g c = as-asked _ _ (Rank c.in-Rank.asked) _ c.in-Rank.is c.run_ranking.ensures
 
--- or they can't be named
-pub returns-in-Err : goal.returns-in-Err
-returns-in-Err g c =
-    as-asked _ _ (Rank c.in-Rank.stations c.in-Rank.query c.in-Rank.workers c.in-Rank.guess c.in-Rank.certificate
-    c.in-Rank.named) _ c.in-Rank.is
-    (ends-unnamed _ _ _ _ c.in-Err.why c.in-Err.ensures.stopped c.not_named.ensures.ending refl
-    c.not_named.ensures.line refl)
+-- or the reports and certificates of parts are merged
+pub returns-in-Merge : goal.returns-in-Merge
+returns-in-Merge g c = as-asked _ _ (Merge c.in-Merge.asked) _ c.in-Merge.is c.run_merging.ensures
 
--- the files are named, and the report and the certificate are checked against them
-pub returns-in-Ok-daily_files : goal.returns-in-Ok-daily_files
-returns-in-Ok-daily_files g c =
-    as-asked _ _ (Check c.in-Check.stations c.in-Check.query c.in-Check.report c.in-Check.certificate c.in-Check.part
-    c.in-Check.named) _ c.in-Check.is
-    (runs-over _ _ _ _ c.in-Ok-daily_files.files c.in-Ok-daily_files.ensures.stand (refl, c.run_judging.ensures))
+-- or a report and a certificate are checked
+pub returns-in-Check : goal.returns-in-Check
+returns-in-Check g c = as-asked _ _ (Check c.in-Check.asked) _ c.in-Check.is (refl, c.run_judging.ensures)
 
--- or they are described
-pub returns-in-Ok-daily_files-2 : goal.returns-in-Ok-daily_files-2
-returns-in-Ok-daily_files-2 g c =
-    as-asked _ _ (Describe c.in-Describe.stations c.in-Describe.named) _ c.in-Describe.is
-    (runs-over _ _ _ _ c.in-Ok-daily_files-2.files c.in-Ok-daily_files-2.ensures.stand
-    (refl, c.run_describing.ensures))
+-- or files are described
+pub returns-in-Describe : goal.returns-in-Describe
+returns-in-Describe g c =
+    as-asked _ _ (Describe c.in-Describe.asked) _ c.in-Describe.is (refl, c.run_describing.ensures)

@@ -1,7 +1,7 @@
 use Rattle.std.proofs.Common.{◌∙◌, inl, inr, refl}
 use Rattle.extremes.specs.Messages.{ArePrintedLines, streams}
 use Rattle.extremes.proofs.PrintedLines.{shown_of}
-use Rattle.extremes.proofs.run.run_describing.Goals as goal
+use Rattle.extremes.proofs.commands.describe_named.Goals as goal
 
 -- the description is printed
 pub returns-in-Ok : goal.returns-in-Ok

@@ -1,7 +1,7 @@
 use Rattle.std.proofs.Common.{◌∙◌, inl, inr, refl}
 use Rattle.extremes.specs.Messages.{ArePrintedLines, streams}
 use Rattle.extremes.proofs.PrintedLines.{told_of}
-use Rattle.extremes.proofs.run.run_judging.Goals as goal
+use Rattle.extremes.proofs.commands.judge_named.Goals as goal
 
 -- the judgement is printed
 pub returns-in-Ok : goal.returns-in-Ok

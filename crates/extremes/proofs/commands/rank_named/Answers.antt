@@ -4,8 +4,8 @@ use Rattle.extremes.specs.Messages.{ArePrintedLines, streams}
 use Rattle.extremes.specs.NamedRuns.{list_of}
 use Rattle.extremes.proofs.Comparing.{ends-at-out, none-unused, some-unused, used-as}
 use Rattle.extremes.proofs.PrintedLines.{printed-as}
-use Rattle.extremes.proofs.run.run_ranking.Goals.{in-Some+else-is_in_use, in_default}
-use Rattle.extremes.proofs.run.run_ranking.Goals as goal
+use Rattle.extremes.proofs.commands.rank_named.Goals.{in-Some+else-is_in_use, in_default}
+use Rattle.extremes.proofs.commands.rank_named.Goals as goal
 
 -- the certificate's file is in use
 pub returns-then-is_in_use : goal.returns-then-is_in_use

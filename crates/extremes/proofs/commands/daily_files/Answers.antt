@@ -1,5 +1,5 @@
 use Rattle.extremes.proofs.NamedFiles.{stand-named, stops-named}
-use Rattle.extremes.proofs.run.daily_files.Goals as goal
+use Rattle.extremes.proofs.commands.daily_files.Goals as goal
 
 -- the files are those that are named
 pub returns-clause-stand : goal.returns-clause-stand

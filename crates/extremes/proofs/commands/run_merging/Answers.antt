@@ -3,7 +3,7 @@ use Rattle.extremes.specs.Commands.{merge_uses}
 use Rattle.extremes.specs.Messages.{ArePrintedLines}
 use Rattle.extremes.specs.Targets.{IsPaperOrOutput}
 use Rattle.extremes.proofs.Comparing.{ends-at-out}
-use Rattle.extremes.proofs.run.run_merge.Goals as goal
+use Rattle.extremes.proofs.commands.run_merging.Goals as goal
 
 -- the certificate's file is in use
 pub returns-then-is_paper_or_output : goal.returns-then-is_paper_or_output
