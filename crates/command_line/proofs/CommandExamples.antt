@@ -257,3 +257,30 @@ null_alone_read = refl
 null_without_list : IfSome (subcommand_of extremes_app null_alone) (λ met. FitTogether met.0 met.1) → ⊥
 unfolding clap_on_literals
 null_without_list fit = let bad : false ≡ true = fit.1 (λ same. absurd cc) refl in absurd cc
+
+-- a command line that asks for progress
+abbrev with_progress : List Text
+with_progress = codes "extremes" ∷ codes "describe" ∷ codes "--stations=s" ∷ codes "--progress" ∷ codes "a" ∷ []
+
+-- `clap` has no error to report
+progress_right : fault_of extremes_app with_progress ≡ []
+unfolding clap_on_literals
+progress_right = refl
+
+-- it asks for it
+progress_asked : option_map (λ p. one_of (codes "progress") p.1) (subcommand_of extremes_app with_progress)
+    ≡ Some (Some (codes "true"))
+unfolding clap_on_literals
+progress_asked = refl
+
+-- the command line without it doesn't
+no_progress : option_map (λ p. one_of (codes "progress") p.1) (subcommand_of extremes_app null_alone)
+    ≡ Some (Some (codes "false"))
+unfolding clap_on_literals
+no_progress = refl
+
+-- `merge` reads no daily files, so it has no progress
+merge_progress : fault_of extremes_app (codes "extremes" ∷ codes "merge" ∷ codes "--query=q" ∷ codes "--progress" ∷ [])
+    ≡ UnknownArgument ∷ []
+unfolding clap_on_literals
+merge_progress = refl

@@ -62,11 +62,12 @@ many_of name = record (new_rule name) {
   action = Some Append;
 }
 
--- a subcommand that daily files are given: a list of more, `--null` or `-0`, and then the files
+-- a subcommand that daily files are given: a list of more, `--null` or `-0`, `--progress`, and then the files
 abbrev pub and_files : App → App
-and_files app = with_rule (with_rule (with_rule app
+and_files app = with_rule (with_rule (with_rule (with_rule app
     (option_of (codes "files-from")))
-    (short_by 48 (flag_of (codes "null")))) (many_of (codes "files"))
+    (short_by 48 (flag_of (codes "null"))))
+    (flag_of (codes "progress"))) (many_of (codes "files"))
 
 -- `rank` with its options and files
 abbrev pub rank_app : App
@@ -157,12 +158,13 @@ abbrev pub IsFlag : Option Text → Bool → Type 0
 IsFlag text on = (on ≡ true) ↔ (text ≡ Some (codes "true"))
 
 -- the files and the list of more are those that a subcommand's matches have, and so is whether the names of the list
--- end by NUL
+-- end by NUL, and whether progress is shown
 pub record AreFiles (rows : List Row) (files : NamedFiles) : Type 0 where
   pub paths : map (λ s. string_bytes s) files.paths.items ≡ unwrap_or (all_of (codes "files") rows) []
   pub list : option_map (λ s. string_bytes s) files.list ≡ first_of (codes "files-from") rows
   pub null : IsFlag (one_of (codes "null") rows) files.null
   pub listed : files.null ≡ true → IsSome files.list
+  pub progress : IsFlag (one_of (codes "progress") rows) files.progress
 
 -- the command has the options and files of a subcommand's matches
 abbrev pub IsRank : List Row → Command → Type 0

@@ -65,6 +65,8 @@ pub struct NamedFiles {
     pub list: Option<String>,
     /// Whether the names of the list end by NUL, and not by the end of a line.
     pub null: bool,
+    /// Whether a terminal shows how much of these files was read.
+    pub progress: bool,
 }
 
 /// The report and the certificate of a part, named by their paths.

@@ -42,6 +42,9 @@ pub const LIST_HELP: &str =
 pub const NULL_HELP: &str =
     "Each name of LIST ends with a NUL instead of a line end, as find -print0 prints them";
 
+/// The help of `--progress`.
+pub const PROGRESS_HELP: &str = "Shows how much was read, if standard error is a terminal";
+
 /// The help of the daily files.
 pub const FILES_HELP: &str =
     "Daily files, .dly, uncompressed, or folders. A folder stands for its .dly files, but not for

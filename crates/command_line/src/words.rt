@@ -19,7 +19,8 @@ use crate::asked::{
 use crate::help::{
     CERTIFICATE_HELP, CHECK_HELP, DESCRIBE_HELP, FILES_HELP, GUESS_HELP, HELP, LIST_HELP,
     MERGE_HELP, MERGE_USAGE, MERGED_CERTIFICATE_HELP, NULL_HELP, NULL_WITHOUT_LIST, ODD_PAPERS,
-    PAPERS_HELP, PART_HELP, QUERY_HELP, RANK_HELP, STATIONS_HELP, USAGE, VERSION, WORKERS_HELP,
+    PAPERS_HELP, PART_HELP, PROGRESS_HELP, QUERY_HELP, RANK_HELP, STATIONS_HELP, USAGE, VERSION,
+    WORKERS_HELP,
 };
 use clap::error::ErrorKind;
 use clap::{Arg, ArgAction, ArgMatches, Error, value_parser};
@@ -206,6 +207,7 @@ fn with_files<'a>(
     command
         .arg(option(alloc, "files-from", "LIST", LIST_HELP))?
         .arg(flag(alloc, "null", NULL_HELP).short('0'))?
+        .arg(flag(alloc, "progress", PROGRESS_HELP))?
         .arg(many(alloc, "files", "FILE", FILES_HELP))
 }
 
@@ -331,6 +333,7 @@ fn files_of(alloc: Global, matches: &ArgMatches) -> Result<NamedFiles, CommandFa
         paths: copies(alloc, matches.get_strs("files").unwrap_or(&[]))?,
         list: copy(alloc, list)?,
         null,
+        progress: is_given(matches, "progress"),
     })
 }
 

@@ -25,4 +25,5 @@ returns-clause-ok c = let f = found_of c.args.matches.now in record {
         (w.is_none.ensures ∙ ap not w.if-is_none.false)
     | else-null-via-else-null w ↦ absurd (true≢false (sym given ∙ w.if-null.false))
   ];
+  progress = c.is_given.ensures;
 }

@@ -16,9 +16,11 @@ returns c =
     ∙ ap (with_rule (app_of c.args.command)) c.option.ensures.rule) null_is in
     let without = c.in_ok-arg-2.ensures.globals ∙ ap₂ either (c.in_ok-arg.ensures.globals
     ∙ ap₂ either c.requires c.option.ensures.local) null_local in
+    let shown = c.in_ok-arg-3.ensures.shape c.flag-2.ensures.local ∙ ap₂ with_rule options c.flag-2.ensures.rule in
+    let shown_local = c.in_ok-arg-3.ensures.globals ∙ ap₂ either without c.flag-2.ensures.local in
     record {
-      app = IfOk-weaker c.arg-3.result _ _
-          (λ r h. h.shape c.many.ensures.local ∙ ap₂ with_rule options c.many.ensures.rule) c.arg-3.ensures;
-      local = IfOk-weaker c.arg-3.result _ _
-          (λ r h. h.globals ∙ ap₂ either without c.many.ensures.local) c.arg-3.ensures;
+      app = IfOk-weaker c.arg-4.result _ _
+          (λ r h. h.shape c.many.ensures.local ∙ ap₂ with_rule shown c.many.ensures.rule) c.arg-4.ensures;
+      local = IfOk-weaker c.arg-4.result _ _
+          (λ r h. h.globals ∙ ap₂ either shown_local c.many.ensures.local) c.arg-4.ensures;
     }
