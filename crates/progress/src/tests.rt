@@ -131,7 +131,7 @@ fn given(alloc: Global, shows: bool, step: u64, paths: &[&str]) -> Result<String
     for path in paths {
         names.push(String::from_str(alloc, path)?)?;
     }
-    let watch = Watch::new(&terminal, shows, &archive, &names);
+    let watch = Watch::new(&terminal, shows, &archive, &[], &names);
     let watched = Watched {
         archive: &archive,
         watch: &watch,
@@ -214,7 +214,7 @@ fn is_sent<T: Send + Drop>(_sent: T) {}
 #[test]
 fn a_watched_archive_is_shared(rt: HostRuntime) -> Result<(), Fail> {
     let archive = Twos { bytes: &TWO };
-    let watch = Watch::new(&rt, false, &archive, &[]);
+    let watch = Watch::new(&rt, false, &archive, &["s"], &[]);
     let watched = Watched {
         archive: &archive,
         watch: &watch,

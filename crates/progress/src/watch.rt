@@ -30,17 +30,24 @@ pub struct Watch<'r, R> {
 }
 
 impl<'r, R: Clock + Eprint> Watch<'r, R> {
-    /// Watches the files of these paths. If nothing is to be shown, they aren't looked at.
-    pub fn new<A: Archive>(rt: &'r R, shows: bool, archive: &A, paths: &[String]) -> Self {
+    /// Watches what a run reads first, and then its daily files, all of these paths. If nothing is to be shown, they
+    /// aren't looked at.
+    pub fn new<A: Archive>(
+        rt: &'r R,
+        shows: bool,
+        archive: &A,
+        first: &[&str],
+        files: &[String],
+    ) -> Self {
         let due = if shows { due_after(rt, FIRST) } else { None };
         let bytes = if due.is_some() {
-            bytes_of(archive, paths)
+            bytes_of(archive, first, files)
         } else {
             None
         };
         Watch {
             rt,
-            files: paths.len() as u64,
+            files: (first.len() as u64).saturating_add(files.len() as u64),
             bytes: bytes.unwrap_or(0),
             opened: AtomicU64::new(0),
             read: AtomicU64::new(0),
@@ -114,13 +121,21 @@ fn milliseconds<R: Clock>(rt: &R) -> Option<u64> {
 }
 
 /// How many bytes the files of these paths have, if each has a length.
-fn bytes_of<A: Archive>(archive: &A, paths: &[String]) -> Option<u64> {
+fn bytes_of<A: Archive>(archive: &A, first: &[&str], files: &[String]) -> Option<u64> {
     let mut bytes = 0u64;
-    for path in paths {
-        match archive.look(path) {
-            Place::File(length) => bytes = bytes.saturating_add(length),
-            _ => return None,
-        }
+    for path in first {
+        bytes = bytes.saturating_add(length_of(archive, path)?);
+    }
+    for path in files {
+        bytes = bytes.saturating_add(length_of(archive, path)?);
     }
     Some(bytes)
+}
+
+/// How many bytes the file of a path has, if it has a length.
+fn length_of<A: Archive>(archive: &A, path: &str) -> Option<u64> {
+    match archive.look(path) {
+        Place::File(length) => Some(length),
+        _ => None,
+    }
 }
