@@ -1,5 +1,5 @@
 -- Columns of a line, as they are shown.
-use Rattle.std.specs.Prelude.{ℕ, ◌+◌, ◌-◌, List, ◌++◌, codes, take, drop}
+use Rattle.std.specs.Prelude.{ℕ, ◌+◌, ◌-◌, ◌==◌, if◌then◌else◌, List, ◌++◌, codes, take, drop}
 use Rattle.std.specs.Fmt.{decimal}
 use Rattle.explanations.specs.Shown.{shown}
 
@@ -16,6 +16,10 @@ columns_text first last bytes =
 abbrev pub columns_in : List ℕ → ℕ → ℕ → List ℕ
 columns_in line first last = columns_text first last (columns_of line first last)
 
+-- what so many columns are called
+abbrev pub column_word : ℕ → List ℕ
+column_word count = if count == 1 then codes "column" else codes "columns"
+
 -- how many columns there are
 abbrev pub count_text : ℕ → List ℕ
-count_text count = decimal count ++ codes " columns"
+count_text count = decimal count ++ codes " " ++ column_word count

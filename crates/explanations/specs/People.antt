@@ -1,10 +1,11 @@
 -- The words for people that a run gathers.
 use Rattle.std.specs.Prelude.{◌≡◌, ◌⊎◌, ℕ, Bool, true, ◌==◌, ◌<◌, if◌then◌else◌, List, ◌++◌, length, codes, Option, Some}
-use Rattle.std.specs.Prelude.{IfSome, None, string_bytes}
+use Rattle.std.specs.Prelude.{IfSome, None, bytes_eq, string_bytes}
 use Rattle.ghcn_series.specs.declared.counts.Warnings.{Warnings}
 use Rattle.rank_input.specs.declared.fault.Fault.{Fault}
 use Rattle.rank_input.specs.declared.named.NotNamed.{NotNamed}
 use Rattle.rank_input.specs.declared.named.NotNamed.TheVariants as naming
+use Rattle.rank_input.specs.Named.{list_path}
 use Rattle.explanations.specs.declared.explanation.Explanation.{Explanation}
 use Rattle.explanations.specs.declared.input.Given.{Given}
 use Rattle.explanations.specs.declared.people.ForPeople.{ForPeople}
@@ -51,13 +52,23 @@ AddsInput fault given old new = (new ≡ old) ⊎ AddsOne (IsAboutInput fault gi
 abbrev pub file_text : List ℕ → List ℕ → List ℕ
 file_text path says = shown_text path ++ codes ": " ++ says
 
--- why daily files can't be named, if it isn't for the system's reason
-abbrev pub naming_text : NotNamed → Option (List ℕ)
-naming_text (naming.Unreadable at) = None
-naming_text (naming.Empty at) =
-    Some (file_text (string_bytes at) (codes "a folder without .dly files, or a list without names"))
-naming_text (naming.NotText at) = Some (file_text (string_bytes at) (codes "a name in it isn't UTF-8 text"))
-naming_text naming.Memory = Some (codes "out of memory: the system gave no more")
+-- nothing is added, or a line of a file and the system's reason why it can't be read
+abbrev pub AddsReason : List ℕ → ForPeople → ForPeople → Type 0
+AddsReason path old new = (new ≡ old) ⊎ ((reason : List ℕ) × Adds old new (Some (file_text path reason)))
+
+-- the path that is read for a name: if it is that of the list, a list `-` is standard input
+abbrev pub path_read : List ℕ → Option (List ℕ) → List ℕ
+path_read name None = name
+path_read name (Some list) = if bytes_eq list name then list_path name else name
+
+-- why daily files can't be named: for the system's reason, or for another
+abbrev pub AddsNaming : NotNamed → Option (List ℕ) → ForPeople → ForPeople → Type 0
+AddsNaming (naming.Unreadable at) list old new = AddsReason (path_read (string_bytes at) list) old new
+AddsNaming (naming.Empty at) list old new =
+    Adds old new (Some (file_text (string_bytes at) (codes "a folder without .dly files, or a list without names")))
+AddsNaming (naming.NotText at) list old new =
+    Adds old new (Some (file_text (string_bytes at) (codes "a name in it isn't UTF-8 text")))
+AddsNaming naming.Memory list old new = Adds old new (Some (codes "out of memory: the system gave no more"))
 
 -- a line is added if there is something that it is about
 abbrev pub AddsIfAny : ℕ → List ℕ → ForPeople → ForPeople → Type 0

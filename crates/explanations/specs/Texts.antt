@@ -1,5 +1,5 @@
 -- What is said to people, without the line feed at its end.
-use Rattle.std.specs.Prelude.{◌≡◌, ℕ, List, ◌++◌, codes, Option, Some, None}
+use Rattle.std.specs.Prelude.{◌≡◌, ℕ, List, ◌++◌, codes, Option, Some}
 use Rattle.std.specs.Fmt.{decimal}
 use Rattle.explanations.specs.declared.explanation.Explanation.{Explanation}
 use Rattle.explanations.specs.declared.explanation.Explanation.TheVariants.{Line, At, Of, NoAccess, Station, Word, End, Plain}
@@ -23,12 +23,12 @@ place_text path line = shown_text path ++ codes ":" ++ decimal line ++ codes ": 
 abbrev pub line_text : List ℕ → ℕ → List ℕ → List ℕ → List ℕ
 line_text path number found wanted = place_text path number ++ found ++ codes "; " ++ wanted
 
--- what is said, if it is known: not so the reason that the system has
+-- what is said
 abbrev pub explanation_text : Explanation → Option (List ℕ)
 explanation_text (Line path line found wanted) = Some (line_text path.now line (found_text found) wanted.now)
 explanation_text (At path line says) = Some (place_text path.now line ++ says.now)
 explanation_text (Of name says) = Some (shown_text name.now ++ codes ": " ++ says.now)
-explanation_text (NoAccess path reason) = None
+explanation_text (NoAccess path reason) = Some (shown_text path.now ++ codes ": " ++ reason.now)
 explanation_text (Station id says) = Some (shown id.0 ++ codes ": " ++ says.now)
 explanation_text (Word word) = Some (wrong_word_text word)
 explanation_text (End more) = Some (more_words_text more)

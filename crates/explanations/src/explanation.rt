@@ -1,13 +1,13 @@
 //! What is said to people: one line.
 
 ghost use Rattle.std.specs.Prelude.{◌≡◌, ◌≤◌};
-ghost use Rattle.explanations.specs.Columns.{columns_in};
+ghost use Rattle.explanations.specs.Columns.{column_word, columns_in};
 ghost use Rattle.explanations.specs.Texts.{found_text};
 
 use crate::query::{MoreWords, WrongWord};
 use crate::shown::{Shown, ShownText};
 use ghcn_files::StationId;
-use std::{fmt, io};
+use std::fmt;
 
 /// What is said to people about an error or a warning: one line, without its line feed.
 #[derive(Clone, Copy)]
@@ -33,7 +33,7 @@ pub enum Explanation<'a> {
     /// A file that the system doesn't open or read, for its reason.
     NoAccess {
         path: &'a str,
-        reason: &'a io::Error,
+        reason: &'a str,
     },
     /// A station, and what is wrong with it.
     Station {
@@ -98,12 +98,19 @@ impl<'a> fmt::Display for Found<'a> {
     fn fmt<W: fmt::Write>(&self, f: &mut fmt::Formatter<W>) -> fmt::Result {
         match self {
             Found::Kind(kind) => f.write_str(kind),
-            Found::Columns(count) => write!(f, "{count} columns"),
+            Found::Columns(count) => write!(f, "{count} {}", column_word(*count)),
             Found::At { first, last, bytes } => {
                 write!(f, "columns {first} to {last}: '{}'", Shown(bytes))
             }
         }
     }
+}
+
+/// What so many columns are called.
+fn column_word(count: u64) -> &'static str
+    ensures { result.now ≡ column_word count }
+{
+    if count == 1 { "column" } else { "columns" }
 }
 
 /// The columns of a line from the first to the last, counted from 1, as far as the line has them.

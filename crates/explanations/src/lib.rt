@@ -21,3 +21,4 @@ pub use explanation::{Explanation, Found};
 pub use input::Given;
 pub use people::ForPeople;
 pub use query::{MoreWords, Wanted, WrongWord};
+pub use shown::ShownText;

@@ -24,5 +24,9 @@ pub const NOT_TEXT: &str = "a name in it isn't UTF-8 text";
 pub const IN_USE: &str =
     "this run reads it or prints to it, or it holds something other than a certificate";
 
+/// What it means that a file isn't written.
+pub const UNWRITTEN: &str =
+    "file not written: the system doesn't open it, or took only a part; is there room, and may you write there?";
+
 /// What out of memory means.
 pub const NO_MEMORY: &str = "out of memory: the system gave no more";

@@ -1,8 +1,8 @@
 //! The words for people that a run gathers, to be printed after its lines.
 
-ghost use Rattle.std.specs.Prelude.{◌≡◌, ◌++◌, [], codes, IfOk, IfSome, Some, string_bytes};
-ghost use Rattle.explanations.specs.People.{Adds, AddsInput, AddsOne, AddsIfAny, AddsMeanings, are_read, file_text};
-ghost use Rattle.explanations.specs.People.{joined, lines_of, naming_text};
+ghost use Rattle.std.specs.Prelude.{◌≡◌, ◌++◌, [], codes, IfOk, IfSome, Some, option_map, string_bytes};
+ghost use Rattle.explanations.specs.People.{Adds, AddsInput, AddsNaming, AddsOne, AddsIfAny, AddsMeanings, AddsReason};
+ghost use Rattle.explanations.specs.People.{are_read, file_text, joined, lines_of, path_read};
 ghost use Rattle.explanations.specs.Inputs.{IsOfQuery};
 ghost use Rattle.explanations.specs.Merges.{merge_text};
 ghost use Rattle.explanations.specs.Texts.{explanation_text};
@@ -11,10 +11,12 @@ use crate::again::{line_with_error, looks_compressed, read_again};
 use crate::explanation::Explanation;
 use crate::input::{Given, of_input, of_query};
 use crate::merge::of_merge;
-use crate::notice::{COMPRESSED, FOREIGN, IN_USE, NO_MEMORY, NO_NAMES, NOT_TEXT, ODD, UNLISTED};
+use crate::notice::{
+    COMPRESSED, FOREIGN, IN_USE, NO_MEMORY, NO_NAMES, NOT_TEXT, ODD, UNLISTED, UNWRITTEN,
+};
 use command_line::Part;
 use ghcn_series::Warnings;
-use rank_input::{Archive, Fault, NotNamed};
+use rank_input::{Archive, Fault, NotNamed, list_path};
 use rank_merge::MergeFault;
 use rank_query::QueryFault;
 use std::alloc::{AllocError, Global};
@@ -37,6 +39,13 @@ impl ForPeople {
             is_read,
             lines: String::new(alloc),
         }
+    }
+
+    /// Whether people read them.
+    pub fn are_read(&self) -> bool
+        ensures { result ≡ are_read self.now }
+    {
+        self.is_read
     }
 
     /// The lines.
@@ -114,33 +123,31 @@ impl ForPeople {
 
     /// Explains that a file can't be read, by the system's reason if it can't be read again.
     pub fn explain_unread<A: Archive>(&mut self, alloc: Global, archive: &A, path: &str)
-        ensures { are_read self.new ≡ are_read self.old }
+        ensures { AddsReason path.now self.old self.new }
     {
         if !self.is_read {
             return;
         }
-        let mut byte = [0u8];
-        let read = match archive.open(path) {
-            Ok(mut file) => file.read(&mut byte),
-            Err(reason) => Err(reason),
-        };
-        if let Err(reason) = read {
-            self.add(
-                alloc,
-                Explanation::NoAccess {
-                    path,
-                    reason: &reason,
-                },
-            );
+        if let Some(reason) = reason_of(alloc, archive, path) {
+            let reason = reason.as_str();
+            self.add(alloc, Explanation::NoAccess { path, reason });
         }
     }
 
-    /// Explains why the daily files can't be named.
-    pub fn explain_names<A: Archive>(&mut self, alloc: Global, archive: &A, why: &NotNamed)
-        ensures { Adds self.old self.new (naming_text why.now) }
+    /// Explains why the daily files can't be named. The list is named as the arguments name it, if there is one.
+    pub fn explain_names<A: Archive>(
+        &mut self,
+        alloc: Global,
+        archive: &A,
+        why: &NotNamed,
+        list: Option<&str>,
+    )
+        ensures { AddsNaming why.now (option_map (λ l. l.now) list.entry) self.old self.new }
     {
         match why {
-            NotNamed::Unreadable(path) => self.explain_unread(alloc, archive, path.as_str()),
+            NotNamed::Unreadable(path) => {
+                self.explain_unread(alloc, archive, path_read(path.as_str(), list));
+            }
             NotNamed::Empty(path) => self.explain_file(alloc, path.as_str(), NO_NAMES),
             NotNamed::NotText(path) => self.explain_file(alloc, path.as_str(), NOT_TEXT),
             NotNamed::Memory => self.add(alloc, Explanation::Plain(NO_MEMORY)),
@@ -153,6 +160,14 @@ impl ForPeople {
             (codes "this run reads it or prints to it, or it holds something other than a certificate"))) }
     {
         self.explain_file(alloc, path, IN_USE);
+    }
+
+    /// Explains that a file wasn't written whole.
+    pub fn explain_unwritten(&mut self, alloc: Global)
+        ensures { Adds self.old self.new (Some (codes
+            "file not written: the system doesn't open it, or took only a part; is there room, and may you write there?")) }
+    {
+        self.add(alloc, Explanation::Plain(UNWRITTEN));
     }
 
     /// Explains what is wrong with a file.
@@ -178,5 +193,28 @@ impl ForPeople {
         if count > 0 {
             self.add(alloc, Explanation::Plain(says));
         }
+    }
+}
+
+/// The path that is read for a name: a list `-` is standard input.
+fn path_read<'a>(name: &'a str, list: Option<&str>) -> &'a str
+    ensures { result.now ≡ path_read name.now (option_map (λ l. l.now) list.entry) }
+{
+    match list {
+        Some(list) if list == name => list_path(name),
+        _ => name,
+    }
+}
+
+/// The system's reason why a file can't be read, if it can't be read again.
+fn reason_of<A: Archive>(alloc: Global, archive: &A, path: &str) -> Option<String> {
+    let mut byte = [0u8];
+    let read = match archive.open(path) {
+        Ok(mut file) => file.read(&mut byte),
+        Err(reason) => Err(reason),
+    };
+    match read {
+        Ok(_) => None,
+        Err(reason) => format!(in alloc; "{reason}").ok(),
     }
 }

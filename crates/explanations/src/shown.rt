@@ -39,7 +39,7 @@ fn shown_char(byte: u8) -> char
 
 /// A path or a query. If a control character is in it, its bytes are shown as those of a file.
 #[derive(Clone, Copy)]
-pub(crate) struct ShownText<'a>(pub(crate) &'a str);
+pub struct ShownText<'a>(pub &'a str);
 
 impl<'a> fmt::Display for ShownText<'a> {
     ghost use Rattle.std.specs.Prelude.{Some};
