@@ -5,6 +5,7 @@ use Rattle.std.specs.Cmp.Lexicographic.{pointwise}
 use Rattle.std.specs.List.{FoldsTo, slice_get}
 use Rattle.std.specs.Option.{option_and_then}
 use Rattle.std.specs.Fmt.{decimal}
+use Rattle.explanations.specs.Shown.{shown_text}
 use Rattle.ghcn_series.specs.declared.counts.Foreign.{Foreign}
 use Rattle.ghcn_series.specs.declared.counts.LinePlace.{LinePlace}
 use Rattle.ghcn_series.specs.declared.counts.OddLines.{OddLines}
@@ -54,11 +55,11 @@ line_naming text (Some path) = Some (text path) ∷ []
 
 -- that this number of files are foreign, and the path of the first
 abbrev pub foreign_text : ℕ → List ℕ → List ℕ
-foreign_text count path = codes "foreign " ++ decimal count ++ codes " " ++ path
+foreign_text count path = codes "foreign " ++ decimal count ++ codes " " ++ shown_text path
 
 -- that this number of lines are odd, and of the first its number and the path of its file
 abbrev pub odd_text : ℕ → ℕ → List ℕ → List ℕ
-odd_text count line path = codes "odd " ++ decimal count ++ codes " " ++ path ++ codes ":" ++ decimal line
+odd_text count line path = codes "odd " ++ decimal count ++ codes " " ++ shown_text path ++ codes ":" ++ decimal line
 
 -- the line on foreign files of these paths, if there are any
 abbrev pub foreign_warning : List (List ℕ) → Foreign → List Line
@@ -85,11 +86,11 @@ unlisted_warning (suc n) = Some (codes "unlisted " ++ decimal (suc n)) ∷ []
 
 -- that the file of a path can't be read
 abbrev pub not_read_line : List ℕ → Line
-not_read_line path = Some (codes "file not read " ++ path)
+not_read_line path = Some (codes "file not read " ++ shown_text path)
 
 -- that it can't be written
 abbrev pub not_written_line : List ℕ → Line
-not_written_line path = Some (codes "file not written " ++ path)
+not_written_line path = Some (codes "file not written " ++ shown_text path)
 
 -- the line of an error, and no other
 abbrev pub only_line : {F : Type 0} → (F → Line) → F → List Line
@@ -102,7 +103,7 @@ numbered_path paths (suc place) = slice_get paths place
 
 -- where a line is: the path of its file, and its number
 abbrev pub place_text : ℕ → List ℕ → List ℕ
-place_text line path = codes "at " ++ path ++ codes ":" ++ decimal line
+place_text line path = codes "at " ++ shown_text path ++ codes ":" ++ decimal line
 
 -- the line on where a daily line is that an error names, if it names one
 abbrev pub place_lines : List (List ℕ) → Fault → List Line

@@ -10,16 +10,17 @@ ghost use Rattle.extremes.specs.NamedRuns.{StandForNamed, StopsNamed, naming_end
 ghost use Rattle.extremes.specs.Targets.{IsPut};
 
 use crate::ending::Ending;
-use crate::explained::{explain_described, explain_judged, explain_merged, explain_ranked};
-use crate::files::{
-    Describing, Judging, Ranking, describe_files, judge_files, merge_files, rank_files,
+use crate::explained::{
+    explain_described, explain_judged, explain_merged, explain_ranked, explain_unwritten,
 };
+use crate::files::{Describing, Judging, Ranking, merge_files};
 use crate::messages::Messages;
 use crate::print::{
     DailyPaths, not_named, not_read, not_written, print_answer, print_description, print_judgement,
     print_ranked,
 };
 use crate::target::{Target, is_in_use, is_paper_or_output};
+use crate::watching::{describe_watched, judge_watched, rank_watched};
 use command_line::{
     CheckArguments, DescribeArguments, MergeArguments, NamedFiles, Part, RankArguments,
 };
@@ -29,11 +30,12 @@ use std::alloc::Global;
 use std::io::Write;
 use std::sync::Wait;
 use std::thread::Threads;
+use std::time::Clock;
 
 /// Names the files that a ranking asks for, ranks them, and prints the report. The certificate goes
 /// to the file of a path, if one is named.
 pub(crate) fn run_ranking<
-    R: Threads + Wait + AllocGlobal + Sync,
+    R: Threads + Wait + AllocGlobal + Clock + Eprint + Sync,
     A: Archive,
     M: Messages,
     T: Target,
@@ -64,7 +66,7 @@ pub(crate) fn run_ranking<
     } = asked;
     let files = match daily_files(rt.alloc(), archive, &named) {
         Ok(files) => files,
-        Err(why) => return unnamed(rt.alloc(), archive, &why, messages, words),
+        Err(why) => return unnamed(rt.alloc(), archive, &why, &named, messages, words),
     };
     let ranking = Ranking {
         stations,
@@ -88,7 +90,13 @@ pub(crate) fn run_ranking<
 
 /// Ranks files that are named, and prints the report. The certificate goes to the file of a path,
 /// if one is named.
-fn rank_named<R: Threads + Wait + AllocGlobal + Sync, A: Archive, M: Messages, T: Target, W: Write>(
+fn rank_named<
+    R: Threads + Wait + AllocGlobal + Clock + Eprint + Sync,
+    A: Archive,
+    M: Messages,
+    T: Target,
+    W: Write,
+>(
     rt: &R,
     archive: &A,
     ranking: &Ranking,
@@ -114,11 +122,14 @@ fn rank_named<R: Threads + Wait + AllocGlobal + Sync, A: Archive, M: Messages, T
             return not_written(messages, path);
         }
     }
-    match rank_files(rt, archive, ranking) {
+    let shows = named.progress && words.are_read();
+    match rank_watched(rt, archive, ranking, shows) {
         Ok(ranked) => {
             explain_ranked(rt.alloc(), archive, ranking, &ranked, words);
             let files = daily_paths(&ranking.files, named);
-            print_ranked(messages, ranked, files, certificate, target, out)
+            let ending = print_ranked(messages, ranked, files, certificate, target, out);
+            explain_unwritten(rt.alloc(), ending, words);
+            ending
         }
         Err(path) => {
             words.explain_unread(rt.alloc(), archive, path);
@@ -155,7 +166,9 @@ pub(crate) fn run_merging<A: Archive, M: Messages, T: Target, W: Write>(
     match merge_files(alloc, archive, &asked.query, &asked.parts) {
         Ok(merged) => {
             explain_merged(alloc, &asked.query, &asked.parts, &merged, words);
-            print_answer(messages, merged, certificate, target, out)
+            let ending = print_answer(messages, merged, certificate, target, out);
+            explain_unwritten(alloc, ending, words);
+            ending
         }
         Err(path) => {
             words.explain_unread(alloc, archive, path);
@@ -166,8 +179,13 @@ pub(crate) fn run_merging<A: Archive, M: Messages, T: Target, W: Write>(
 
 /// Names the files that a check asks for, checks the report and the certificate against them, and
 /// prints the verdict.
-pub(crate) fn run_judging<A: Archive, M: Messages, W: Write>(
-    alloc: Global,
+pub(crate) fn run_judging<
+    R: AllocGlobal + Clock + Eprint + Sync,
+    A: Archive,
+    M: Messages,
+    W: Write,
+>(
+    rt: &R,
     archive: &A,
     asked: CheckArguments,
     messages: &mut M,
@@ -186,9 +204,9 @@ pub(crate) fn run_judging<A: Archive, M: Messages, W: Write>(
         part,
         files: named,
     } = asked;
-    let files = match daily_files(alloc, archive, &named) {
+    let files = match daily_files(rt.alloc(), archive, &named) {
         Ok(files) => files,
-        Err(why) => return unnamed(alloc, archive, &why, messages, words),
+        Err(why) => return unnamed(rt.alloc(), archive, &why, &named, messages, words),
     };
     let papers = Part {
         report,
@@ -201,12 +219,12 @@ pub(crate) fn run_judging<A: Archive, M: Messages, W: Write>(
         papers,
         part,
     };
-    judge_named(alloc, archive, &judging, &named, messages, out, words)
+    judge_named(rt, archive, &judging, &named, messages, out, words)
 }
 
 /// Checks a report and a certificate against files that are named, and prints the verdict.
-fn judge_named<A: Archive, M: Messages, W: Write>(
-    alloc: Global,
+fn judge_named<R: AllocGlobal + Clock + Eprint + Sync, A: Archive, M: Messages, W: Write>(
+    rt: &R,
     archive: &A,
     judging: &Judging,
     named: &NamedFiles,
@@ -218,22 +236,30 @@ fn judge_named<A: Archive, M: Messages, W: Write>(
         (streams (ArePrintedLines M.prints messages.old messages.new) (W.contents out.old) (W.contents out.new))
         judging.now named.now result }
 {
-    match judge_files(alloc, archive, judging) {
+    let shows = named.progress && words.are_read();
+    match judge_watched(rt, archive, judging, shows) {
         Ok(judged) => {
-            explain_judged(alloc, archive, judging, &judged, words);
+            explain_judged(rt.alloc(), archive, judging, &judged, words);
             let files = daily_paths(&judging.files, named);
-            print_judgement(messages, judged, files, out)
+            let ending = print_judgement(messages, judged, files, out);
+            explain_unwritten(rt.alloc(), ending, words);
+            ending
         }
         Err(path) => {
-            words.explain_unread(alloc, archive, path);
+            words.explain_unread(rt.alloc(), archive, path);
             not_read(messages, path)
         }
     }
 }
 
 /// Names the files that a description asks for, describes them, and prints the description.
-pub(crate) fn run_describing<A: Archive, M: Messages, W: Write>(
-    alloc: Global,
+pub(crate) fn run_describing<
+    R: AllocGlobal + Clock + Eprint + Sync,
+    A: Archive,
+    M: Messages,
+    W: Write,
+>(
+    rt: &R,
     archive: &A,
     asked: DescribeArguments,
     messages: &mut M,
@@ -248,17 +274,17 @@ pub(crate) fn run_describing<A: Archive, M: Messages, W: Write>(
         stations,
         files: named,
     } = asked;
-    let files = match daily_files(alloc, archive, &named) {
+    let files = match daily_files(rt.alloc(), archive, &named) {
         Ok(files) => files,
-        Err(why) => return unnamed(alloc, archive, &why, messages, words),
+        Err(why) => return unnamed(rt.alloc(), archive, &why, &named, messages, words),
     };
     let describing = Describing { stations, files };
-    describe_named(alloc, archive, &describing, &named, messages, out, words)
+    describe_named(rt, archive, &describing, &named, messages, out, words)
 }
 
 /// Describes files that are named, and prints the description.
-fn describe_named<A: Archive, M: Messages, W: Write>(
-    alloc: Global,
+fn describe_named<R: AllocGlobal + Clock + Eprint + Sync, A: Archive, M: Messages, W: Write>(
+    rt: &R,
     archive: &A,
     describing: &Describing,
     named: &NamedFiles,
@@ -270,14 +296,17 @@ fn describe_named<A: Archive, M: Messages, W: Write>(
         (streams (ArePrintedLines M.prints messages.old messages.new) (W.contents out.old) (W.contents out.new))
         describing.now named.now result }
 {
-    match describe_files(alloc, archive, describing) {
+    let shows = named.progress && words.are_read();
+    match describe_watched(rt, archive, describing, shows) {
         Ok(described) => {
-            explain_described(alloc, archive, describing, &described, words);
+            explain_described(rt.alloc(), archive, describing, &described, words);
             let files = daily_paths(&describing.files, named);
-            print_description(messages, described, files, out)
+            let ending = print_description(messages, described, files, out);
+            explain_unwritten(rt.alloc(), ending, words);
+            ending
         }
         Err(path) => {
-            words.explain_unread(alloc, archive, path);
+            words.explain_unread(rt.alloc(), archive, path);
             not_read(messages, path)
         }
     }
@@ -321,6 +350,7 @@ fn unnamed<A: Archive, M: Messages>(
     alloc: Global,
     archive: &A,
     why: &NotNamed,
+    named: &NamedFiles,
     messages: &mut M,
     words: &mut ForPeople,
 ) -> Ending
@@ -328,6 +358,6 @@ fn unnamed<A: Archive, M: Messages>(
     ensures line { ArePrintedLines M.prints messages.old messages.new
         (naming_line fault_line why.now ∷ []) }
 {
-    words.explain_names(alloc, archive, why);
+    words.explain_names(alloc, archive, why, path_of(&named.list));
     not_named(messages, why)
 }

@@ -1,6 +1,7 @@
 //! What a run explains to people, by what it returns.
 
 use crate::describe::DescriptionText;
+use crate::ending::Ending;
 use crate::files::{Describing, Judging, Ranking};
 use crate::judgement::Judgement;
 use crate::merge::MergingFault;
@@ -87,5 +88,12 @@ pub(crate) fn explain_merged(
         Ok(_) => {}
         Err(MergingFault::Query(fault)) => words.explain_query(alloc, *fault, query),
         Err(MergingFault::Parts(fault)) => words.explain_parts(alloc, *fault, parts),
+    }
+}
+
+/// Explains that a file wasn't written whole, if a run that had read its files ends so.
+pub(crate) fn explain_unwritten(alloc: Global, ending: Ending, words: &mut ForPeople) {
+    if ending == Ending::File {
+        words.explain_unwritten(alloc);
     }
 }

@@ -21,6 +21,7 @@ mod system_target;
 mod target;
 #[cfg(test)]
 mod tests;
+mod watching;
 
 use std::io::IsTerminal;
 use std::process::ExitCode;

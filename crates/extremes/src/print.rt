@@ -22,6 +22,7 @@ use crate::papers::Papers;
 use crate::rank::Ranked;
 use crate::target::Target;
 use arrayvec::ArrayVec;
+use explanations::ShownText;
 use ghcn_fields::Memory;
 use ghcn_series::{Foreign, LinePlace, OddLines, Warnings};
 use rank_input::{Fault, NotNamed};
@@ -76,7 +77,7 @@ pub(crate) fn not_read<M: Messages>(messages: &mut M, path: &str) -> Ending
     ensures ending { result ≡ endings.File }
     ensures line { ArePrintedLines M.prints messages.old messages.new (not_read_line path.now ∷ []) }
 {
-    messages.print(format_args!("file not read {path}"));
+    messages.print(format_args!("file not read {}", ShownText(path)));
     Ending::File
 }
 
@@ -148,7 +149,7 @@ fn print_line_of<M: Messages>(messages: &mut M, file: u64, line: u64, paths: &[S
         return;
     };
     if let Some(path) = paths.get(place as usize) {
-        messages.print(format_args!("at {path}:{line}"));
+        messages.print(format_args!("at {}:{line}", ShownText(path)));
     }
 }
 
@@ -157,7 +158,7 @@ pub(crate) fn not_written<M: Messages>(messages: &mut M, path: &str) -> Ending
     ensures ending { result ≡ endings.File }
     ensures line { ArePrintedLines M.prints messages.old messages.new (not_written_line path.now ∷ []) }
 {
-    messages.print(format_args!("file not written {path}"));
+    messages.print(format_args!("file not written {}", ShownText(path)));
     Ending::File
 }
 
@@ -195,7 +196,7 @@ fn print_foreign<M: Messages>(messages: &mut M, foreign: Foreign, files: &[Strin
     let Foreign { count, first } = foreign;
     if let Some(place) = first {
         if let Some(path) = files.get(place as usize) {
-            messages.print(format_args!("foreign {count} {path}"));
+            messages.print(format_args!("foreign {count} {}", ShownText(path)));
         }
     }
 }
@@ -209,7 +210,7 @@ fn print_odd<M: Messages>(messages: &mut M, odd: OddLines, files: &[String])
     let OddLines { count, first } = odd;
     if let Some(LinePlace { file, line }) = first {
         if let Some(path) = files.get(file as usize) {
-            messages.print(format_args!("odd {count} {path}:{line}"));
+            messages.print(format_args!("odd {count} {}:{line}", ShownText(path)));
         }
     }
 }

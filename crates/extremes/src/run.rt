@@ -26,11 +26,12 @@ use std::io::Write;
 use std::rt::{Env, Files};
 use std::sync::Wait;
 use std::thread::Threads;
+use std::time::Clock;
 use std::{env, io};
 
 /// Runs the command that the process's arguments ask for. If people read standard error, as on a
 /// terminal, words for them follow its lines.
-pub fn run<R: Files + Env + Print + Eprint + Threads + Wait + AllocGlobal + Sync>(
+pub fn run<R: Files + Env + Print + Eprint + Threads + Wait + AllocGlobal + Clock + Sync>(
     rt: &R,
     is_read: bool,
 ) -> Ending {
@@ -66,7 +67,7 @@ pub fn run<R: Files + Env + Print + Eprint + Threads + Wait + AllocGlobal + Sync
 
 /// Runs a command, and then prints words for people, if they read standard error.
 fn run_for_people<
-    R: Threads + Wait + AllocGlobal + Sync,
+    R: Threads + Wait + AllocGlobal + Clock + Eprint + Sync,
     A: Archive,
     M: Messages,
     T: Target,
@@ -109,8 +110,8 @@ fn print_words<M: Messages>(messages: &mut M, words: &str)
 
 /// Runs a command over the files of an archive, and prints the report or the verdict. A certificate
 /// goes to a target, and the other lines go to standard error.
-fn run_command<
-    R: Threads + Wait + AllocGlobal + Sync,
+pub(crate) fn run_command<
+    R: Threads + Wait + AllocGlobal + Clock + Eprint + Sync,
     A: Archive,
     M: Messages,
     T: Target,
@@ -138,8 +139,8 @@ fn run_command<
         Command::Merge(asked) => {
             run_merging(alloc, archive, &asked, messages, target, out, words)
         }
-        Command::Check(asked) => run_judging(alloc, archive, asked, messages, out, words),
-        Command::Describe(asked) => run_describing(alloc, archive, asked, messages, out, words),
+        Command::Check(asked) => run_judging(rt, archive, asked, messages, out, words),
+        Command::Describe(asked) => run_describing(rt, archive, asked, messages, out, words),
     }
 }
 

@@ -6,6 +6,7 @@ mod growths;
 mod judged;
 mod merged;
 mod messages;
+mod named;
 mod pieces;
 mod words;
 

@@ -6,7 +6,7 @@ use crate::judgement::Judgement;
 use crate::messages::Messages;
 use crate::papers::Papers;
 use crate::print::{
-    DailyPaths, not_named, not_read, print_description, print_judgement, print_ranked,
+    DailyPaths, not_named, not_read, not_written, print_description, print_judgement, print_ranked,
 };
 use crate::rank::Ranked;
 use ghcn_series::{DailyWhy, Foreign, LinePlace, OddLines, Warnings};
@@ -156,6 +156,34 @@ fn lines_of_a_file(rt: HostRuntime) {
     let mut messages = KeptLines::new(rt.alloc());
     assert_eq!(rt; not_read(&mut messages, "no such file.dly"), Ending::File);
     assert_eq!(rt; messages.text.as_str(), "file not read no such file.dly\n");
+}
+
+/// A path whose line feed and colour would change what a terminal or a script sees.
+const ODD_PATH: &str = "a\nb \u{e4}\u{1b}[31m.dly";
+
+#[test]
+fn lines_of_paths_with_control_characters(rt: HostRuntime) -> Result<(), Fail> {
+    let alloc = rt.alloc();
+    let mut files = Vec::new(alloc);
+    files.push(String::from_str(alloc, ODD_PATH)?)?;
+    let named = DailyPaths {
+        paths: &files,
+        arguments: &[],
+    };
+    let (mut messages, mut out) = (KeptLines::new(alloc), Vec::new(alloc));
+    not_read(&mut messages, ODD_PATH);
+    not_written(&mut messages, ODD_PATH);
+    print_description(&mut messages, Err(bad_line(1)), named, &mut out);
+    let judged = (Judgement::Whole(Verdict::Accepted), warnings(1, 7, 0));
+    print_judgement(&mut messages, Ok(judged), named, &mut out);
+    let expected = "file not read a?b ???[31m.dly\n\
+        file not written a?b ???[31m.dly\n\
+        refused 5 DailyLine file 1 line 40 DuplicateMonth\n\
+        at a?b ???[31m.dly:40\n\
+        foreign 1 a?b ???[31m.dly\n\
+        odd 7 a?b ???[31m.dly:12\n";
+    assert_eq!(rt; messages.text.as_str(), expected);
+    Ok(())
 }
 
 /// An error of line 40 of the file of this number.

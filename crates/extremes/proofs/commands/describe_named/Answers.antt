@@ -9,11 +9,11 @@ returns-in-Ok g c = inr (record {
   answer = c.in-Ok.described;
   described = c.in-Ok.ensures.describes;
   shown = shown_of _
-      (streams (ArePrintedLines g.M.Messages.prints c.args.messages.now c.print_description.new.messages)
-      (g.W.Write.contents c.args.out.now) (g.W.Write.contents c.print_description.new.out))
+      (streams (ArePrintedLines g.M.Messages.prints c.args.messages.now c.print_description-ending.new.messages)
+      (g.W.Write.contents c.args.out.now) (g.W.Write.contents c.print_description-ending.new.out))
       c.daily_paths-files.result.paths.now c.args.describing.now.files.items c.daily_paths-files.result.arguments.now
-      c.args.named.now.paths.items c.print_description.result (c.daily_paths-files.ensures.paths ∙ c.deref.ensures.value)
-      c.daily_paths-files.ensures.arguments _ c.print_description.ensures;
+      c.args.named.now.paths.items c.print_description-ending.result (c.daily_paths-files.ensures.paths ∙ c.deref.ensures.value)
+      c.daily_paths-files.ensures.arguments _ c.print_description-ending.ensures;
 })
 
 -- or a file can't be read

@@ -10,11 +10,11 @@ returns-in-Ok g c =
       answer = c.in-Ok.judged;
       judged = c.in-Ok.ensures.judges;
       told = told_of _
-          (streams (ArePrintedLines g.M.Messages.prints c.args.messages.now c.print_judgement.new.messages)
-          (g.W.Write.contents c.args.out.now) (g.W.Write.contents c.print_judgement.new.out))
+          (streams (ArePrintedLines g.M.Messages.prints c.args.messages.now c.print_judgement-ending.new.messages)
+          (g.W.Write.contents c.args.out.now) (g.W.Write.contents c.print_judgement-ending.new.out))
           c.daily_paths-files.result.paths.now c.args.judging.now.files.items c.daily_paths-files.result.arguments.now
-          c.args.named.now.paths.items c.print_judgement.result (c.daily_paths-files.ensures.paths ∙ c.deref.ensures.value)
-          c.daily_paths-files.ensures.arguments _ c.print_judgement.ensures;
+          c.args.named.now.paths.items c.print_judgement-ending.result (c.daily_paths-files.ensures.paths ∙ c.deref.ensures.value)
+          c.daily_paths-files.ensures.arguments _ c.print_judgement-ending.ensures;
     })
 
 -- or a file can't be read

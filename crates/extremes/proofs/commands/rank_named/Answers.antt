@@ -39,11 +39,11 @@ returns-in-Ok g c =
         warnings = c.in-Ok.ranked.warnings;
         ranked = c.in-Ok.ensures.ranks;
         printed = printed-as _
-            (streams (ArePrintedLines g.M.Messages.prints c.args.messages.now c.print_ranked.new.messages)
-            (g.W.Write.contents c.args.out.now) (g.W.Write.contents c.print_ranked.new.out))
+            (streams (ArePrintedLines g.M.Messages.prints c.args.messages.now c.print_ranked-ending.new.messages)
+            (g.W.Write.contents c.args.out.now) (g.W.Write.contents c.print_ranked-ending.new.out))
             c.daily_paths-files.result.paths.now c.args.ranking.now.files.items c.daily_paths-files.result.arguments.now
-            c.args.named.now.paths.items c.print_ranked.result
+            c.args.named.now.paths.items c.print_ranked-ending.result
             (c.daily_paths-files.ensures.paths ∙ c.deref-in-Ok.ensures.value) c.daily_paths-files.ensures.arguments
-            c.in-Ok.ranked.answer c.in-Ok.ranked.warnings _ _ _ c.path_of-certificate.ensures c.print_ranked.ensures;
+            c.in-Ok.ranked.answer c.in-Ok.ranked.warnings _ _ _ c.path_of-certificate.ensures c.print_ranked-ending.ensures;
       },
     ))
