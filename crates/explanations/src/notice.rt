@@ -26,7 +26,7 @@ pub const IN_USE: &str =
 
 /// What it means that a file isn't written.
 pub const UNWRITTEN: &str =
-    "file not written: the system doesn't open it, or took only a part; is there room, and may you write there?";
+    "file not written: the system took only a part or nothing; is there room, and may you write there?";
 
 /// What out of memory means.
 pub const NO_MEMORY: &str = "out of memory: the system gave no more";

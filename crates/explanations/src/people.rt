@@ -165,7 +165,7 @@ impl ForPeople {
     /// Explains that a file wasn't written whole.
     pub fn explain_unwritten(&mut self, alloc: Global)
         ensures { Adds self.old self.new (Some (codes
-            "file not written: the system doesn't open it, or took only a part; is there room, and may you write there?")) }
+            "file not written: the system took only a part or nothing; is there room, and may you write there?")) }
     {
         self.add(alloc, Explanation::Plain(UNWRITTEN));
     }

@@ -3,12 +3,18 @@
 use super::*;
 
 /// An error of a line, what the line begins with, how many columns it has, and what is said.
-const BAD_LINES: [(LineWhy, &str, usize, &str); 7] = [
+const BAD_LINES: [(LineWhy, &str, usize, &str); 8] = [
     (
         LineWhy::Short,
         HEAD,
         26,
         "26 columns; a daily line has at least 266",
+    ),
+    (
+        LineWhy::Short,
+        "E",
+        1,
+        "1 column; a daily line has at least 266",
     ),
     (
         LineWhy::Short,

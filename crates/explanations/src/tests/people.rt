@@ -1,6 +1,8 @@
 //! What people read, whatever the error.
 
 use super::*;
+use rank_input::{Archive, Place};
+use std::io;
 
 #[test]
 fn names_with_control_characters(rt: HostRuntime) -> Result<(), Fail> {
@@ -90,7 +92,7 @@ fn words_that_people_read(rt: HostRuntime) -> Result<(), Fail> {
         data: a folder without .dly files, or a list without names\n\
         list: a name in it isn't UTF-8 text\n\
         out of memory: the system gave no more\n\
-        file not written: the system doesn't open it, or took only a part; is there room, and may you write there?\n\
+        file not written: the system took only a part or nothing; is there room, and may you write there?\n\
         no such file: ";
     for is_read in [false, true] {
         let mut words = ForPeople::new(alloc, is_read);
@@ -111,6 +113,57 @@ fn words_that_people_read(rt: HostRuntime) -> Result<(), Fail> {
         words.explain_names(alloc, &archive, &NotNamed::Unreadable(absent), Some("-"));
         assert_eq!(rt; words.lines().starts_with(said), is_read);
         assert_eq!(rt; words.lines().is_empty(), !is_read);
+    }
+    Ok(())
+}
+
+/// An archive without files.
+#[derive(Drop)]
+struct NoFiles;
+
+impl Archive for NoFiles {
+    ghost use Rattle.std.specs.Prelude.{None, ⊤};
+
+    type File = &'static [u8];
+
+    ghost bytes_of = { λ _ _. None };
+
+    ghost opens = { λ _ _ _. ⊤ };
+
+    ghost names_of = { λ _ _. None };
+
+    fn open(&self, _path: &str) -> io::Result<&'static [u8]> {
+        Err(io::Error::from(io::ErrorKind::NotFound))
+    }
+
+    fn look(&self, _path: &str) -> Place {
+        Place::Other
+    }
+
+    fn names(&self, _alloc: Global, _folder: &str) -> io::Result<Vec<u8>> {
+        Err(io::Error::from(io::ErrorKind::NotFound))
+    }
+}
+
+#[test]
+fn lists_that_cannot_be_read(rt: HostRuntime) -> Result<(), Fail> {
+    let alloc = rt.alloc();
+    let cases = [
+        ("-", Some("-"), "/dev/stdin: "),
+        ("-", Some("list"), "-: "),
+        ("-", None, "-: "),
+        ("list", Some("list"), "list: "),
+        ("folder", Some("-"), "folder: "),
+    ];
+    for (name, list, expected) in cases {
+        let why = NotNamed::Unreadable(String::from_str(alloc, name)?);
+        let mut words = ForPeople::new(alloc, true);
+        words.explain_names(alloc, &NoFiles, &why, list);
+        assert!(rt;
+            words.lines().starts_with(expected),
+            "{name} {list:?}: {}",
+            words.lines()
+        );
     }
     Ok(())
 }
