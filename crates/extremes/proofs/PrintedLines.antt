@@ -26,6 +26,7 @@ use Rattle.extremes.specs.declared.describe.DescriptionText.{DescriptionText}
 use Rattle.extremes.specs.declared.judgement.Judgement.{Judgement}
 use Rattle.extremes.specs.Printed.{ArePrinted, IsPrinted, IsTextShown, IsTold}
 use Rattle.extremes.specs.Messages.{Line, LinePrinting, ArePrintedLines, Streams, streams, after_lines, line_naming}
+use Rattle.explanations.specs.Shown.{shown_text}
 use Rattle.extremes.specs.Messages.{input_lines, numbered_path, place_lines, place_text, unnumbered_place, warning_lines}
 use Rattle.extremes.specs.Messages.{foreign_text, foreign_warning, odd_text, odd_warning, odd_warning_at, unlisted_warning}
 
@@ -86,28 +87,31 @@ odd-at paths odd place found first is =
 
 -- the texts of these lines, from their ends
 foreign-nested : (count : ℕ) (path : List ℕ)
-    → foreign_text count path ≡ codes "foreign " ++ (decimal count ++ (codes " " ++ path))
-foreign-nested count path = append_assoc (codes "foreign " ++ decimal count) (codes " ") path
-    ∙ append_assoc (codes "foreign ") (decimal count) (codes " " ++ path)
+    → foreign_text count path ≡ codes "foreign " ++ (decimal count ++ (codes " " ++ shown_text path))
+foreign-nested count path = append_assoc (codes "foreign " ++ decimal count) (codes " ") (shown_text path)
+    ∙ append_assoc (codes "foreign ") (decimal count) (codes " " ++ shown_text path)
 
 odd-nested : (count line : ℕ) (path : List ℕ) → odd_text count line path
-    ≡ codes "odd " ++ (decimal count ++ (codes " " ++ (path ++ (codes ":" ++ decimal line))))
-odd-nested count line path =
-    append_assoc (codes "odd " ++ decimal count ++ codes " " ++ path) (codes ":") (decimal line)
-    ∙ append_assoc (codes "odd " ++ decimal count ++ codes " ") path (codes ":" ++ decimal line)
-    ∙ append_assoc (codes "odd " ++ decimal count) (codes " ") (path ++ (codes ":" ++ decimal line))
-    ∙ append_assoc (codes "odd ") (decimal count) (codes " " ++ (path ++ (codes ":" ++ decimal line)))
+    ≡ codes "odd " ++ (decimal count ++ (codes " " ++ (shown_text path ++ (codes ":" ++ decimal line))))
+odd-nested count line path = let shown = shown_text path in
+    append_assoc (codes "odd " ++ decimal count ++ codes " " ++ shown) (codes ":") (decimal line)
+    ∙ append_assoc (codes "odd " ++ decimal count ++ codes " ") shown (codes ":" ++ decimal line)
+    ∙ append_assoc (codes "odd " ++ decimal count) (codes " ") (shown ++ (codes ":" ++ decimal line))
+    ∙ append_assoc (codes "odd ") (decimal count) (codes " " ++ (shown ++ (codes ":" ++ decimal line)))
 
 module _ {M A : Type 0} (prints : LinePrinting M) (files : List (String A)) (found : Option (Bor (String A))) where
   -- the line on foreign files is printed with the path that is found
   pub foreign-printed : (before after : M) (foreign : Foreign) (place : ℕ) (path : Bor (String A))
+      (named : List ℕ) → named ≡ string_bytes path.now
       → foreign.first ≡ Some place → IsItemAt files place found → found ≡ Some path
-      → prints before (Some (codes "foreign " ++ (decimal foreign.count ++ (codes " " ++ string_bytes path.now)))) after
+      → prints before (Some (codes "foreign " ++ (decimal foreign.count ++ (codes " " ++ shown_text named)))) after
       → ArePrintedLines prints before after (foreign_warning (map string_bytes files) foreign)
-  foreign-printed before after foreign place path first is some printed = line-alone prints before after _ _
+  foreign-printed before after foreign place path named same first is some printed = line-alone prints before after _ _
       (foreign-at (map string_bytes files) foreign place _ first (paths-at files place found is)
       ∙ ap (λ f. line_naming (foreign_text foreign.count) (option_map (λ path. string_bytes path.now) f)) some)
-      (subst (λ t. prints before (Some t) after) (sym (foreign-nested foreign.count (string_bytes path.now))) printed)
+      (subst (λ t. prints before (Some t) after) (sym (foreign-nested foreign.count (string_bytes path.now)))
+      (subst (λ (n : List ℕ). prints before (Some (codes "foreign " ++ (decimal foreign.count ++ (codes " "
+      ++ shown_text n)))) after) same printed))
 
   -- and none if no path is found
   pub foreign-unprinted : (m : M) (foreign : Foreign) (place : ℕ)
@@ -120,14 +124,17 @@ module _ {M A : Type 0} (prints : LinePrinting M) (files : List (String A)) (fou
 
   -- the line on odd lines is printed with the path that is found
   pub odd-printed : (before after : M) (odd : OddLines) (place : LinePlace) (path : Bor (String A))
+      (named : List ℕ) → named ≡ string_bytes path.now
       → odd.first ≡ Some place → IsItemAt files place.file found → found ≡ Some path
-      → prints before (Some (codes "odd " ++ (decimal odd.count ++ (codes " " ++ (string_bytes path.now ++ (codes ":"
+      → prints before (Some (codes "odd " ++ (decimal odd.count ++ (codes " " ++ (shown_text named ++ (codes ":"
       ++ decimal place.line)))))) after
       → ArePrintedLines prints before after (odd_warning (map string_bytes files) odd)
-  odd-printed before after odd place path first is some printed = line-alone prints before after _ _
+  odd-printed before after odd place path named same first is some printed = line-alone prints before after _ _
       (odd-at (map string_bytes files) odd place _ first (paths-at files place.file found is)
       ∙ ap (λ f. line_naming (odd_text odd.count place.line) (option_map (λ path. string_bytes path.now) f)) some)
-      (subst (λ t. prints before (Some t) after) (sym (odd-nested odd.count place.line (string_bytes path.now))) printed)
+      (subst (λ t. prints before (Some t) after) (sym (odd-nested odd.count place.line (string_bytes path.now)))
+      (subst (λ (n : List ℕ). prints before (Some (codes "odd " ++ (decimal odd.count ++ (codes " " ++ (shown_text n
+      ++ (codes ":" ++ decimal place.line)))))) after) same printed))
 
   -- and none if no path is found
   pub odd-unprinted : (m : M) (odd : OddLines) (place : LinePlace)
@@ -245,9 +252,9 @@ other-place arguments paths fault are same is = place-by arguments paths fault a
 
 -- the text of a place, from its end
 place-nested : (line : ℕ) (path : List ℕ)
-    → place_text line path ≡ codes "at " ++ (path ++ (codes ":" ++ decimal line))
-place-nested line path = append_assoc (codes "at " ++ path) (codes ":") (decimal line)
-    ∙ append_assoc (codes "at ") path (codes ":" ++ decimal line)
+    → place_text line path ≡ codes "at " ++ (shown_text path ++ (codes ":" ++ decimal line))
+place-nested line path = append_assoc (codes "at " ++ shown_text path) (codes ":") (decimal line)
+    ∙ append_assoc (codes "at ") (shown_text path) (codes ":" ++ decimal line)
 
 module _ {M : Type 0} (prints : LinePrinting M) (before after : M) (arguments paths : List (List ℕ)) (fault : Fault)
     (are : Bool) (same : are ≡ pointwise bytes_eq paths arguments) where
@@ -303,12 +310,14 @@ module _ {M A : Type 0} (prints : LinePrinting M) (files : List (String A)) (fou
       ∙ ap (λ path. line_naming (place_text line) path) (paths-at files place found at)
 
   -- it is printed with the path that is found
-  pub line-of-printed : (old new : M) (path : Bor (String A)) → found ≡ Some path
-      → prints old (Some (codes "at " ++ (string_bytes path.now ++ (codes ":" ++ decimal line)))) new
+  pub line-of-printed : (old new : M) (path : Bor (String A)) (named : List ℕ) → named ≡ string_bytes path.now
+      → found ≡ Some path → prints old (Some (codes "at " ++ (shown_text named ++ (codes ":" ++ decimal line)))) new
       → ArePrintedLines prints old new (line_naming (place_text line) (numbered_path (map string_bytes files) file))
-  line-of-printed old new path some printed = line-alone prints old new _ _
+  line-of-printed old new path named same some printed = line-alone prints old new _ _
       (numbered-found ∙ ap (λ f. line_naming (place_text line) (option_map (λ path. string_bytes path.now) f)) some)
-      (subst (λ t. prints old (Some t) new) (sym (place-nested line (string_bytes path.now))) printed)
+      (subst (λ t. prints old (Some t) new) (sym (place-nested line (string_bytes path.now)))
+      (subst (λ (n : List ℕ). prints old (Some (codes "at " ++ (shown_text n ++ (codes ":" ++ decimal line)))) new) same
+      printed))
 
   -- and isn't if no path is found
   pub line-of-unprinted : (m : M) → ((path : Bor (String A)) → found ≡ Some path → ⊥)

@@ -149,7 +149,7 @@ fn print_line_of<M: Messages>(messages: &mut M, file: u64, line: u64, paths: &[S
         return;
     };
     if let Some(path) = paths.get(place as usize) {
-        messages.print(format_args!("at {}:{line}", ShownText(path)));
+        messages.print(format_args!("at {}:{line}", ShownText(path.as_str())));
     }
 }
 
@@ -196,7 +196,7 @@ fn print_foreign<M: Messages>(messages: &mut M, foreign: Foreign, files: &[Strin
     let Foreign { count, first } = foreign;
     if let Some(place) = first {
         if let Some(path) = files.get(place as usize) {
-            messages.print(format_args!("foreign {count} {}", ShownText(path)));
+            messages.print(format_args!("foreign {count} {}", ShownText(path.as_str())));
         }
     }
 }
@@ -210,7 +210,7 @@ fn print_odd<M: Messages>(messages: &mut M, odd: OddLines, files: &[String])
     let OddLines { count, first } = odd;
     if let Some(LinePlace { file, line }) = first {
         if let Some(path) = files.get(file as usize) {
-            messages.print(format_args!("odd {count} {}:{line}", ShownText(path)));
+            messages.print(format_args!("odd {count} {}:{line}", ShownText(path.as_str())));
         }
     }
 }

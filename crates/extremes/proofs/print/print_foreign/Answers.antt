@@ -5,7 +5,7 @@ use Rattle.extremes.proofs.print.print_foreign.Goals as goal
 pub returns-in-Some-get : goal.returns-in-Some-get
 returns-in-Some-get g c =
     foreign-printed g.M.Messages.prints c.args.files.now c.get.result _ _ c.args.foreign c.in-Some.place
-    c.in-Some-get.path c.in-Some.is c.get.ensures.lookup c.in-Some-get.is c.print.ensures
+    c.in-Some-get.path _ c.as_str.ensures.value c.in-Some.is c.get.ensures.lookup c.in-Some-get.is c.print.ensures
 
 -- or it isn't, if there is no such file
 pub returns-in_default-get : goal.returns-in_default-get

@@ -11,7 +11,7 @@ returns-in_default g c =
 pub returns-in-Some-get : goal.returns-in-Some-get
 returns-in-Some-get g c =
     line-of-printed g.M.Messages.prints c.args.paths.now c.get.result c.args.file c.in-Some.place c.args.line
-    c.checked_sub.result c.checked_sub.ensures c.in-Some.is c.get.ensures.lookup _ _ c.in-Some-get.path c.in-Some-get.is
+    c.checked_sub.result c.checked_sub.ensures c.in-Some.is c.get.ensures.lookup _ _ c.in-Some-get.path _ c.as_str.ensures.value c.in-Some-get.is
     c.print.ensures
 
 -- or it isn't, if there is no such file
