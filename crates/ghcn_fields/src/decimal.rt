@@ -11,6 +11,7 @@ use crate::field::{Field, scaled_field};
 use crate::value::{Form, KINDS, form_of, sum_of};
 
 /// Reads six columns as `scaled_field` does by one place: a number in tenths.
+#[inline(always)]
 pub fn tenths_field(columns: &[u8; 6]) -> Field
     ensures value { result ≡ numbers.scaled_field 1 columns.now }
     ensures number { (v : ℤ) →
@@ -23,6 +24,7 @@ pub fn tenths_field(columns: &[u8; 6]) -> Field
 }
 
 /// Reads nine columns as `scaled_field` does by four places: a number in ten-thousandths.
+#[inline(always)]
 pub fn four_places_field(columns: &[u8; 9]) -> Field
     ensures value { result ≡ numbers.scaled_field 4 columns.now }
     ensures number { (v : ℤ) →
@@ -81,9 +83,11 @@ fn field_of_size(form: Form, size: u32) -> Option<Field>
     requires { size < 2 ^ 31 }
     ensures { result ≡ field_of_size form size }
 {
-    match form {
-        Form::Plain => Some(Field::Number(size as i32)),
-        Form::Negative => Some(Field::Number(-(size as i32))),
-        _ => None,
+    if matches!(form, Form::Negative) {
+        return Some(Field::Number(-(size as i32)));
     }
+    if is_plain(form) {
+        return Some(Field::Number(size as i32));
+    }
+    None
 }

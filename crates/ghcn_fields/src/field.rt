@@ -39,6 +39,8 @@ pub fn int_field(field: &[u8]) -> Field
 
 /// Reads a decimal number as that many units of its last place, of `places` places: blanks, an
 /// optional `-`, digits, and then, up to the last column, optionally a point and 1 to `places` digits.
+/// It is never built into its callers, which read most fields by look-ups and stay small so.
+#[inline(never)]
 pub fn scaled_field(field: &[u8], places: u8) -> Field
     requires { places ≤ 4 }
     ensures value { result ≡ numbers.scaled_field places field.now }

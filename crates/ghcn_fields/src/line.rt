@@ -54,6 +54,7 @@ impl<'a> Iterator for Lines<'a> {
 
     ghost remaining = { item_count (λ rest. rest) };
 
+    #[inline(always)]
     fn next(&mut self) -> Option<(u64, &'a [u8])> {
         let text = self.text;
         if text.is_empty() {

@@ -1,5 +1,5 @@
 -- Stations are added one after the other: what is known of a line after those before it.
-use Rattle.std.proofs.Common.{◌≡◌, ℕ, suc, ◌<◌, ◌^◌, Bool, true, false, cond, List, [], ◌∷◌, ◌++◌, length, map, drop}
+use Rattle.std.proofs.Common.{◌≡◌, ℕ, suc, ◌<◌, ◌^◌, Bool, true, false, cond, List, [], ◌∷◌, ◌++◌, length, map, drop, take}
 use Rattle.std.proofs.Common.{replicate, length-append, length-drop, Option}
 use Rattle.std.proofs.Common.{Some, None, refl, sym, ap, subst, ◌∙◌, arith, true≢false, ◌||◌, ◌&&◌, is_some}
 use Rattle.std.specs.Prelude.{◌==◌, ◌≤◌, nat_lt, nat_le, ℤ, pos, neg_ℤ}
@@ -8,7 +8,7 @@ use Rattle.std.specs.Option.{option_or, option_map}
 use Rattle.std.specs.Ordering.{is_eq}
 use Rattle.std.proofs.lemmas.Bool.Decides.{nat_tests}
 use Rattle.std.proofs.lemmas.List.{length_push, map-append, length-map, length-take-le, length-replicate}
-use Rattle.ghcn_fields.specs.Bytes.{blank_byte}
+use Rattle.ghcn_fields.specs.Bytes.{blank_byte, is_blank}
 use Rattle.std.proofs.lemmas.Map.Keys.{IsDistinct-push}
 use Rattle.ghcn_fields.specs.declared.field.Field.{Field}
 use Rattle.ghcn_fields.specs.declared.field.Field.TheVariants.{Blank, Number, Bad}
@@ -19,7 +19,7 @@ use Rattle.ghcn_files.specs.declared.fault.StationWhy.{StationWhy}
 use Rattle.ghcn_files.specs.declared.fault.StationWhy.TheVariants.{Duplicate}
 use Rattle.ghcn_files.specs.declared.fault.StationsFault.{StationsFault}
 use Rattle.ghcn_files.specs.declared.fault.StationsFault.TheVariants.{StationLine, TooManyStations}
-use Rattle.ghcn_files.specs.Ids.{same_id, is_id}
+use Rattle.ghcn_files.specs.Ids.{same_id, is_id, is_visible}
 use Rattle.ghcn_files.specs.StationLines.{id_of, latitude, longitude, elevation, is_number_within, is_latitude}
 use Rattle.ghcn_files.specs.StationLines.{is_longitude, is_bad, number_of, is_printable, printable, station_of}
 use Rattle.ghcn_files.specs.StationLines.{line_why, is_station}
@@ -138,6 +138,30 @@ id_there line none = by (nat_le 30 (length line)) refl none
         → 11 ≤ length line
     by true is e = grind (arith, nat_tests)
     by false is e = absurd cc
+
+-- the second of three tests that hold together
+second : (a b c : Bool) → (a && (b && c)) ≡ true → b ≡ true
+second true true c e = refl
+second true false c e = e
+second false b c e = absurd cc
+
+-- what begins with a byte that shows in print isn't blank
+begins : (b : ℕ) (bs : List ℕ) → is_visible b ≡ true → is_blank (b ∷ bs) ≡ false
+begins b bs seen = by (b == 32) refl
+  where
+    by : (blank : Bool) → (b == 32) ≡ blank → is_blank (b ∷ bs) ≡ false
+    by true e = grind (arith, nat_tests)
+    by false e = ap (λ (t : Bool). t && is_blank bs) e
+
+-- a line without an error isn't blank
+pub shows : (line : List ℕ) → line_why line ≡ None → is_blank line ≡ false
+shows [] none = absurd cc
+shows (b ∷ bs) none =
+    let line : List ℕ = b ∷ bs in
+    let tests = passed_all (nat_le 30 (length line)) (is_id (columns 1 11 line)) (is_latitude (latitude line))
+    (is_longitude (longitude line)) (is_bad (elevation line)) none in
+    let more : List ℕ = take 10 (bs ++ replicate 11 blank_byte) in
+    begins b bs (second (length (columns 1 11 line) == 11) (is_visible b) (list_all is_visible more) tests.0)
 
 -- ---- one station more
 

@@ -52,18 +52,18 @@ none_gathered all held keys none empty = record {
 }
 
 -- past a blank line as much is held
-pub past_blank : (all : List Numbered) (k : ℕ) (held : List Station) (keys : List (ℕ × ℕ × ℕ)) (l : Numbered)
-    → k < length all → l ≡ get_or all k l → is_blank l.1 ≡ true → HasGathered all k held keys
-    → HasGathered all (k + 1) held keys
-past_blank all k held keys l lt is blank h =
+pub past_blank : (all : List Numbered) (k : ℕ) (held more : List Station) (keys longer : List (ℕ × ℕ × ℕ)) (l : Numbered)
+    → k < length all → l ≡ get_or all k l → is_blank l.1 ≡ true → more ≡ held → longer ≡ keys
+    → HasGathered all k held keys → HasGathered all (k + 1) more longer
+past_blank all k held more keys longer l lt is blank stay keep h =
     let same : not_blank (take (k + 1) all) ≡ not_blank (take k all) =
     lines_more all k l lt is ∙ ap (λ (zs : List Numbered). not_blank (take k all) ++ zs) (not_blank-blank l blank)
     ∙ append-nil (not_blank (take k all)) in
     record {
-      held_is = h.held_is ∙ ap stations_of (sym same);
+      held_is = stay ∙ h.held_is ∙ ap stations_of (sym same);
       right = subst (All IsRight) (sym same) h.right;
-      few = h.few;
-      own = h.own;
+      few = omega (arith, h.few, ap (λ (ss : List Station). length ss) stay);
+      own = keep ∙ h.own ∙ ap (keys_from 0) (sym stay);
     }
 
 -- past any other line its station is held too

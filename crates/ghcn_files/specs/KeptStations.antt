@@ -1,5 +1,5 @@
 -- How stations are kept while a list is read: with the places of their IDs, one line after the other.
-use Rattle.std.specs.Prelude.{◌≡◌, ℕ, suc, ◌<◌, take, drop, get_or, List, [], ◌∷◌, ◌++◌, length}
+use Rattle.std.specs.Prelude.{◌≡◌, ℕ, suc, ◌<◌, ◌^◌, take, drop, get_or, List, [], ◌∷◌, ◌++◌, length}
 use Rattle.std.specs.Prelude.{Option, None, Some}
 use Rattle.std.specs.declared.cmp.Ordering.{Ordering}
 use Rattle.std.specs.declared.cmp.Ordering.TheVariants.{Less}
@@ -12,7 +12,7 @@ use Rattle.std.specs.Map.{lookup}
 use Rattle.ghcn_files.specs.declared.station.StationId.{StationId}
 use Rattle.ghcn_files.specs.declared.station.Station.{Station}
 use Rattle.ghcn_files.specs.declared.fault.StationsFault.{StationsFault}
-use Rattle.ghcn_files.specs.StationLines.{station_of}
+use Rattle.ghcn_files.specs.StationLines.{id_of, line_why, station_of}
 use Rattle.ghcn_fields.specs.Refusals.{OrMemory}
 use Rattle.ghcn_files.specs.Listed.{Numbered, stations_of, station_fault, place_of, AreListed, is_memory}
 
@@ -64,6 +64,14 @@ pub record AreOrdered (stations : List Station) (keys : List (ℕ × ℕ × ℕ)
 abbrev pub AreKeptBy : List Station → List (ℕ × ℕ × ℕ) → Option (BTreeMap (ℕ × ℕ) ℕ) → Type 0
 AreKeptBy stations keys (Some places) = AreKept stations places.entries
 AreKeptBy stations keys None = AreOrdered stations keys
+
+-- a line adds its station and its key: it has no error by itself, and there is room for one station more
+pub record IsAdded (line : List ℕ) (held : List Station) (keys : List (ℕ × ℕ × ℕ)) (more : List Station)
+    (longer : List (ℕ × ℕ × ℕ)) : Type 0 where
+  pub right : line_why line ≡ None
+  pub room : length held < 2 ^ 20
+  pub station : more ≡ held ++ station_of line ∷ []
+  pub key : longer ≡ keys ++ key_with_place (id_of line) (length held) ∷ []
 
 -- a line adds its station: it has no error after any lines that list those held
 pub record Adds (held : List Station) (l : Numbered) (more : List Station) : Type 0 where

@@ -133,6 +133,7 @@ impl Numbers {
     ///
     /// The readme's line has 85 columns; that a line may end after column 30, and that an elevation
     /// may be blank, is this project's own leniency.
+    #[inline(always)]
     pub(crate) fn of_line(line: &[u8]) -> Result<Self, StationWhy>
         ensures right { IfOk result (λ numbers. numbers ≡ stations.numbers_of line.now) }
         ensures ok { OnOk result (stations.line_why line.now ≡ None) }
@@ -182,6 +183,7 @@ impl Station {
 }
 
 /// Eight columns after a blank.
+#[inline(always)]
 fn after_blank(columns: [u8; 8]) -> [u8; 9]
     ensures { result ≡ blank_byte ∷ columns }
 {
@@ -190,6 +192,7 @@ fn after_blank(columns: [u8; 8]) -> [u8; 9]
 }
 
 /// The ten-thousandths of a degree of a field, if it has a number at most a limit away from 0.
+#[inline(always)]
 fn degrees(limit: i32, field: &[u8; 9]) -> Option<i32>
     requires { pos 0 ≤ℤ limit }
     ensures { result ≡ stations.number_within (neg_ℤ limit) limit (numbers.scaled_field 4 field.now) }

@@ -1,13 +1,13 @@
 //! The listed stations, in the order of the list.
 
-ghost use Rattle.std.specs.Prelude.{◌≡◌, ◌≤◌, ◌<◌, ◌^◌, ◌++◌, ◌∷◌, [], length, slice_get, Ok, IfOk, IfSome};
+ghost use Rattle.std.specs.Prelude.{◌≡◌, ◌≤◌, ◌<◌, ◌^◌, ◌++◌, ◌∷◌, [], length, slice_get, Ok, IfOk, IfSome, true, false};
 ghost use Rattle.std.specs.Prelude.{OnOk, IfErr};
 ghost use Rattle.std.specs.List.{find};
 ghost use Rattle.std.specs.Option.{option_copied};
 ghost use Rattle.ghcn_files.specs.StationLines.{id_of, numbers_of, station_of};
 ghost use Rattle.ghcn_files.specs.Listed.{AreListed, is_station_of, place_of, listed};
 ghost use Rattle.ghcn_files.specs.Listed.{is_memory, IsFirstRefusal};
-ghost use Rattle.ghcn_files.specs.KeptStations.{key_with_place};
+ghost use Rattle.ghcn_files.specs.KeptStations.{IsAdded, key_with_place};
 ghost use Rattle.ghcn_fields.specs.Refusals.{IsRefusal};
 
 use crate::keys::{key, key_of_line, place_among, put_in_order};
@@ -44,6 +44,9 @@ impl Model for Stations {
 /// The most stations that a list may have.
 pub(crate) const MOST_STATIONS: usize = 1 << 20;
 
+/// The columns of a line up to the last one that is read.
+const READ_COLUMNS: usize = 71;
+
 impl Stations {
     /// Reads a station list, whose lines are those of the readme's `ghcnd-stations.txt`. Blank lines
     /// are skipped; the first line with an error decides.
@@ -67,14 +70,9 @@ impl Stations {
         let mut list = Vec::new(alloc);
         let mut keys = Vec::new(alloc);
         for (_, line) in lines(text) {
-            if !is_blank(line) {
-                let Ok(numbers) = Numbers::of_line(line) else {
-                    return Ok(None);
-                };
-                if list.len() >= MOST_STATIONS {
-                    return Ok(None);
-                }
-                push(&mut list, &mut keys, line, numbers)?;
+            // A blank line has an error by itself, and is found so.
+            if !add(&mut list, &mut keys, line)? && !is_blank(line) {
+                return Ok(None);
             }
         }
         if !put_in_order(&mut keys) {
@@ -135,8 +133,65 @@ impl Stations {
     }
 }
 
+/// Adds the station of a line and its key, or returns false if the line has an error by itself or there is no room.
+/// If the line has all columns that are read, the compiler knows so, and no place in it is tested again.
+#[inline(always)]
+fn add(
+    list: &mut Vec<Station>,
+    keys: &mut Vec<(u64, u32, u32)>,
+    line: &[u8],
+) -> Result<bool, Memory>
+    ensures added { IfOk result (λ added. added ≡ true →
+        IsAdded line.now list.old.items keys.old.items list.new.items keys.new.items) }
+    ensures list { IfOk result (λ added. added ≡ false → list.new.items ≡ list.old.items) }
+    ensures keys { IfOk result (λ added. added ≡ false → keys.new.items ≡ keys.old.items) }
+{
+    if line.len() < READ_COLUMNS {
+        return add_short(list, keys, line);
+    }
+    add_line(list, keys, line)
+}
+
+/// The same of a line that lacks some of these columns.
+#[inline(never)]
+fn add_short(
+    list: &mut Vec<Station>,
+    keys: &mut Vec<(u64, u32, u32)>,
+    line: &[u8],
+) -> Result<bool, Memory>
+    ensures added { IfOk result (λ added. added ≡ true →
+        IsAdded line.now list.old.items keys.old.items list.new.items keys.new.items) }
+    ensures list { IfOk result (λ added. added ≡ false → list.new.items ≡ list.old.items) }
+    ensures keys { IfOk result (λ added. added ≡ false → keys.new.items ≡ keys.old.items) }
+{
+    add_line(list, keys, line)
+}
+
+/// The same of any line.
+#[inline(always)]
+fn add_line(
+    list: &mut Vec<Station>,
+    keys: &mut Vec<(u64, u32, u32)>,
+    line: &[u8],
+) -> Result<bool, Memory>
+    ensures added { IfOk result (λ added. added ≡ true →
+        IsAdded line.now list.old.items keys.old.items list.new.items keys.new.items) }
+    ensures list { IfOk result (λ added. added ≡ false → list.new.items ≡ list.old.items) }
+    ensures keys { IfOk result (λ added. added ≡ false → keys.new.items ≡ keys.old.items) }
+{
+    let Ok(numbers) = Numbers::of_line(line) else {
+        return Ok(false);
+    };
+    if list.len() >= MOST_STATIONS {
+        return Ok(false);
+    }
+    push(list, keys, line, numbers)?;
+    Ok(true)
+}
+
 /// Puts the station of a line after the others, and its key after theirs. It is made once there is room for it, and
 /// so in the place in which it is kept.
+#[inline(always)]
 fn push(
     list: &mut Vec<Station>,
     keys: &mut Vec<(u64, u32, u32)>,
