@@ -252,6 +252,57 @@ fn names_are_made_printable(rt: HostRuntime) {
     assert_eq!(rt; names_of(rt.alloc(), text), Some(expected));
 }
 
+/// A line as NOAA's list has it, and its end.
+const WHOLE: &[u8; 86] =
+    b"ZZA00000001  10.1234  -20.5678  100.9 NY A NAME OF EXACTLY 30 COLUMNS   GSN     72503\n";
+
+#[test]
+fn a_whole_line_cut_to_each_length(rt: HostRuntime) {
+    for columns in 37..=85_usize {
+        let mut padded = [b' '; 85];
+        padded[..columns].copy_from_slice(&WHOLE[..columns]);
+        let mut name = [b' '; 30];
+        name.copy_from_slice(&padded[41..71]);
+        let found = names_of(rt.alloc(), &WHOLE[..columns]);
+        let expected = ([padded[38], padded[39]], name);
+        assert_eq!(rt; found, Some(expected), "at {columns} columns");
+    }
+}
+
+/// How many stations a list of four whole lines has, or why it is refused. Its IDs fall and rise, the last one is the
+/// second again, and a byte of the third line is another one.
+fn count_with(alloc: Global, column: usize, byte: u8) -> Option<Result<u64, StationsFault>> {
+    let mut text = Vec::new(alloc);
+    for digit in b"9252" {
+        let mut line = *WHOLE;
+        line[10] = *digit;
+        if *digit == b'5' {
+            *line.get_mut(column)? = byte;
+        }
+        text.extend_from_slice(&line).ok()?;
+    }
+    Some(count_of(alloc, &text))
+}
+
+#[test]
+fn first_faults_of_whole_lines_in_no_order(rt: HostRuntime) {
+    let cases: [(usize, u8, Result<u64, StationsFault>); 9] = [
+        (5, b' ', refused(3, BadId)),
+        (15, b'x', refused(3, BadLatitude)),
+        (16, b' ', refused(3, BadLatitude)),
+        (25, b'x', refused(3, BadLongitude)),
+        (29, b' ', refused(3, BadLongitude)),
+        (34, b'x', refused(3, BadElevation)),
+        (25, b'\n', refused(3, Short)),
+        (60, b'\t', refused(4, Duplicate)),
+        (80, b'\n', refused(4, Short)),
+    ];
+    for (column, byte, expected) in cases {
+        let found = count_with(rt.alloc(), column, byte);
+        assert_eq!(rt; found, Some(expected), "byte {byte} at {column}");
+    }
+}
+
 /// A station list of that many lines, whose IDs count up from 0.
 fn many_stations(alloc: Global, lines: u32) -> Result<Vec<u8>, AllocError> {
     let mut text = Vec::new(alloc);
