@@ -77,7 +77,7 @@ ready_zip asked ms id (g ∷ gs) (e ∷ es) right all = (
 ready_station : (asked : Keep) (ms : List Month) (id : StationId) (gs : List Gathering)
     → AllByRecursion IsMonth ms → AreByElement asked ms id gs → AllByRecursion IsReady gs
 ready_station asked ms id [] right all = tt
-ready_station asked ms id (g ∷ gs) right all = ready_zip asked ms id (g ∷ gs) elements right all
+ready_station asked ms id (g ∷ gs) right all = ready_zip asked ms id (g ∷ gs) elements right all.1
 
 -- each gathering of all stations can become a series
 pub all_ready : (asked : Keep) (ms : List Month) (ss : List Station) (gs : List StationGathering)
@@ -262,7 +262,7 @@ module _ (asked : Keep) (stations : List Station) (ms : List Month) where
       → AreByElement asked ms s.id gs → filter_map (gathered_series s.id) gs
       ≡ filter (is_kept_series asked) (filter has_days (map (usable_of facts s) elements))
   station_series-are s [] listed all = sym (ap (filter (is_kept_series asked)) (no_series s elements listed all))
-  station_series-are s (g ∷ gs) listed all = elements_series s (g ∷ gs) elements listed all
+  station_series-are s (g ∷ gs) listed all = elements_series s (g ∷ gs) elements listed all.1
 
   -- the series that are gathered are those of the facts that are kept
   pub series_are : (ss : List Station) (gs : List StationGathering)

@@ -21,17 +21,19 @@ use Rattle.ghcn_series.specs.declared.fault.DataFault.TheVariants.{DailyLine, To
 use Rattle.ghcn_series.specs.declared.fault.DataFault.{DataFault}
 use Rattle.ghcn_series.specs.Series.{DayValue, Usable, Contents, value_on, series_of}
 use Rattle.ghcn_series.specs.DailyFaults.{FileLine, file_lines, daily_lines, daily_fault}
+use Rattle.ghcn_series.specs.Counted.{after_files}
 use Rattle.ghcn_series.specs.Says.{in_64_bits, contents, contents_unless, data_of}
 use Rattle.ghcn_series.specs.Said.{facts_said, unlisted_said, IsMadeOf}
 use Rattle.ghcn_series.specs.Held.{IsContents}
 use Rattle.ghcn_series.specs.JoinedFiles.{files_together}
 use Rattle.ghcn_series.specs.Kept.{kept}
-use Rattle.ghcn_series.specs.LineKinds.{is_odd, odd_among}
+use Rattle.ghcn_series.specs.LineKinds.{is_odd, foreign_of, odd_among}
 use Rattle.ghcn_series.specs.Packed.{IsNextBlock, next_block}
 use Rattle.ghcn_series.proofs.Members.{of_each}
 use Rattle.ghcn_series.proofs.RightData.{data-are-right}
 use Rattle.ghcn_series.proofs.SaidSeries.{series_said}
-use Rattle.ghcn_series.specs.Fed.{Files, nothing_fed, more, with_end, files_of}
+use Rattle.ghcn_series.specs.LinesRead.{line_texts}
+use Rattle.ghcn_series.specs.Fed.{Files, nothing_fed, more, with_end, files_of, followed_by}
 
 -- ---- lines and stations
 
@@ -389,3 +391,26 @@ blank_is_not_odd = refl
 first_odd_line : (odd_among (daily_lines (text (codes "A" ∷ []) ∷ text (warm (codes "ZZA00000001202007TMAX") ∷ codes "A" ∷ [])
     ∷ [])) ≡ record { count = 2; first = Some (record { file = 0; line = 1 }) })
 first_odd_line = refl
+
+-- files that came, and then others: the current file of either, if it has a byte, is ended
+followed : (files_of (followed_by begun begun) ≡ [])
+    × (files_of (followed_by (with_end (more begun (codes "ab"))) (with_end begun)) ≡ codes "ab" ∷ [] ∷ [])
+    × (files_of (followed_by (more begun (codes "ab")) (more (with_end (more begun (codes "c"))) (codes "d")))
+    ≡ codes "ab" ∷ codes "c" ∷ codes "d" ∷ [])
+followed = (refl, refl, refl)
+
+-- lines with the same texts, whatever their numbers are
+texts_alone : line_texts (daily_lines (codes "a" ∷ codes "b" ∷ []))
+    ≡ line_texts (daily_lines (text (codes "a" ∷ [] ∷ codes "b" ∷ []) ∷ []))
+texts_alone = refl
+
+-- a foreign file after two others has a place that is two greater
+foreign_after_two : (foreign_of (codes "x" ∷ []) ≡ record { count = 1; first = Some 0 })
+    × (foreign_of ([] ∷ [] ∷ codes "x" ∷ []) ≡ record { count = 1; first = Some (0 + 2) })
+foreign_after_two = (refl, refl)
+
+-- so has the odd line of such a file
+odd_after_two : (odd_among (daily_lines (codes "x" ∷ [])) ≡ record { count = 1; first = Some (record { file = 0; line = 1 }) })
+    × (odd_among (daily_lines ([] ∷ [] ∷ codes "x" ∷ []))
+    ≡ record { count = 1; first = Some (after_files 2 (record { file = 0; line = 1 })) })
+odd_after_two = (refl, refl)

@@ -1,13 +1,15 @@
 -- The lines of files, of which one more line or file has come.
 use Rattle.std.proofs.Common.{◌≡◌, ℕ, ◌+◌, List, [], ◌∷◌, ◌++◌, length}
-use Rattle.std.proofs.Common.{ap, ◌∙◌, arith}
+use Rattle.std.proofs.Common.{ap, ◌∙◌, arith, map, filter, not, refl}
 use Rattle.std.specs.List.{flat_map, enumerate_from}
 use Rattle.std.proofs.lemmas.List.{append-nil, map-append}
 use Rattle.std.proofs.lemmas.List.Elements.{filter-append}
 use Rattle.std.proofs.lemmas.Grind.{flat_map-append}
+use Rattle.ghcn_fields.specs.Bytes.{is_blank}
 use Rattle.ghcn_fields.specs.Lines.{lines, numbered_lines, EndsLine}
 use Rattle.ghcn_files.proofs.LineLaws.{lines-append, enumerate_from-append}
-use Rattle.ghcn_series.specs.DailyFaults.{FileLine, not_blank, file_lines, daily_lines}
+use Rattle.ghcn_series.specs.DailyFaults.{FileLine, file_line, not_blank, file_lines, daily_lines}
+use Rattle.ghcn_series.specs.LinesRead.{line_texts}
 
 -- the numbered lines of a text that ends a line, and then others, numbered on
 numbered_lines-append : (whole rest : List ℕ) → EndsLine whole
@@ -34,6 +36,22 @@ file_lines-one file whole tail line ends one =
 pub lines_from : ℕ → List (List ℕ) → List FileLine
 lines_from n files = flat_map file_lines (enumerate_from n files)
 
+-- from the first file on, these are all lines
+pub lines_from-first : (files : List (List ℕ)) → lines_from 1 files ≡ daily_lines files
+unfolding lines_from
+lines_from-first files = refl
+
+-- no file has no lines
+pub lines_from-nil : (n : ℕ) → lines_from n [] ≡ []
+unfolding lines_from
+lines_from-nil n = refl
+
+-- the lines of a file, and of those after it
+pub lines_from-cons : (n : ℕ) (file : List ℕ) (files : List (List ℕ))
+    → lines_from n (file ∷ files) ≡ file_lines (n, file) ++ lines_from (n + 1) files
+unfolding lines_from
+lines_from-cons n file files = refl
+
 -- the lines of files, and of others after them
 pub daily_lines-append : (files others : List (List ℕ))
     → daily_lines (files ++ others) ≡ daily_lines files ++ lines_from (1 + length files) others
@@ -48,3 +66,27 @@ unfolding lines_from
 daily_lines-one files file =
     rw (daily_lines-append files (file ∷ []))
     (simp append-nil (ap (λ n. daily_lines files ++ file_lines (n, file)) (omega arith)))
+
+-- what is on the lines of a file doesn't depend on its number
+texts-numbered : (a b : ℕ) (ls : List (ℕ × List ℕ)) → line_texts (map (file_line a) ls) ≡ line_texts (map (file_line b) ls)
+texts-numbered a b [] = refl
+texts-numbered a b (l ∷ ls) = ap (λ (ts : List (List ℕ)). l.1 ∷ ts) (texts-numbered a b ls)
+
+-- nor does it on those of files
+texts-from : (a b : ℕ) (files : List (List ℕ)) → line_texts (lines_from a files) ≡ line_texts (lines_from b files)
+unfolding lines_from
+texts-from a b [] = refl
+texts-from a b (file ∷ files) =
+    let told = filter (λ (l : ℕ × List ℕ). not (is_blank l.1)) (numbered_lines file) in
+    rw (
+      map-append (λ (l : FileLine). l.bytes) (file_lines (a, file)) (lines_from (a + 1) files),
+      map-append (λ (l : FileLine). l.bytes) (file_lines (b, file)) (lines_from (b + 1) files),
+      texts-numbered a b told,
+      texts-from (a + 1) (b + 1) files,
+    )
+    refl
+
+-- on the lines of files from any number on is what is on them from the first on
+pub texts-renumbered : (n : ℕ) (files : List (List ℕ)) → line_texts (lines_from n files) ≡ line_texts (daily_lines files)
+unfolding lines_from
+texts-renumbered n files = texts-from n 1 files

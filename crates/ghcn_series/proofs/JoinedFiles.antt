@@ -2,16 +2,13 @@
 use Rattle.std.proofs.Common.{◌≡◌, ℕ, ◌+◌, Bool, true, false, cond, not, List, [], ◌∷◌, ◌++◌, length, map, filter}
 use Rattle.std.proofs.Common.{Option, None, Some, Ok, Err, refl, sym, ap, ◌∙◌, arith}
 use Rattle.std.specs.Prelude.{◌==◌, ◌&&◌, nat_le, ◌^◌}
-use Rattle.std.specs.List.{filter_map, flat_map, cons_option, enumerate_from, AllZip}
+use Rattle.std.specs.List.{filter_map, flat_map, AllZip}
 use Rattle.std.proofs.lemmas.Bool.{eqb-true, not-false}
 use Rattle.std.proofs.lemmas.Grind.{flat_map-append}
 use Rattle.std.proofs.lemmas.List.{map-append, append-nil}
 use Rattle.std.proofs.lemmas.List.Elements.{filter-append, filter_map-append}
 use Rattle.std.proofs.lemmas.List.Folds.{flat_map-map}
-use Rattle.ghcn_fields.specs.Bytes.{is_blank}
 use Rattle.ghcn_fields.specs.Faults.{first_fault}
-use Rattle.ghcn_fields.specs.Lines.{numbered_lines}
-use Rattle.ghcn_files.proofs.LineLaws.{enumerate_from-append}
 use Rattle.ghcn_fields.specs.Sorting.{sorted_by}
 use Rattle.ghcn_files.specs.declared.station.StationId.{StationId}
 use Rattle.ghcn_files.specs.declared.station.Station.{Station}
@@ -22,44 +19,24 @@ use Rattle.ghcn_files.specs.Elements.{same_element}
 use Rattle.ghcn_series.specs.declared.fault.DataFault.{DataFault}
 use Rattle.ghcn_series.specs.declared.fault.DataFault.TheVariants.{TooManyFiles}
 use Rattle.ghcn_series.specs.Series.{DayValue, Contents, by_day}
-use Rattle.ghcn_series.specs.DailyFaults.{FileLine, daily_lines, daily_fault, file_lines, file_line, month_on}
+use Rattle.ghcn_series.specs.DailyFaults.{FileLine, daily_lines, daily_fault, month_on}
 use Rattle.ghcn_series.specs.Says.{Fact, facts_of, is_usable, contents, contents_unless}
 use Rattle.ghcn_series.specs.JoinedFiles.{facts_in, HaveData, FactsOfParts}
+use Rattle.ghcn_series.proofs.FedLines.{lines_from, daily_lines-append, texts-renumbered}
+use Rattle.ghcn_series.proofs.ReadLines.{months-texts}
 use Rattle.ghcn_series.proofs.ReadySeries.{length-sorted}
 
 -- ---- the facts of files don't name them
-
--- the months on lines of a file don't depend on its number
-months-numbered : (a b : ℕ) (ls : List (ℕ × List ℕ))
-    → filter_map month_on (map (file_line a) ls) ≡ filter_map month_on (map (file_line b) ls)
-months-numbered a b [] = refl
-months-numbered a b (l ∷ ls) = ap (cons_option (month_on (file_line b l))) (months-numbered a b ls)
-
--- the lines of files, the first of this number
-abbrev lines_numbered : ℕ → List (List ℕ) → List FileLine
-lines_numbered n files = flat_map file_lines (enumerate_from n files)
-
--- the months of files don't depend on the number of the first
-months-from : (a b : ℕ) (files : List (List ℕ))
-    → filter_map month_on (lines_numbered a files) ≡ filter_map month_on (lines_numbered b files)
-months-from a b [] = refl
-months-from a b (file ∷ files) =
-    let told : List (ℕ × List ℕ) = filter (λ l. not (is_blank l.1)) (numbered_lines file) in
-    filter_map-append month_on (file_lines (a, file)) (lines_numbered (a + 1) files)
-    ∙ ap (λ (l : List Month). l ++ filter_map month_on (lines_numbered (a + 1) files)) (months-numbered a b told)
-    ∙ ap (λ (l : List Month). filter_map month_on (file_lines (b, file)) ++ l) (months-from (a + 1) (b + 1) files)
-    ∙ sym (filter_map-append month_on (file_lines (b, file)) (lines_numbered (b + 1) files))
 
 -- the months of files, and of others after them
 months-append : (files others : List (List ℕ)) → filter_map month_on (daily_lines (files ++ others))
     ≡ filter_map month_on (daily_lines files) ++ filter_map month_on (daily_lines others)
 months-append files others =
-    ap (λ (l : List (ℕ × List ℕ)). filter_map month_on (flat_map file_lines l)) (enumerate_from-append 1 files others)
-    ∙ ap (filter_map month_on) (flat_map-append file_lines (enumerate_from 1 files)
-    (enumerate_from (1 + length files) others))
-    ∙ filter_map-append month_on (daily_lines files) (lines_numbered (1 + length files) others)
+    let more = lines_from (1 + length files) others in
+    ap (filter_map month_on) (daily_lines-append files others)
+    ∙ filter_map-append month_on (daily_lines files) more
     ∙ ap (λ (l : List Month). filter_map month_on (daily_lines files) ++ l)
-    (months-from (1 + length files) 1 others)
+    (months-texts more (daily_lines others) (texts-renumbered (1 + length files) others))
 
 -- the facts of files, and of others after them
 pub facts-append : (stations : List Station) (files others : List (List ℕ))

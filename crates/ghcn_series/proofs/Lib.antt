@@ -22,6 +22,8 @@ pub mod StationMonths
 pub mod Places
 pub mod ReadMonths
 pub mod ReadLines
+pub mod JoinedMonths
+pub mod JoinedReads
 pub mod SeriesPlaces
 pub mod ReadySeries
 pub mod FactsOfMonths
@@ -30,6 +32,7 @@ pub mod ReadFiles
 pub mod FedLines
 pub mod FormOfLines
 pub mod CountedLines
+pub mod JoinedCounts
 pub mod AlikeLines
 pub mod AlikeMonths
 pub mod AlikeBeginnings
@@ -37,6 +40,7 @@ pub mod AlikeReads
 pub mod FedPieces
 pub mod FedCounts
 pub mod KeptFaults
+pub mod JoinedCutters
 pub mod FedFiles
 pub mod Examples
 pub mod JoinedLists

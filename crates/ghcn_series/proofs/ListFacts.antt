@@ -1,6 +1,6 @@
 -- Facts of all elements of a list.
 use Rattle.std.proofs.Common.{◌≡◌, ℕ, zero, suc, ◌<◌, List, [], ◌∷◌, ◌++◌, length, Some, subst, Bool, true, false}
-use Rattle.std.proofs.Common.{cond, filter}
+use Rattle.std.proofs.Common.{cond, filter, map, refl, ap}
 use Rattle.std.proofs.Common.{get_or, arith, sym}
 use Rattle.std.specs.List.{AllByRecursion, AllZip, slice_get, IsDistinct}
 use Rattle.std.proofs.Math.ListN.{set}
@@ -73,3 +73,30 @@ set_second R [] (z ∷ zs) k y new all here fits = absurd all
 set_second R (x ∷ xs) [] k y new all here fits = absurd all
 set_second R (x ∷ xs) (z ∷ zs) zero y new all here fits = (fits x (subst (R x) (sym here) all.0), all.1)
 set_second R (x ∷ xs) (z ∷ zs) (suc k) y new all here fits = (all.0, set_second R xs zs k y new all.1 here fits)
+
+-- what follows for two items follows for all that fit place by place
+pub zip-weaker : {A B : Type 0} (R S : A → B → Type 0) (xs : List A) (ys : List B) → ((x : A) (y : B) → R x y → S x y)
+    → AllZip R xs ys → AllZip S xs ys
+zip-weaker R S [] [] fits all = tt
+zip-weaker R S [] (y ∷ ys) fits all = absurd all
+zip-weaker R S (x ∷ xs) [] fits all = absurd all
+zip-weaker R S (x ∷ xs) (y ∷ ys) fits all = (fits x y all.0, zip-weaker R S xs ys fits all.1)
+
+-- a list whose images are those before one, this one, and those after it is split alike
+pub map_split : {A B : Type 0} (f : A → B) (xs : List A) (before : List B) (b : B) (after : List B)
+    → map f xs ≡ before ++ b ∷ after
+    → (front : List A) × (x : A) × (rest : List A) × (xs ≡ front ++ x ∷ rest) × (map f front ≡ before) × (f x ≡ b)
+map_split f [] [] b after e = absurd cc
+map_split f [] (y ∷ ys) b after e = absurd cc
+map_split f (x ∷ xs) [] b after e = ([], x, xs, refl, refl, cc)
+map_split f (x ∷ xs) (y ∷ ys) b after e =
+    let rest : map f xs ≡ ys ++ b ∷ after = cc in
+    let more = map_split f xs ys b after rest in
+    let same : f x ≡ y = cc in (
+      x ∷ more.0,
+      more.1,
+      more.2,
+      ap (λ (l : List _). x ∷ l) more.3,
+      rw (same, more.4) refl,
+      more.5,
+    )

@@ -2,7 +2,7 @@
 use Rattle.std.proofs.Common.{◌≡◌, ℕ, true, false, Bool, cond, List, [], ◌∷◌, ◌++◌, length, Option, None}
 use Rattle.std.proofs.Common.{Some, Ok, Err, refl, sym, ap, ◌∙◌, append_assoc}
 use Rattle.std.specs.Prelude.{◌&&◌, nat_lt}
-use Rattle.std.specs.List.{filter_map}
+use Rattle.std.specs.List.{filter_map, cons_option}
 use Rattle.std.specs.Option.{option_to_list, is_some}
 use Rattle.std.proofs.lemmas.List.{append-nil}
 use Rattle.std.proofs.lemmas.List.Elements.{filter_map-append}
@@ -26,6 +26,7 @@ use Rattle.ghcn_series.specs.DailyFaults.{FileLine, month_on, month_if_ok, repea
 use Rattle.ghcn_series.specs.DailyFaults.{daily_fault}
 use Rattle.ghcn_series.specs.Gathered.{HasReadFor, IsLineRefusal}
 use Rattle.ghcn_series.specs.LineKinds.{has_element}
+use Rattle.ghcn_series.specs.LinesRead.{line_texts}
 use Rattle.ghcn_series.specs.Steps.{ReadsMonth}
 
 module _ {L W : Type 0} (fault : List L → L → Option W) where
@@ -44,6 +45,20 @@ months-more : (before : List FileLine) (l : FileLine) (o : Option Month) → mon
     → filter_map month_on (before ++ l ∷ []) ≡ filter_map month_on before ++ option_to_list o
 months-more before l None is = rw (filter_map-append month_on before (l ∷ []), is) refl
 months-more before l (Some m) is = rw (filter_map-append month_on before (l ∷ []), is) refl
+
+-- the month that a line's text is
+abbrev month_in : List ℕ → Option Month
+month_in bytes = month_if_ok (read_month bytes)
+
+-- the months of lines are those of their texts
+months_in : (ls : List FileLine) → filter_map month_on ls ≡ filter_map month_in (line_texts ls)
+months_in [] = refl
+months_in (l ∷ ls) = ap (cons_option (month_on l)) (months_in ls)
+
+-- so lines with the same texts have the same months
+pub months-texts : (ls others : List FileLine) → line_texts ls ≡ line_texts others
+    → filter_map month_on ls ≡ filter_map month_on others
+months-texts ls others same = months_in ls ∙ ap (filter_map month_in) same ∙ sym (months_in others)
 
 -- ---- one line more
 

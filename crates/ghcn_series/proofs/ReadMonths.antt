@@ -30,7 +30,7 @@ use Rattle.ghcn_series.specs.Says.{in_64_bits}
 use Rattle.ghcn_series.specs.Gathered.{AreByElement, IsStationOf, HasRead}
 use Rattle.ghcn_series.specs.Parts.{AreEmpty}
 use Rattle.ghcn_series.specs.Steps.{GathersAt, StationKeepsMonths, KeepsRead, ReadsMonth}
-use Rattle.ghcn_series.proofs.StationMonths.{other_elements}
+use Rattle.ghcn_series.proofs.StationMonths.{other_elements, has_month-more}
 use Rattle.ghcn_series.proofs.Places.{ids, from_ids, listed-is}
 use Rattle.ghcn_files.proofs.IdLaws.{same_id-turned}
 
@@ -50,9 +50,11 @@ station-other asked before m s g other is =
         → AreByElement asked (before ++ m ∷ []) g.id gs
     kept [] apart holds = none_more before m g.id apart holds
     kept (x ∷ xs) apart holds =
-        let none = λ (e : Element). and_left (same_id m.id g.id) (same_element m.element e) apart in
-        other_elements asked before m g.id (x ∷ xs) elements
-        (none Prcp, (none Snow, (none Snwd, (none Tmax, (none Tmin, tt))))) holds
+        let none = λ (e : Element). and_left (same_id m.id g.id) (same_element m.element e) apart in (
+          has_month-more before m g.id holds.0,
+          other_elements asked before m g.id (x ∷ xs) elements
+              (none Prcp, (none Snow, (none Snwd, (none Tmax, (none Tmin, tt))))) holds.1,
+        )
 
 -- a month of none of these stations changes none of them
 stations-other : (asked : Keep) (before : List Month) (m : Month) (ss : List Station)

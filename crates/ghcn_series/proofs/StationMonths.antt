@@ -1,6 +1,6 @@
 -- The months of one station, by element.
 use Rattle.std.proofs.Common.{◌≡◌, ℕ, zero, suc, Bool, true, false, cond, not, List, [], ◌∷◌, ◌++◌, length, map, get_or}
-use Rattle.std.proofs.Common.{Some, refl, sym, ap, ◌∙◌}
+use Rattle.std.proofs.Common.{Some, refl, sym, ap, ◌∙◌, arith}
 use Rattle.std.specs.Prelude.{◌==◌, ◌&&◌, ◌||◌}
 use Rattle.std.specs.List.{list_any, slice_get, AllZip, AllByRecursion, IsDistinct}
 use Rattle.std.specs.Cmp.{nat_eq_equiv}
@@ -8,7 +8,8 @@ use Rattle.std.proofs.Math.ListN.{set}
 use Rattle.std.proofs.lemmas.Cmp.{nat_list_eq_equiv}
 use Rattle.std.proofs.lemmas.List.{append-nil}
 use Rattle.std.proofs.lemmas.List.Elements.{filter-append}
-use Rattle.std.proofs.lemmas.Bool.{and_right, or_parts, OnTrue_from, OnTrue_at}
+use Rattle.std.proofs.lemmas.List.Folds.{list_any-append}
+use Rattle.std.proofs.lemmas.Bool.{and_right, or_parts, or_right, OnTrue_from, OnTrue_at}
 use Rattle.std.proofs.lemmas.Slice.Zip.{AllZip-long}
 use Rattle.std.proofs.Math.Bool.{and_assoc}
 use Rattle.std.specs.Bool.{OnTrue}
@@ -23,7 +24,8 @@ use Rattle.ghcn_files.specs.Ids.{same_id}
 use Rattle.ghcn_files.specs.Elements.{elements, same_element, element_index, is_kept}
 use Rattle.ghcn_series.specs.declared.gathering.Gathering.{Gathering}
 use Rattle.ghcn_series.specs.DailyFaults.{same_month}
-use Rattle.ghcn_series.specs.Gathered.{same_time, months_of, IsGathering, IsGatheringOf, AreByElement}
+use Rattle.ghcn_series.specs.Gathered.{same_time, has_month_of, months_of, IsGathering, IsGatheringOf}
+use Rattle.ghcn_series.specs.Gathered.{AreByElement}
 use Rattle.ghcn_files.proofs.IdLaws.{same_id-turned}
 use Rattle.ghcn_series.specs.Steps.{Gathers, GathersSome, GathersNothing, KeepsMonths, Opens}
 
@@ -57,7 +59,13 @@ pub by_element-new : (asked : Keep) (months : List Month) (id : StationId) (befo
 by_element-new asked months id [] after few is elements_are all =
     empty_zip asked months id after elements is elements_are all
 by_element-new asked months id (g ∷ gs) after few is elements_are all = absurd
-    (few (sym (AllZip-long (IsGatheringOf asked months id) (g ∷ gs) elements is)))
+    (few (sym (AllZip-long (IsGatheringOf asked months id) (g ∷ gs) elements is.1)))
+
+-- five gatherings fit the elements
+pub by_element-five : (asked : Keep) (months : List Month) (id : StationId) (gs : List Gathering) → length gs ≡ 5
+    → AreByElement asked months id gs → AllZip (IsGatheringOf asked months id) gs elements
+by_element-five asked months id [] five is = absurd (omega (arith, five))
+by_element-five asked months id (g ∷ gs) five is = is.1
 
 -- two elements are the same in both directions
 same_element-turned : (a b : Element) → same_element a b ≡ same_element b a
@@ -184,11 +192,24 @@ repeats-is (x ∷ xs) m = rw (
   repeats-is xs m,
 ) (any_if (same_time m) (same_id x.id m.id) (same_element x.element m.element) x (months_of xs m.id m.element))
 
--- five gatherings are gatherings by element
+-- five gatherings are gatherings by element, if there is a month
 kept_by_element : (asked : Keep) (months : List Month) (id : StationId) (gs : List Gathering)
-    → AllZip (IsGatheringOf asked months id) gs elements → AreByElement asked months id gs
-kept_by_element asked months id [] is = absurd is
-kept_by_element asked months id (g ∷ gs) is = is
+    → has_month_of months id ≡ true → AllZip (IsGatheringOf asked months id) gs elements
+    → AreByElement asked months id gs
+kept_by_element asked months id [] some is = absurd is
+kept_by_element asked months id (g ∷ gs) some is = (some, is)
+
+-- a station has a month of its own
+has_month-own : (before : List Month) (m : Month) (id : StationId) → m.id ≡ id
+    → has_month_of (before ++ m ∷ []) id ≡ true
+has_month-own before m id of =
+    rw (list_any-append (λ x. same_id x.id id) before (m ∷ []), of, nat_list_eq_equiv.refl id.0)
+    (or_right (has_month_of before id) true refl)
+
+-- and still has one after a month more
+pub has_month-more : (before : List Month) (m : Month) (id : StationId) → has_month_of before id ≡ true
+    → has_month_of (before ++ m ∷ []) id ≡ true
+has_month-more before m id some = rw (list_any-append (λ x. same_id x.id id) before (m ∷ []), some) refl
 
 -- gatherings by element, of which one has the months that it had
 pub settled_at : (asked : Keep) (before : List Month) (id : StationId) (gs : List Gathering) (k : ℕ)
@@ -196,8 +217,8 @@ pub settled_at : (asked : Keep) (before : List Month) (id : StationId) (gs : Lis
     → AreByElement asked before id gs → AreByElement asked before id (set gs k new)
 settled_at asked before id [] k g new here same keeps is = is
 settled_at asked before id (x ∷ xs) k g new here same keeps is =
-    kept_by_element asked before id (set (x ∷ xs) k new)
-    (set_first (IsGatheringOf asked before id) (x ∷ xs) elements k g new is here (λ e of.
+    kept_by_element asked before id (set (x ∷ xs) k new) is.0
+    (set_first (IsGatheringOf asked before id) (x ∷ xs) elements k g new is.1 here (λ e of.
     record { element = same ∙ of.element; holds = keeps.holds (is_kept asked e) (months_of before id e) of.holds }))
 
 -- one month more of a station, unless it was read before, if the gathering of its element adds it
@@ -217,6 +238,6 @@ station-more asked m old mid k g now added of opens place here same adds before 
     ∙ ap (λ (i : StationId). list_any (same_time m) (months_of before i m.element)) of in (
       adds.is_new months own ∙ ap not (sym repeated),
       OnTrue_from added _ (λ yes. kept_by_element asked (before ++ m ∷ []) old.id (set five k now)
-          (put_gathering asked before m old.id five elements k g now of elements_differ all at here same
+          (has_month-own before m old.id of) (put_gathering asked before m old.id five elements k g now of elements_differ all at here same
           (OnTrue_at yes (adds.holds months own)))),
     )

@@ -1,7 +1,7 @@
 -- What is counted on lines that are read one after another.
 use Rattle.std.specs.Prelude.{◌≡◌, ℕ, ◌+◌, ◌++◌, ◌||◌, not, if◌then◌else◌, List, length, Some}
 use Rattle.std.specs.List.{list_any, count_by}
-use Rattle.std.specs.Option.{option_or}
+use Rattle.std.specs.Option.{option_or, option_map}
 use Rattle.ghcn_fields.specs.Bytes.{is_blank}
 use Rattle.ghcn_fields.specs.Lines.{lines}
 use Rattle.ghcn_series.specs.declared.counts.Foreign.{Foreign}
@@ -38,3 +38,17 @@ pub record CountsLine (old new : LineCounts) (place : LinePlace) (line : List �
 pub record AddsForeign (old new : Foreign) (place : ℕ) : Type 0 where
   pub count : new.count ≡ in_64_bits (old.count + 1)
   pub first : new.first ≡ option_or old.first (Some place)
+
+-- the foreign files of some files, and of others after that many files
+pub record JoinsForeign (these others : Foreign) (place : ℕ) (both : Foreign) : Type 0 where
+  pub count : both.count ≡ these.count + others.count
+  pub first : both.first ≡ option_or these.first (option_map (λ n. n + place) others.first)
+
+-- the place of a line of a file that comes after that many more files
+abbrev pub after_files : ℕ → LinePlace → LinePlace
+after_files count place = record { file = place.file + count; line = place.line }
+
+-- the odd lines of some files, and of others after that many files
+pub record JoinsOdd (these others : OddLines) (place : ℕ) (both : OddLines) : Type 0 where
+  pub count : both.count ≡ these.count + others.count
+  pub first : both.first ≡ option_or these.first (option_map (after_files place) others.first)

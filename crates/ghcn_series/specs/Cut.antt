@@ -1,5 +1,5 @@
 -- What a cutter of daily files stands for, and what each of its steps adds.
-use Rattle.std.specs.Prelude.{◌≡◌, ℕ, ◌+◌, ◌^◌, ◌≤◌, Bool, ◌&&◌, nat_lt, nat_le, List, [], ◌++◌, length, Option}
+use Rattle.std.specs.Prelude.{◌≡◌, ℕ, ◌+◌, ◌^◌, ◌≤◌, Bool, ◌&&◌, not, nat_lt, nat_le, List, [], ◌++◌, length, Option}
 use Rattle.std.specs.Prelude.{None, Some, is_none}
 use Rattle.std.specs.Str.Lines.{strip_carriage_return}
 use Rattle.ghcn_fields.specs.Lines.{lines, HasNoLineFeed, EndsLine}
@@ -10,9 +10,9 @@ use Rattle.ghcn_series.specs.declared.fault.DataFault.{DataFault}
 use Rattle.ghcn_series.specs.Alike.{BeginAlike}
 use Rattle.ghcn_series.specs.Counted.{HaveCounted, CountsLine}
 use Rattle.ghcn_series.specs.DailyFaults.{FileLine, one_line, file_lines, daily_lines, is_memory, IsFirstRefusal}
-use Rattle.ghcn_series.specs.Fed.{Files, Fed, more, with_end, with_files, files_of}
+use Rattle.ghcn_series.specs.Fed.{Files, Fed, more, with_end, with_files, files_of, followed_by}
 use Rattle.ghcn_series.specs.Gathered.{IsLineRefusal}
-use Rattle.ghcn_series.specs.LinesRead.{Reading, Making, Reads, Refuses}
+use Rattle.ghcn_series.specs.LinesRead.{Reading, Making, Reads, Refuses, HaveOneStation}
 use Rattle.ghcn_series.specs.Says.{in_64_bits, data_of}
 
 -- the lines of files up to here: those of the ended files, and these whole ones of the current file
@@ -77,6 +77,35 @@ pub record TakesPiece {L : Type 0} (has_read : Reading L) (old new : Cutter L) (
 -- a cutter ends the current file
 pub record EndsFile {L : Type 0} (has_read : Reading L) (old new : Cutter L) : Type 0 where
   pub holds : (fed : Fed) → HasFed has_read old fed → HasFed has_read new (with_files fed (with_end fed.files))
+
+-- a cutter has read all files that came, or it hasn't: it has no error, they are few enough, and all are ended
+pub record LooksAtAll {L : Type 0} (c : Cutter L) (all : Bool) : Type 0 where
+  pub is : (files : Files) → HasCounted c files
+      → all ≡ (not c.begun && (is_none c.fault && nat_le (length (files_of files)) (2 ^ 20)))
+
+-- two cutters were fed files for the same stations, and keep the values of the same elements
+pub record WereFedAlike {L : Type 0} (has_read : Reading L) (first next : Cutter L) : Type 0 where
+  pub fed : Fed
+  pub files : Files
+  pub of_first : HasFed has_read first fed
+  pub of_next : HasFed has_read next (with_files fed files)
+
+-- a cutter was fed what a first one was fed, and then the files that a next one was fed
+pub record Joins {L : Type 0} (has_read : Reading L) (first next both : Cutter L) : Type 0 where
+  pub holds : (fed : Fed) (files : Files) → HasFed has_read first fed → HasFed has_read next (with_files fed files)
+      → HasFed has_read both (with_files fed (followed_by fed.files files))
+
+-- a cutter has read these files to their end: it keeps no error, they are few enough, and all of them are ended
+pub record HasReadAll {L : Type 0} (c : Cutter L) (files : Files) : Type 0 where
+  pub right : c.fault ≡ None
+  pub few : length (files_of files) ≤ 2 ^ 20
+  pub ended : files.current ≡ []
+
+-- two cutters stay apart: one hasn't read its files to their end, or a listed station has months in the files of both
+pub record StayApart {L : Type 0} (has_read : Reading L) (first next : Cutter L) : Type 0 where
+  pub why : (fed : Fed) (files : Files) → HasFed has_read first fed → HasFed has_read next (with_files fed files)
+      → HasReadAll first fed.files → HasReadAll next files
+      → HaveOneStation fed.stations (daily_lines (files_of fed.files)) (daily_lines (files_of files))
 
 -- these files, which are few enough, are read to the end, and counted
 pub record AreRead {L : Type 0} (has_read : Reading L) (fed : Fed) (files : List (List ℕ)) (all : Cut L) : Type 0 where

@@ -45,6 +45,10 @@ nothing_fed keep stations = record { keep = keep; stations = stations; files = e
 abbrev pub with_files : Fed → Files → Fed
 with_files fed files = record { keep = fed.keep; stations = fed.stations; files = files }
 
+-- the files that came, and then others, all of them ended
+abbrev pub followed_by : Files → Files → Files
+followed_by files others = ended_files (files_of files ++ files_of others)
+
 -- the error is out of memory
 abbrev pub IsOfMemory : DataFault → Type 0
 IsOfMemory (Memory m) = ⊤

@@ -74,6 +74,10 @@ pub record IsGathering (kept : Bool) (g : Gathering) (months : List Month) : Typ
   pub values : (d : ℤ) → value_on (gathered_days g) d ≡ value_on (kept_days kept months) d
   pub distinct : IsDistinct same_time months
 
+-- some of these months belongs to a station
+abbrev pub has_month_of : List Month → StationId → Bool
+has_month_of months id = list_any (λ m. same_id m.id id) months
+
 -- the months of a station and element
 abbrev pub months_of : List Month → StationId → Element → List Month
 months_of months id e = filter (λ m. same_id m.id id && same_element m.element e) months
@@ -84,10 +88,11 @@ pub record IsGatheringOf (asked : Keep) (months : List Month) (id : StationId) (
   pub element : g.element ≡ e
   pub holds : IsGathering (is_kept asked e) g (months_of months id e)
 
--- gatherings by element have what these months say of a station; if there are none, the station has no month
+-- gatherings by element have what these months say of a station: there are some if and only if it has a month
 abbrev pub AreByElement : Keep → List Month → StationId → List Gathering → Type 0
-AreByElement asked months id [] = list_any (λ m. same_id m.id id) months ≡ false
-AreByElement asked months id (g ∷ gs) = AllZip (IsGatheringOf asked months id) (g ∷ gs) elements
+AreByElement asked months id [] = has_month_of months id ≡ false
+AreByElement asked months id (g ∷ gs) =
+    (has_month_of months id ≡ true) × AllZip (IsGatheringOf asked months id) (g ∷ gs) elements
 
 -- a station's gathering has what these months say of it
 pub record IsStationOf (asked : Keep) (months : List Month) (s : Station) (g : StationGathering) : Type 0

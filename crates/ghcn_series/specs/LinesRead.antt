@@ -1,5 +1,6 @@
 -- What a reader of lines has read, and what one step of its reading adds.
-use Rattle.std.specs.Prelude.{◌≡◌, ℕ, ◌^◌, ◌≤◌, ◌++◌, List, [], ◌∷◌, length}
+use Rattle.std.specs.Prelude.{◌≡◌, ℕ, ◌^◌, ◌≤◌, ◌++◌, true, List, [], ◌∷◌, length, map}
+use Rattle.std.specs.List.{Contains, filter_map}
 use Rattle.std.specs.Str.Lines.{strip_carriage_return}
 use Rattle.ghcn_files.specs.declared.element.Keep.{Keep}
 use Rattle.ghcn_files.specs.declared.station.Station.{Station}
@@ -7,8 +8,8 @@ use Rattle.ghcn_series.specs.declared.counts.LineCounts.{LineCounts}
 use Rattle.ghcn_series.specs.declared.fault.DataFault.{DataFault}
 use Rattle.ghcn_series.specs.Alike.{AreAlike}
 use Rattle.ghcn_series.specs.Counted.{HaveCounted}
-use Rattle.ghcn_series.specs.DailyFaults.{FileLine, file_line, one_line, daily_lines}
-use Rattle.ghcn_series.specs.Gathered.{IsLineRefusal}
+use Rattle.ghcn_series.specs.DailyFaults.{FileLine, file_line, one_line, daily_lines, month_on}
+use Rattle.ghcn_series.specs.Gathered.{IsLineRefusal, has_month_of}
 
 -- when a reader has read lines: with these stations listed, if the values of these elements are kept
 abbrev pub Reading : Type 0 → Type 1
@@ -61,3 +62,34 @@ pub record Finishes {L D : Type 0} (has_read : Reading L) (makes : Making D) (r 
   pub is : (stations : List Station) (keep : Keep) (files : List (List ℕ)) → length files ≤ 2 ^ 20
       → has_read r stations keep (daily_lines files) → number ≡ length files → HaveCounted counts files []
       → makes stations keep files done
+
+-- two readers have read lines for the same stations, and keep the values of the same elements
+pub record HaveReadAlike {L : Type 0} (has_read : Reading L) (first next : L) : Type 0 where
+  pub stations : List Station
+  pub keep : Keep
+  pub lines : List FileLine
+  pub more : List FileLine
+  pub of_first : has_read first stations keep lines
+  pub of_next : has_read next stations keep more
+
+-- what is on lines, whatever their numbers are
+abbrev pub line_texts : List FileLine → List (List ℕ)
+line_texts ls = map (λ l. l.bytes) ls
+
+-- a reader has read what a first one has read, and then what a next one has read, under whatever numbers
+pub record JoinsLines {L : Type 0} (has_read : Reading L) (first next both : L) : Type 0 where
+  pub holds : (stations : List Station) (keep : Keep) (ls more numbered : List FileLine)
+      → has_read first stations keep ls → has_read next stations keep more
+      → line_texts numbered ≡ line_texts more → has_read both stations keep (ls ++ numbered)
+
+-- a listed station has months on these lines and on others
+pub record HaveOneStation (stations : List Station) (ls others : List FileLine) : Type 0 where
+  pub station : Station
+  pub listed : Contains stations station
+  pub has : has_month_of (filter_map month_on ls) station.id ≡ true
+  pub has_too : has_month_of (filter_map month_on others) station.id ≡ true
+
+-- two readers have read months of one listed station
+pub record ReadOneStation {L : Type 0} (has_read : Reading L) (first next : L) : Type 0 where
+  pub share : (stations : List Station) (keep : Keep) (ls more : List FileLine) → has_read first stations keep ls
+      → has_read next stations keep more → HaveOneStation stations ls more

@@ -1,8 +1,9 @@
 -- What each step of the reading adds to what was read before it.
-use Rattle.std.specs.Prelude.{◌≡◌, ◌++◌, ◌∷◌, [], ◌&&◌, ◌⊎◌, not, Bool, true, List}
+use Rattle.std.specs.Prelude.{◌≡◌, ◌++◌, ◌∷◌, [], ◌&&◌, ◌⊎◌, not, Bool, true, false, List}
 use Rattle.std.specs.Bool.{OnTrue}
-use Rattle.std.specs.List.{list_any, AllZip}
+use Rattle.std.specs.List.{list_any, AllZip, AllByRecursion, Contains}
 use Rattle.ghcn_files.specs.declared.month.Month.{Month}
+use Rattle.ghcn_files.specs.declared.station.Station.{Station}
 use Rattle.ghcn_files.specs.declared.row.MonthRow.{MonthRow}
 use Rattle.ghcn_files.specs.declared.element.Keep.{Keep}
 use Rattle.ghcn_files.specs.Elements.{elements}
@@ -15,7 +16,8 @@ use Rattle.ghcn_series.specs.Series.{Contents}
 use Rattle.ghcn_series.specs.DailyFaults.{FileLine, same_month, is_listed}
 use Rattle.ghcn_series.specs.Says.{contents}
 use Rattle.ghcn_series.specs.Kept.{kept}
-use Rattle.ghcn_series.specs.Gathered.{same_time, IsGathering, IsGatheringOf, AreByElement, HasRead, HasReadLines}
+use Rattle.ghcn_series.specs.Gathered.{same_time, has_month_of, IsGathering, IsGatheringOf, AreByElement, IsStationOf}
+use Rattle.ghcn_series.specs.Gathered.{HasRead, HasReadLines}
 
 -- the row is that of some month, whose days are kept or aren't
 abbrev pub IsOfMonth : Bool → MonthRow → Type 0
@@ -75,6 +77,39 @@ pub record GathersAt (asked : Keep) (old new : StationGathering) (m : Month) (ad
       → added ≡ not (list_any (same_month m) before)
   pub holds : (before : List Month) → AreByElement asked before old.id old.by_element.items
       → OnTrue added (AreByElement asked (before ++ m ∷ []) old.id new.by_element.items)
+
+-- a station has months in at most one of two lists
+abbrev pub AreApart : List Month → List Month → Station → Type 0
+AreApart ms others s = (has_month_of ms s.id && has_month_of others s.id) ≡ false
+
+-- a station has months in both of two lists
+pub record HaveBoth (ms others : List Month) (s : Station) : Type 0 where
+  pub has : has_month_of ms s.id ≡ true
+  pub has_too : has_month_of others s.id ≡ true
+
+-- a station takes over the months of another gathering of it, of which one has none
+pub record JoinsStation (old other new : StationGathering) : Type 0 where
+  pub apart : (asked : Keep) (ms others : List Month) (s : Station) → IsStationOf asked ms s old
+      → IsStationOf asked others s other → AreApart ms others s
+  pub holds : (asked : Keep) (ms others : List Month) (s : Station) → IsStationOf asked ms s old
+      → IsStationOf asked others s other → IsStationOf asked (ms ++ others) s new
+
+-- two gatherings of a station both have months
+pub record BothHaveMonths (one other : StationGathering) : Type 0 where
+  pub are : (asked : Keep) (ms others : List Month) (s : Station) → IsStationOf asked ms s one
+      → IsStationOf asked others s other → HaveBoth ms others s
+
+-- stations take over the months of other gatherings of them, of which each time one has none
+pub record JoinStations (olds others news : List StationGathering) : Type 0 where
+  pub apart : (asked : Keep) (ms more : List Month) (ss : List Station) → AllZip (IsStationOf asked ms) ss olds
+      → AllZip (IsStationOf asked more) ss others → AllByRecursion (AreApart ms more) ss
+  pub holds : (asked : Keep) (ms more : List Month) (ss : List Station) → AllZip (IsStationOf asked ms) ss olds
+      → AllZip (IsStationOf asked more) ss others → AllZip (IsStationOf asked (ms ++ more)) ss news
+
+-- one of these stations has months in both of its gatherings
+pub record OneHasBoth (olds others : List StationGathering) : Type 0 where
+  pub one : (asked : Keep) (ms more : List Month) (ss : List Station) → AllZip (IsStationOf asked ms) ss olds
+      → AllZip (IsStationOf asked more) ss others → (s : Station) × Contains ss s × HaveBoth ms more s
 
 -- a reader reads a month, unless its station is listed and has that month
 pub record ReadsMonth (old new : Reader) (m : Month) (added : Bool) : Type 0 where

@@ -4,6 +4,7 @@ ghost use Rattle.std.specs.Prelude.{◌≡◌, ℕ, ◌≤◌, ◌^◌, ◌&&◌
 ghost use Rattle.ghcn_fields.specs.Lines as text;
 ghost use Rattle.ghcn_series.specs.LineKinds.{line_kind, foreign_of, odd_among, warnings_of};
 ghost use Rattle.ghcn_series.specs.Counted.{HaveCounted, CountsLine, AddsForeign, with_odd};
+ghost use Rattle.ghcn_series.specs.Counted.{JoinsForeign, JoinsOdd};
 
 /// What is on a line of daily files.
 #[derive(Clone, Copy, Debug, PartialEq, Eq)]
@@ -43,6 +44,18 @@ impl Foreign {
     {
         self.count = self.count.saturating_add(1);
         self.first = self.first.or(Some(place));
+    }
+
+    /// These, and those of other files that come after that many files, unless a number gets too great.
+    fn join(self, next: Self, place: u64) -> Option<Self>
+        ensures { IfSome result (JoinsForeign self next place) }
+    {
+        let count = self.count.checked_add(next.count)?;
+        let first = match (self.first, next.first) {
+            (None, Some(first)) => Some(first.checked_add(place)?),
+            (first, _) => first,
+        };
+        Some(Foreign { count, first })
     }
 }
 
@@ -84,6 +97,21 @@ impl OddLines {
         self.count = self.count.checked_add(1)?;
         self.first = self.first.or(Some(LinePlace { file, line }));
         Some(())
+    }
+
+    /// These, and those of other files that come after that many files, unless a number gets too great.
+    fn join(self, next: Self, place: u64) -> Option<Self>
+        ensures { IfSome result (JoinsOdd self next place) }
+    {
+        let count = self.count.checked_add(next.count)?;
+        let first = match (self.first, next.first) {
+            (None, Some(LinePlace { file, line })) => Some(LinePlace {
+                file: file.checked_add(place)?,
+                line,
+            }),
+            (first, _) => first,
+        };
+        Some(OddLines { count, first })
     }
 }
 
@@ -171,6 +199,25 @@ impl LineCounts {
         self.has_line = false;
         self.has_element = false;
         Some(())
+    }
+
+    /// These counts, and those of other files that come after that many files, all of them ended, unless a number
+    /// gets too great.
+    pub(crate) fn join(self, next: Self, place: u64) -> Option<Self>
+        ensures { IfSome result (λ both. (files others : List (List ℕ)) → place ≡ length files
+            → HaveCounted self files [] → HaveCounted next others [] → HaveCounted both (files ++ others) []) }
+    {
+        let (foreign, odd) = (self.warnings.foreign, self.warnings.odd);
+        Some(LineCounts {
+            lines: self.lines.checked_add(next.lines)?,
+            blank: self.blank.checked_add(next.blank)?,
+            warnings: Warnings {
+                foreign: foreign.join(next.warnings.foreign, place)?,
+                odd: odd.join(next.warnings.odd, place)?,
+            },
+            has_line: false,
+            has_element: false,
+        })
     }
 
     /// Whether the current file is foreign, as far as its lines have come.

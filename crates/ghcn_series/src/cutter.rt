@@ -1,6 +1,6 @@
 //! Cuts daily files that come in pieces into lines, for a reader of lines.
 
-ghost use Rattle.std.specs.Prelude.{◌≡◌, [], ◌++◌, ◌^◌, ◌<◌, ◌≤◌, length, List, IfOk, IfErr, OnOk};
+ghost use Rattle.std.specs.Prelude.{◌≡◌, [], ◌++◌, ◌^◌, ◌<◌, ◌≤◌, length, List, IfOk, IfErr, IfSome, IfNone, OnOk};
 ghost use Rattle.std.specs.Str.Lines.{strip_carriage_return};
 ghost use Rattle.ghcn_series.specs.Alike.{BeginAlike};
 ghost use Rattle.ghcn_series.specs.Cut as cut;
@@ -55,6 +55,19 @@ pub trait LineReader: Drop {
     fn finish(self, alloc: Global, files: u64, counts: &LineCounts) -> Result<Self::Done, Memory>
         requires { HasReadSome has_read self }
         ensures { IfOk result (Finishes has_read makes self files counts.now) };
+}
+
+/// A reader of lines that another one can be joined to.
+pub trait JoinLines: LineReader {
+    ghost use Rattle.std.specs.Prelude.{IfOk, IfSome, IfNone};
+    ghost use Rattle.ghcn_series.specs.LinesRead.{HaveReadAlike, JoinsLines, ReadOneStation};
+
+    /// One reader in place of two: it has read the lines of this one, and then those of the next one. Or none, if
+    /// a listed station has months in both.
+    fn join(self, next: Self) -> Result<Option<Self>, Memory>
+        requires { HaveReadAlike Self.has_read self next }
+        ensures joined { IfOk result (λ both. IfSome both (JoinsLines Self.has_read self next)) }
+        ensures apart { IfOk result (λ both. IfNone both (ReadOneStation Self.has_read self next)) };
 }
 
 /// Cuts daily files into lines, in their order, each file in pieces that may end anywhere. The first error is kept,
@@ -267,6 +280,41 @@ impl<L: LineReader> Cutter<L> {
         ensures fault { IfErr result IsOfMemory }
     {
         keep(&mut self.rest, bytes)
+    }
+}
+
+impl<L: JoinLines> Cutter<L> {
+    /// One cutter in place of two: it was fed the files of this one, and then those of the next one. Or none, if one of
+    /// the two keeps an error, was fed too many files or a part of one, or if a listed station has months in both.
+    pub fn join(self, next: Self) -> Result<Option<Self>, Memory>
+        requires { cut.WereFedAlike L.has_read self next }
+        ensures joined { IfOk result (λ both. IfSome both (cut.Joins L.has_read self next)) }
+        ensures going { IfOk result (λ both. IfSome both (cut.HasFedSome L.has_read)) }
+        ensures apart { IfOk result (λ both. IfNone both (cut.StayApart L.has_read self next)) }
+    {
+        if !self.has_read_all() || !next.has_read_all() {
+            return Ok(None);
+        }
+        let Some(reader) = self.reader.join(next.reader)? else {
+            return Ok(None);
+        };
+        Ok(Some(Cutter {
+            alloc: self.alloc,
+            reader,
+            counts: self.counts.join(next.counts, self.ended).ok_or(Memory)?,
+            ended: self.ended.saturating_add(next.ended),
+            begun: false,
+            line: 0,
+            rest: Vec::new(self.alloc),
+            fault: None,
+        }))
+    }
+
+    /// Whether all files that came are ended, and their lines were looked at.
+    fn has_read_all(&self) -> bool
+        ensures { cut.LooksAtAll self.now result }
+    {
+        !self.begun && self.is_reading()
     }
 }
 

@@ -22,7 +22,7 @@ mod series;
 mod station;
 
 pub use counts::{Foreign, LineCounts, LineKind, LinePlace, OddLines, Warnings};
-pub use cutter::{Cutter, LineReader};
+pub use cutter::{Cutter, JoinLines, LineReader};
 pub use data::Data;
 pub use days::{BlockDays, Days};
 pub use fault::{DailyWhy, DataFault};

@@ -1,12 +1,14 @@
 //! Reads the lines of daily files one after another.
 
-ghost use Rattle.std.specs.Prelude.{◌≡◌, IfOk, OnOk};
+ghost use Rattle.std.specs.Prelude.{◌≡◌, length, IfOk, OnOk};
+ghost use Rattle.std.specs.Bool.{OnTrue, OnFalse};
 ghost use Rattle.ghcn_files.specs.Elements.{is_kept};
 ghost use Rattle.ghcn_files.specs.Listed.{AreListed, place_of};
 ghost use Rattle.ghcn_series.specs.Steps.{HasSomeLines, ReadsMonth, KeepsRead, HoldsAll, IsForMonth, ForMonth};
+ghost use Rattle.ghcn_series.specs.Steps.{JoinStations, OneHasBoth};
 
 use crate::counts::{LineCounts, Warnings};
-use crate::cutter::LineReader;
+use crate::cutter::{JoinLines, LineReader};
 use crate::parts::Parts;
 use crate::station::StationGathering;
 use crate::{DailyWhy, Data, DataFault};
@@ -89,6 +91,16 @@ impl LineReader for Reader {
     }
 }
 
+impl JoinLines for Reader {
+    fn join(mut self, mut next: Self) -> Result<Option<Self>, Memory> {
+        if !join_stations(&mut self.gathered, &mut next.gathered) {
+            return Ok(None);
+        }
+        self.unlisted = self.unlisted.saturating_add(next.unlisted);
+        Ok(Some(self))
+    }
+}
+
 impl Reader {
     /// The data of all lines that were read.
     fn into_data(self, alloc: Global) -> Result<Data, Memory>
@@ -162,6 +174,20 @@ impl Reader {
             }
         }
     }
+}
+
+/// Takes over the months of other gatherings of the same stations, or returns false if a station has months in both.
+fn join_stations(stations: &mut [StationGathering], others: &mut [StationGathering]) -> bool
+    requires { length others.old ≡ length stations.old }
+    ensures joined { OnTrue result (JoinStations stations.old others.old stations.new) }
+    ensures apart { OnFalse result (OneHasBoth stations.old others.old) }
+{
+    for place in 0..stations.len() {
+        if !stations[place].join(&mut others[place]) {
+            return false;
+        }
+    }
+    true
 }
 
 /// The error of a line.

@@ -1,7 +1,7 @@
 //! Reads the lines of daily files as rows, and adds these.
 
 use crate::counts::{LineCounts, Warnings};
-use crate::cutter::LineReader;
+use crate::cutter::{JoinLines, LineReader};
 use crate::reader::{Reader, refused};
 use crate::{DailyWhy, Data, DataFault};
 use ghcn_fields::Memory;
@@ -60,5 +60,17 @@ impl LineReader for RowReader {
         counts: &LineCounts,
     ) -> Result<(Data, Warnings), Memory> {
         self.reader.finish(alloc, files, counts)
+    }
+}
+
+impl JoinLines for RowReader {
+    fn join(self, next: Self) -> Result<Option<Self>, Memory> {
+        let Some(reader) = self.reader.join(next.reader)? else {
+            return Ok(None);
+        };
+        Ok(Some(RowReader {
+            months: self.months,
+            reader,
+        }))
     }
 }

@@ -1,13 +1,13 @@
 //! What the lines of one station say, by element.
 
 ghost use Rattle.std.specs.Prelude.{◌≡◌, ◌≢◌, ◌++◌, ◌∷◌, [], List, length, map, not, IfOk, OnOk};
-ghost use Rattle.std.specs.Bool.{OnTrue};
+ghost use Rattle.std.specs.Bool.{OnTrue, OnFalse};
 ghost use Rattle.std.specs.List.{list_any, AllByRecursion, AllZip};
 ghost use Rattle.ghcn_files.specs.Elements.{elements, element_index, is_kept};
 ghost use Rattle.ghcn_series.specs.Gathered as gathered;
 ghost use Rattle.ghcn_series.specs.Parts.{AreEmpty};
 ghost use Rattle.ghcn_series.specs.Steps.{GathersAt, GathersNothing, StationGathersSome, Opens, IsForMonth, ForMonth};
-ghost use Rattle.ghcn_series.specs.Steps.{StationKeepsMonths};
+ghost use Rattle.ghcn_series.specs.Steps.{StationKeepsMonths, JoinsStation, BothHaveMonths};
 
 use crate::Series;
 use crate::gathering::Gathering;
@@ -15,6 +15,7 @@ use crate::parts::Parts;
 use ghcn_fields::Memory;
 use ghcn_files::{Element, Keep, MonthRow, StationId};
 use std::alloc::Global;
+use std::mem;
 
 /// The elements in the order in which a station's series are kept.
 const ELEMENTS: [Element; 5] = [
@@ -97,6 +98,21 @@ impl StationGathering {
             spare.push(self.by_element[place].shrink_to_fit(alloc)?)?;
         }
         Ok(())
+    }
+
+    /// Takes over the months of another gathering of the station, or returns false if both have some.
+    pub(crate) fn join(&mut self, other: &mut Self) -> bool
+        ensures joined { OnTrue result (JoinsStation self.old other.old self.new) }
+        ensures apart { OnFalse result (BothHaveMonths self.old other.old) }
+    {
+        if other.by_element.is_empty() {
+            return true;
+        }
+        if !self.by_element.is_empty() {
+            return false;
+        }
+        mem::swap(self, other);
+        true
     }
 
     /// The series of the station that have a usable day, by element.

@@ -1,0 +1,165 @@
+-- Lines that two readers have read, joined: those of the second one have other numbers then.
+use Rattle.std.proofs.Common.{◌≡◌, ℕ, ◌+◌, Bool, true, false, cond, List, [], ◌∷◌, ◌++◌, length}
+use Rattle.std.proofs.Common.{Option, None, Some, Result, Ok, Err, refl, sym, ap, ◌∙◌, append_assoc, subst}
+use Rattle.std.specs.Prelude.{◌&&◌, ◌||◌}
+use Rattle.std.specs.List.{filter_map, list_any, Contains}
+use Rattle.std.specs.Option.{option_map}
+use Rattle.std.proofs.lemmas.Bool.{or_from, or_right}
+use Rattle.std.proofs.lemmas.List.{append-nil, map-append}
+use Rattle.std.proofs.lemmas.List.Elements.{filter_map-append}
+use Rattle.std.proofs.lemmas.List.Folds.{list_any-append}
+use Rattle.std.proofs.lemmas.Slice.Zip.{AllZip-long}
+use Rattle.ghcn_fields.specs.Faults.{HaveNoFault}
+use Rattle.ghcn_files.proofs.FaultLaws.{no_fault-more}
+use Rattle.ghcn_files.specs.declared.station.Station.{Station}
+use Rattle.ghcn_files.specs.declared.element.Keep.{Keep}
+use Rattle.ghcn_files.specs.declared.month.Month.{Month}
+use Rattle.ghcn_files.specs.declared.fault.LineWhy.{LineWhy}
+use Rattle.ghcn_files.specs.Ids.{same_id}
+use Rattle.ghcn_files.specs.Months.{read_month}
+use Rattle.ghcn_series.specs.declared.fault.DailyWhy.TheVariants.{DuplicateMonth}
+use Rattle.ghcn_series.specs.declared.fault.DataFault.TheVariants.{DailyLine}
+use Rattle.ghcn_series.specs.declared.reader.Reader.{Reader}
+use Rattle.ghcn_series.specs.DailyFaults.{FileLine, month_on, month_if_ok, same_month, is_listed, repeats, daily_why}
+use Rattle.ghcn_series.specs.DailyFaults.{daily_fault}
+use Rattle.ghcn_series.specs.Gathered.{HasReadFor, has_month_of}
+use Rattle.ghcn_series.specs.LinesRead.{line_texts, JoinsLines, ReadOneStation}
+use Rattle.ghcn_series.specs.Says.{in_64_bits}
+use Rattle.ghcn_series.specs.Steps.{JoinStations, OneHasBoth}
+use Rattle.ghcn_series.proofs.JoinedMonths.{not_among, read_joined}
+use Rattle.ghcn_series.proofs.ListFacts.{map_split}
+use Rattle.ghcn_series.proofs.Places.{same_id-refl}
+use Rattle.ghcn_series.proofs.ReadLines.{months-texts}
+
+-- lines without an error, and more lines, none of which has one after what is before it
+no_fault-append : {L W : Type 0} (fault : List L → L → Option W) (ls more : List L) → HaveNoFault fault ls
+    → ((before : List L) (l : L) (rest : List L) → more ≡ before ++ l ∷ rest → fault (ls ++ before) l ≡ None)
+    → HaveNoFault fault (ls ++ more)
+no_fault-append fault ls [] all none = rw (append-nil ls) all
+no_fault-append fault ls (x ∷ xs) all none =
+    let here : fault ls x ≡ None = rw (append-nil ls) at (none [] x xs refl) in
+    subst (HaveNoFault fault) (append_assoc ls (x ∷ []) xs)
+    (no_fault-append fault (ls ++ x ∷ []) xs (no_fault-more fault ls x all here) (λ before l rest e.
+    rw (append_assoc ls (x ∷ []) before) (none (x ∷ before) l rest (ap (λ (ys : List _). x ∷ ys) e))))
+
+-- nothing in another form is nothing
+nothing_mapped : {A B : Type 0} (f : A → B) (o : Option A) → option_map f o ≡ None → o ≡ None
+nothing_mapped f None e = refl
+nothing_mapped f (Some x) e = absurd cc
+
+-- no reason if a test fails
+test_failed : {A : Type 0} (b : Bool) (x : A) → cond b (Some x) None ≡ None → b ≡ false
+test_failed true x e = absurd cc
+test_failed false x e = refl
+
+-- a line that isn't refused after some lines isn't after others, unless these have its month
+why_none : (stations : List Station) (before others : List FileLine) (read : Result (Option Month) LineWhy)
+    → ((m : Month) → read ≡ Ok (Some m) → (is_listed stations m.id && repeats before m) ≡ false
+    → (is_listed stations m.id && repeats others m) ≡ false)
+    → daily_why stations before read ≡ None → daily_why stations others read ≡ None
+why_none stations before others (Err why) keeps none = absurd cc
+why_none stations before others (Ok None) keeps none = refl
+why_none stations before others (Ok (Some m)) keeps none =
+    rw (keeps m refl (test_failed (is_listed stations m.id && repeats before m) DuplicateMonth none)) refl
+
+-- a month of a listed station that neither the first lines have nor those after them
+still_new : (listed first more : Bool) → (listed ≡ true → first ≡ false) → (listed && more) ≡ false
+    → (listed && (first || more)) ≡ false
+still_new true first more apart none = or_from first more (apart refl) none
+still_new false first more apart none = refl
+
+-- the month of a line is among those of its lines
+is_among : (before : List FileLine) (l : FileLine) (rest : List FileLine) (m : Month) → month_on l ≡ Some m
+    → has_month_of (filter_map month_on (before ++ l ∷ rest)) m.id ≡ true
+is_among before l rest m is =
+    rw (
+      filter_map-append month_on before (l ∷ rest),
+      list_any-append (λ (x : Month). same_id x.id m.id) (filter_map month_on before) (filter_map month_on (l ∷ rest)),
+      is,
+      same_id-refl m.id,
+    )
+    (or_right (has_month_of (filter_map month_on before) m.id) true refl)
+
+-- lines without an error, and others without an error under other numbers, have none together, if no listed station has
+-- months in both
+pub no_fault-joined : (stations : List Station) (ls more numbered : List FileLine)
+    → line_texts numbered ≡ line_texts more
+    → ((m : Month) → is_listed stations m.id ≡ true → has_month_of (filter_map month_on more) m.id ≡ true
+    → list_any (same_month m) (filter_map month_on ls) ≡ false)
+    → HaveNoFault (daily_fault stations) ls → HaveNoFault (daily_fault stations) more
+    → HaveNoFault (daily_fault stations) (ls ++ numbered)
+no_fault-joined stations ls more numbered same apart is of =
+    no_fault-append (daily_fault stations) ls numbered is (λ front l rest e.
+    let at = map_split (λ (x : FileLine). x.bytes) more (line_texts front) l.bytes (line_texts rest)
+    (sym same ∙ ap line_texts e ∙ map-append (λ (x : FileLine). x.bytes) front (l ∷ rest)) in
+    let months = months-texts at.0 front at.4 in
+    let none = nothing_mapped (λ why. DailyLine at.1.file at.1.line why) (daily_why stations at.0 (read_month at.1.bytes))
+    (of.none at.0 at.1 at.2 at.3) in
+    let kept = why_none stations at.0 (ls ++ front) (read_month at.1.bytes)
+    (λ m read new.
+    let some : has_month_of (filter_map month_on more) m.id ≡ true =
+    rw at.3 (is_among at.0 at.1 at.2 m (ap month_if_ok read)) in
+    rw (
+      filter_map-append month_on ls front,
+      ← months,
+      list_any-append (same_month m) (filter_map month_on ls) (filter_map month_on at.0),
+    )
+    (still_new (is_listed stations m.id) (list_any (same_month m) (filter_map month_on ls))
+    (list_any (same_month m) (filter_map month_on at.0)) (λ listed. apart m listed some) new)) none in
+    ap (λ (b : List ℕ). daily_fault stations (ls ++ front) (record { file = l.file; line = l.line; bytes = b }))
+    (sym at.5)
+    ∙ ap (option_map (λ why. DailyLine l.file l.line why)) kept)
+
+-- ---- readers
+
+-- two readers have as many stations
+pub as_many : (first next : Reader) (stations : List Station) (keep : Keep) (ls others : List FileLine)
+    → HasReadFor first stations keep ls → HasReadFor next stations keep others
+    → length next.gathered.items ≡ length first.gathered.items
+as_many first next stations keep ls others is of =
+    AllZip-long _ next.stations next.gathered.items of.read.months.gathered
+    ∙ ap length (of.listed ∙ sym is.listed)
+    ∙ sym (AllZip-long _ first.stations first.gathered.items is.read.months.gathered)
+
+-- what two readers have read is read by one
+pub reads_joined : (first next both : Reader) → both.keep ≡ first.keep → both.stations ≡ first.stations
+    → both.spare.items ≡ first.spare.items → both.unlisted ≡ in_64_bits (first.unlisted + next.unlisted)
+    → JoinStations first.gathered.items next.gathered.items both.gathered.items → JoinsLines HasReadFor first next both
+reads_joined first next both keep stations spare unlisted joins = record {
+  holds = λ list asked ls more numbered is of same.
+      let ms = filter_map month_on ls in
+      let others = filter_map month_on more in
+      let same_list : next.stations ≡ first.stations = of.listed ∙ sym is.listed in
+      let same_keep : next.keep ≡ first.keep = of.kept ∙ sym is.kept in
+      let apart = joins.apart first.keep ms others first.stations is.read.months.gathered
+      (rw (same_keep, same_list) at of.read.months.gathered) in
+      record {
+        listed = stations ∙ is.listed;
+        kept = keep ∙ is.kept;
+        read = record {
+          months = rw (filter_map-append month_on ls numbered, months-texts numbered more same)
+              (read_joined first next both ms others same_keep same_list keep stations spare unlisted joins
+              is.read.months of.read.months);
+          right = rw stations (no_fault-joined first.stations ls more numbered same
+              (λ m listed some. not_among ms others first.stations m apart listed some) is.read.right
+              (rw same_list at of.read.right));
+        };
+      };
+}
+
+-- or a listed station has months in both
+pub reads-apart : (first next : Reader) → OneHasBoth first.gathered.items next.gathered.items
+    → ReadOneStation HasReadFor first next
+reads-apart first next both = record {
+  share = λ list asked ls more is of.
+      let same_list : next.stations ≡ first.stations = of.listed ∙ sym is.listed in
+      let same_keep : next.keep ≡ first.keep = of.kept ∙ sym is.kept in
+      let found = both.one first.keep (filter_map month_on ls) (filter_map month_on more) first.stations
+      is.read.months.gathered (rw (same_keep, same_list) at of.read.months.gathered) in
+      record {
+        station = found.0;
+        listed = subst (λ (ss : List Station). Contains ss found.0) is.listed found.1;
+        has = found.2.has;
+        has_too = found.2.has_too;
+      };
+}
