@@ -2,6 +2,7 @@ pub mod Guesses
 pub mod Crews
 pub mod Texts
 pub mod Reading
+pub mod Joinings
 pub mod Feedings
 pub mod Questions
 pub mod Openings

@@ -1,5 +1,5 @@
 -- What a question takes, and what it returns at its end.
-use Rattle.std.proofs.Common.{◌≡◌, List, ℕ, [], ◌∷◌, ◌++◌, true, refl, ap, subst}
+use Rattle.std.proofs.Common.{◌≡◌, List, ℕ, [], ◌∷◌, ◌++◌, true, refl, sym, ap, ◌∙◌, subst}
 use Rattle.std.specs.Prelude.{Option, Result, Ok, Err}
 use Rattle.std.proofs.lemmas.Bool.{OnFalse_at, OnFalse_from}
 use Rattle.ghcn_fields.specs.Refusals.{IsRefusal}
@@ -23,9 +23,13 @@ use Rattle.rank_input.specs.Input.{of_query, of_stations, of_data, is_memory, th
 use Rattle.rank_input.specs.Feeding.{FeedsFiles}
 use Rattle.rank_input.specs.Takes as takes
 use Rattle.rank_input.specs.Takes.{file_input, with_bytes, with_file_end, TakesBytes, TakesFileEnd, MakesTaken, RefusesTaken}
-use Rattle.rank_input.specs.Taken.{Input, given, files_for, IsRefusedFirst, IsAskedOf, HasTaken}
-use Rattle.rank_input.specs.Taken.{AreWarningsOf, HoldsInput, RefusesInput}
+use Rattle.rank_input.specs.Taken.{Input, given, files_for, IsQueryFault, IsAskedOf, HasTaken}
+use Rattle.rank_input.specs.Taken.{AreWarningsOf, HoldsInput, RefusesInput, ReportsQuery}
 use Rattle.rank_input.proofs.Feedings.{input-files}
+
+-- two errors that are returned alike are the same
+err_same : {A E : Type 0} {a b : E} → ◌≡◌ {A = Result A E} (Err a) (Err b) → a ≡ b
+err_same e = cc
 
 -- a question about what another intake was given
 abbrev pub with_intake : Question → Intake RowReader → Question
@@ -37,7 +41,7 @@ goes_on : (query : Result Asked Fault) (old new : Intake RowReader) (i j : Input
     → takes.HasTaken HasReadByRows new (files_for q j)) → IsAskedOf query old i → IsAskedOf query new j
 goes_on (Ok q) old new i j same step is =
     (subst (λ (text : List ℕ). read_query text ≡ Ok q) same is.0, step q is.1)
-goes_on (Err fault) old new i j same step is = subst (λ (text : List ℕ). IsRefusedFirst text fault) same is
+goes_on (Err fault) old new i j same step is = subst (λ (text : List ℕ). IsQueryFault text fault) same is
 
 -- one file more is given
 pub file_given : (t : Question) (mid new : Intake RowReader) (query stations bytes : List ℕ) (files : List (List ℕ))
@@ -58,24 +62,42 @@ files_given t new known query stations fed is =
     (λ q has. subst (takes.HasTaken HasReadByRows new) (input-files (only (score_element q.score)) stations [] fed.files)
     (fed.taken (file_input (only (score_element q.score)) stations []) has)) is
 
--- an error of the query is the first one
-pub refused_query : (query : List ℕ) (fault : QueryFault) → read_query query ≡ Err fault
-    → IsRefusedFirst query (of_query fault)
-refused_query query fault is = record {
-  whatever = λ stations files. OnFalse_from (is_memory (of_query fault)) _ (λ e. rw is refl);
-}
+-- an error of the query is that of the input
+refused_query : (query stations : List ℕ) (files : List (List ℕ)) (fault : Fault) → IsQueryFault query fault
+    → IsRefusal is_memory fault (read_input query stations files)
+refused_query query stations files fault is =
+    OnFalse_from (is_memory fault) _ (λ e. rw (is.asks, is.is) refl)
 
--- and that of a question
+-- a question with an error has taken a query that has it
+faulty : (t : Question) (fault : Fault) (i : Input) → t.query ≡ Err fault → HasTaken t i → IsQueryFault i.query fault
+faulty t fault i is taken = subst (λ (query : Result Asked Fault). IsAskedOf query t.files i) is taken
+
+-- its error is that of the input
 pub refuses_query : (t : Question) (fault : Fault) → t.query ≡ Err fault → RefusesInput t fault
 refuses_query t fault is = record {
-  is = λ i taken.
-      (subst (λ (query : Result Asked Fault). IsAskedOf query t.files i) is taken).whatever i.stations
-      (files_of i.files);
+  is = λ i taken. refused_query i.query i.stations (files_of i.files) fault (faulty t fault i is taken);
+}
+
+-- and it is returned
+pub reports_query : {A : Type 0} (t : Question) (fault : Fault) → t.query ≡ Err fault
+    → ReportsQuery {A = A} t (Err fault)
+reports_query t fault is = record {
+  is = λ i taken why asks.
+      let query = faulty t fault i is taken in
+      let same : query.why ≡ why = err_same (sym query.asks ∙ asks) in
+      ap Err (query.is ∙ ap of_query same);
 }
 
 -- a question without an error asks this, and its intake was given the files for it
 asked_of : (t : Question) (q : Asked) (i : Input) → t.query ≡ Ok q → HasTaken t i → IsAskedOf (Ok q) t.files i
 asked_of t q i is taken = subst (λ (query : Result Asked Fault). IsAskedOf query t.files i) is taken
+
+-- then the query has no error to return
+pub right_query : {A : Type 0} (t : Question) (q : Asked) (result : Result A Fault) → t.query ≡ Ok q
+    → ReportsQuery t result
+right_query t q result is = record {
+  is = λ i taken why asks. let both = sym (asked_of t q i is taken).0 ∙ asks in absurd cc;
+}
 
 -- what is kept of the files is what the input holds
 pub holds_input : (t : Question) (q : Asked) (made : Contents × Warnings) → t.query ≡ Ok q

@@ -7,6 +7,7 @@ use Rattle.ghcn_series.specs.Series.{Contents}
 use Rattle.ghcn_series.specs.Fed.{Files, ended_files, files_of}
 use Rattle.ghcn_series.specs.Gathered.{HasReadByRows}
 use Rattle.ghcn_series.specs.LineKinds.{warnings_of}
+use Rattle.rank_query.specs.declared.fault.QueryFault.{QueryFault}
 use Rattle.rank_query.specs.Asked.{Asked, score_element}
 use Rattle.rank_query.specs.Reading.{read_query}
 use Rattle.rank_scores.specs.OneElement.{data_for}
@@ -14,7 +15,7 @@ use Rattle.ghcn_fields.specs.Refusals.{IsRefusal}
 use Rattle.rank_input.specs.declared.fault.Fault.{Fault}
 use Rattle.rank_input.specs.declared.intake.Intake.{Intake}
 use Rattle.rank_input.specs.declared.question.Question.{Question}
-use Rattle.rank_input.specs.Input.{IsReadOf, read_input, is_memory}
+use Rattle.rank_input.specs.Input.{IsReadOf, of_query, read_input, is_memory}
 use Rattle.rank_input.specs.Takes as takes
 use Rattle.rank_input.specs.Takes.{FileInput}
 
@@ -32,14 +33,16 @@ given query stations files = record { query = query; stations = stations; files 
 abbrev pub files_for : Asked → Input → FileInput
 files_for q i = record { keep = only (score_element q.score); stations = i.stations; files = i.files }
 
--- the error of the query, whatever the station list and the daily files are
-pub record IsRefusedFirst (query : List ℕ) (fault : Fault) : Type 0 where
-  pub whatever : (stations : List ℕ) (files : List (List ℕ)) → IsRefusal is_memory fault (read_input query stations files)
+-- the query has an error, and this is it
+pub record IsQueryFault (query : List ℕ) (fault : Fault) : Type 0 where
+  pub why : QueryFault
+  pub asks : read_query query ≡ Err why
+  pub is : fault ≡ of_query why
 
 -- the query has no error, and an intake was given the files for it, or the query has this error
 abbrev pub IsAskedOf : Result Asked Fault → Intake RowReader → Input → Type 0
 IsAskedOf (Ok q) t i = (read_query i.query ≡ Ok q) × takes.HasTaken HasReadByRows t (files_for q i)
-IsAskedOf (Err fault) t i = IsRefusedFirst i.query fault
+IsAskedOf (Err fault) t i = IsQueryFault i.query fault
 
 -- a question was given this input
 abbrev pub HasTaken : Question → Input → Type 0
@@ -71,3 +74,7 @@ HoldsInput t asked dataset = IsTrueOf t (λ query stations files. Needs query st
 abbrev pub RefusesInput : Question → Fault → Type 0
 RefusesInput t fault =
     IsTrueOf t (λ query stations files. IsRefusal is_memory fault (read_input query stations files))
+
+-- if the query of a question's input has an error, this error is returned, even if memory ran out
+pub record ReportsQuery {A : Type 0} (t : Question) (result : Result A Fault) : Type 0 where
+  pub is : (i : Input) → HasTaken t i → (why : QueryFault) → read_query i.query ≡ Err why → result ≡ Err (of_query why)

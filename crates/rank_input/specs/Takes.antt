@@ -5,8 +5,9 @@ use Rattle.ghcn_files.specs.declared.element.Keep.{Keep}
 use Rattle.ghcn_files.specs.declared.station.Station.{Station}
 use Rattle.ghcn_files.specs.Listed.{listed}
 use Rattle.ghcn_series.specs.declared.cutter.Cutter.{Cutter}
+use Rattle.ghcn_series.specs.Cut as cut
 use Rattle.ghcn_series.specs.Cut.{HasFed}
-use Rattle.ghcn_series.specs.Fed.{Files, Fed, ended_files, more, with_end, files_of}
+use Rattle.ghcn_series.specs.Fed.{Files, Fed, ended_files, more, with_end, files_of, followed_by}
 use Rattle.ghcn_series.specs.LinesRead.{Reading, Making}
 use Rattle.rank_input.specs.declared.fault.Fault.{Fault}
 use Rattle.rank_input.specs.declared.intake.Intake.{Intake}
@@ -29,6 +30,10 @@ with_bytes s bytes = record { keep = s.keep; stations = s.stations; files = more
 -- with the current file ended, even if it is empty
 abbrev pub with_file_end : FileInput → FileInput
 with_file_end s = record { keep = s.keep; stations = s.stations; files = with_end s.files }
+
+-- the same station list, with these daily files
+abbrev pub with_daily : FileInput → Files → FileInput
+with_daily s files = record { keep = s.keep; stations = s.stations; files = files }
 
 -- what a reader of lines is fed for the stations of a list
 abbrev pub fed_for : FileInput → List Station → Fed
@@ -64,6 +69,37 @@ pub record TakesBytes {L : Type 0} (has_read : Reading L) (old new : Intake L) (
 -- an intake takes the end of the current file
 pub record TakesFileEnd {L : Type 0} (has_read : Reading L) (old new : Intake L) : Type 0 where
   pub holds : (s : FileInput) → HasTaken has_read old s → HasTaken has_read new (with_file_end s)
+
+-- two readings of files are of the same station list, and keep the values of the same elements
+pub record AreReadAlike {T : Type 0} (is_read : T → FileInput → Type 0) (first next : T) : Type 0 where
+  pub input : FileInput
+  pub files : Files
+  pub of_first : is_read first input
+  pub of_next : is_read next (with_daily input files)
+
+-- a reading is of what a first one is of, and then of the daily files of a next one
+pub record JoinsReadings {T : Type 0} (is_read : T → FileInput → Type 0) (first next both : T) : Type 0 where
+  pub holds : (s : FileInput) (files : Files) → is_read first s → is_read next (with_daily s files)
+      → is_read both (with_daily s (followed_by s.files files))
+
+-- two readings stay apart: neither has an error before the daily files, and their cutters stay apart
+abbrev pub AreApart : {L : Type 0} → Reading L → Result (Cutter L) Fault → Result (Cutter L) Fault → Type 0
+AreApart has_read (Ok first) (Ok next) = cut.StayApart has_read first next
+AreApart has_read (Ok first) (Err fault) = ⊥
+AreApart has_read (Err fault) next = ⊥
+
+-- two intakes were given the same station list, and keep the values of the same elements
+abbrev pub WereGivenAlike : {L : Type 0} → Reading L → Intake L → Intake L → Type 0
+WereGivenAlike has_read first next = AreReadAlike (IsRead has_read) first.read next.read
+
+-- an intake was given what a first one was given, and then the daily files that a next one was given
+abbrev pub JoinsFiles : {L : Type 0} → Reading L → Intake L → Intake L → Intake L → Type 0
+JoinsFiles has_read first next both = JoinsReadings (IsRead has_read) first.read next.read both.read
+
+-- two intakes stay apart: each reads daily files, and one hasn't read them to their end, or a listed station has months
+-- in the files of both
+abbrev pub StayApart : {L : Type 0} → Reading L → Intake L → Intake L → Type 0
+StayApart has_read first next = AreApart has_read first.read next.read
 
 -- the station list has no error, and this is made of the daily files for its stations
 pub record IsMade {D : Type 0} (makes : Making D) (keep : Keep) (stations : List ℕ) (files : List (List ℕ)) (done : D)

@@ -1,14 +1,18 @@
 //! A station list and daily files, taken piece by piece.
 
-ghost use Rattle.std.specs.Prelude.{[], IfOk, IfErr};
+ghost use Rattle.std.specs.Prelude.{◌≡◌, ◌+◌, [], IfOk, IfErr, IfSome, IfNone};
+ghost use Rattle.std.specs.Result.{result_transpose};
+ghost use Rattle.ghcn_series.specs.Says.{in_64_bits};
 ghost use Rattle.rank_input.specs.Takes.{FileInput, file_input};
 ghost use Rattle.rank_input.specs.Takes.{HasTaken, HasTakenSome, IsRead, TakesBytes, TakesFileEnd};
 ghost use Rattle.rank_input.specs.Takes.{MakesTaken, RefusesTaken};
+ghost use Rattle.rank_input.specs.Takes.{WereGivenAlike, JoinsFiles, StayApart};
+ghost use Rattle.rank_input.specs.Takes.{AreReadAlike, JoinsReadings, AreApart};
 
 use crate::fault::Fault;
 use ghcn_fields::Memory;
 use ghcn_files::{Keep, Stations};
-use ghcn_series::{Cutter, LineReader};
+use ghcn_series::{Cutter, JoinLines, LineReader};
 use std::alloc::Global;
 
 /// What was given so far of a station list and daily files, for a reader of lines. It never returns an error while it
@@ -76,6 +80,38 @@ impl<L: LineReader> Intake<L> {
         let cutter = self.read?;
         Ok(cutter.finish()?)
     }
+}
+
+impl<L: JoinLines> Intake<L> {
+    /// One intake in place of two: it was given the station list and the daily files of this one, and then the daily
+    /// files of the next one. Or none, if the daily files of one of the two have an error, are too many or aren't all
+    /// ended, or if a listed station has months in both.
+    pub fn join(self, next: Self) -> Option<Self>
+        requires { WereGivenAlike L.has_read self next }
+        ensures joined { IfSome result (JoinsFiles L.has_read self next) }
+        ensures going { IfSome result (HasTakenSome L.has_read) }
+        ensures bytes { IfSome result (λ both. both.bytes ≡ in_64_bits (self.bytes + next.bytes)) }
+        ensures apart { IfNone result (StayApart L.has_read self next) }
+    {
+        Some(Intake {
+            bytes: self.bytes.saturating_add(next.bytes),
+            read: joined(self.read, next.read).transpose()?,
+        })
+    }
+}
+
+/// One cutter in place of two, or none if they stay apart; or the error before the daily files.
+fn joined<L: JoinLines>(
+    first: Result<Cutter<L>, Fault>,
+    next: Result<Cutter<L>, Fault>,
+) -> Result<Option<Cutter<L>>, Fault>
+    requires { AreReadAlike (IsRead L.has_read) first next }
+    ensures joined { IfSome (result_transpose result) (JoinsReadings (IsRead L.has_read) first next) }
+    ensures apart { IfNone (result_transpose result) (AreApart L.has_read first next) }
+{
+    let cutter = first?;
+    let other = next?;
+    Ok(cutter.join(other)?)
 }
 
 /// Cuts daily files into lines for the listed stations.

@@ -2,7 +2,7 @@
 
 ghost use Rattle.std.specs.Prelude.{[], IfOk, IfErr, map};
 ghost use Rattle.rank_input.specs.Taken.{given, HasTaken, HasTakenSome};
-ghost use Rattle.rank_input.specs.Taken.{AreWarningsOf, HoldsInput, RefusesInput};
+ghost use Rattle.rank_input.specs.Taken.{AreWarningsOf, HoldsInput, RefusesInput, ReportsQuery};
 
 use crate::fault::Fault;
 use crate::intake::Intake;
@@ -72,6 +72,7 @@ impl Question {
         ensures ok { IfOk result (λ taken. HoldsInput self taken.query taken.dataset) }
         ensures warnings { IfOk result (λ taken. AreWarningsOf self taken.warnings) }
         ensures err { IfErr result (RefusesInput self) }
+        ensures query { ReportsQuery self result }
     {
         let Question { query, files } = self;
         let query = query?;

@@ -1,5 +1,6 @@
 use Rattle.std.proofs.lemmas.Result.{err_from_is_err_and}
 use Rattle.rank_input.proofs.Questions.{holds_input, warns_of_input, refuses_query, refuses_input}
+use Rattle.rank_input.proofs.Questions.{reports_query, right_query}
 use Rattle.rank_input.proofs.question.Question.finish.Goals as goal
 
 -- the error of the query is that of the input
@@ -26,3 +27,17 @@ pub returns-clause-warnings : goal.returns-clause-warnings
 returns-clause-warnings c =
     warns_of_input c.args.self c.in_ok-query.query (c.in_ok-dataset.dataset, c.in_ok-dataset.warnings)
     c.in_ok-query.was c.in_ok-dataset.ensures.ok
+
+-- the error of the query is returned
+pub returns-in_err-query-clause-query : goal.returns-in_err-query-clause-query
+returns-in_err-query-clause-query c =
+    let p = err_from_is_err_and c.from_residual.result c.from_residual.ensures.1 in
+    rw (p.1, p.2) (reports_query c.args.self c.in_err-query.field-0.0 c.in_err-query.was)
+
+-- there is none if the error of the files is
+pub returns-in_err-dataset-clause-query : goal.returns-in_err-dataset-clause-query
+returns-in_err-dataset-clause-query c = right_query c.args.self c.in_ok-query.query _ c.in_ok-query.was
+
+-- nor if there is none
+pub returns-clause-query : goal.returns-clause-query
+returns-clause-query c = right_query c.args.self c.in_ok-query.query _ c.in_ok-query.was
