@@ -6,6 +6,7 @@ mod blocks;
 mod cutters;
 mod elements;
 mod faults;
+mod joins;
 mod months;
 mod orders;
 mod pieces;
