@@ -1,11 +1,15 @@
 //! What runs are given, and how errors are reported.
 
+ghost use Rattle.std.specs.Prelude.{[], IfSome};
+ghost use Rattle.ghcn_files.specs.Elements.{everything};
+ghost use Rattle.ghcn_series.specs.Gathered.{HasReadByRows};
 ghost use Rattle.rank_input.specs.Taken.{HasTakenSome};
+ghost use Rattle.rank_input.specs.Takes as takes;
 
 use ghcn_fields::Memory;
-use ghcn_files::{LineWhy, StationWhy};
-use ghcn_series::DailyWhy;
-use rank_input::{Fault, Question, workers_for};
+use ghcn_files::{Keep, LineWhy, StationWhy};
+use ghcn_series::{DailyWhy, RowReader};
+use rank_input::{Fault, Intake, Question, workers_for};
 use std::alloc::Global;
 use std::test::Fail;
 
@@ -28,6 +32,50 @@ fn fault_of(alloc: Global, query: &str, first: &[u8], count: u64, last: &[u8]) -
     end_files(&mut question, count);
     question.files.piece(last);
     question.finish().err()
+}
+
+/// An intake that was given this station list and a file.
+fn share(alloc: Global, stations: &[u8], file: &[u8]) -> Intake<RowReader>
+    ensures { takes.HasTaken HasReadByRows result
+        (takes.with_file_end (takes.with_bytes (takes.file_input everything stations.now []) file.now)) }
+{
+    let mut intake = Intake::<RowReader>::new(alloc, stations, Keep::everything());
+    intake.piece(file);
+    intake.end_of_file();
+    intake
+}
+
+/// An intake of two files that came to two intakes, if these can be joined.
+fn joined(alloc: Global, stations: &[u8], file: &[u8], other: &[u8]) -> Option<Intake<RowReader>>
+    ensures { IfSome result (takes.HasTakenSome HasReadByRows) }
+{
+    let first = share(alloc, stations, file);
+    first.join(share(alloc, stations, other))
+}
+
+/// How many bytes two shares have, and their error, if they can be joined.
+fn found_in(
+    alloc: Global,
+    stations: &[u8],
+    file: &[u8],
+    other: &[u8],
+) -> Option<(u64, Option<Fault>)> {
+    let both = joined(alloc, stations, file, other)?;
+    Some((both.bytes, both.finish().err()))
+}
+
+#[test]
+fn intakes_of_two_shares(rt: HostRuntime) {
+    let alloc = rt.alloc();
+    let short = Some(Fault::StationLine {
+        line: 1,
+        why: StationWhy::Short,
+    });
+    assert_eq!(rt; found_in(alloc, STATIONS, b"\n", b"  \n"), Some((4, None)));
+    assert_eq!(rt; found_in(alloc, STATIONS, b"", b""), Some((0, None)));
+    assert_eq!(rt; found_in(alloc, b"ZZ", b"x", b"\n"), Some((2, short)));
+    assert_eq!(rt; found_in(alloc, STATIONS, b"x", b"\n"), None);
+    assert_eq!(rt; found_in(alloc, STATIONS, b"\n", b"x"), None);
 }
 
 /// The error of a line of a file.
