@@ -5,7 +5,9 @@ use Rattle.rank_query.proofs.Cited.{and_parts, nat_tests, ints, is_within, Score
 use Rattle.rank_query.proofs.Cited.{Sum, Dry, Wet, Hot, Cold, Region, Everywhere, Inside, Country, State, Only, Asked}
 use Rattle.rank_query.proofs.Cited.{IsAsked, is_score, is_fall, is_heat, is_month, is_season, is_region, score_words}
 use Rattle.rank_query.proofs.Cited.{region_words, season_words, period_words, query_words, query_text}
-use Rattle.rank_query.proofs.Cited.{SpellsWord, IsSpelling, QueryWord, Exactly, Count, Tenths, Edge, Months}
+use Rattle.rank_query.proofs.Cited.{SpellsWord, IsSpelling, QueryWord, Exactly, Count, Tenths, Edge, TwoMonths, Season}
+use Rattle.rank_query.proofs.Cited.{AllYear}
+use Rattle.rank_query.proofs.Cited.{Months, Dates, dates_text}
 use Rattle.rank_query.proofs.Cited.{word_text, words_of, map, List, [], ◌∷◌, sym, subst, length-map, is_code, code_of}
 use Rattle.rank_query.proofs.Cited.{date_text, Element, nat_le, list_all, is_visible, ◌&&◌}
 use Rattle.rank_query.specs.Laws.{IsShortLine}
@@ -13,6 +15,7 @@ use Rattle.rank_query.proofs.OneWords.{IsOneWord, words_of-join}
 use Rattle.ghcn_files.proofs.Ordered.{each-weaker}
 use Rattle.rank_query.proofs.PrintedWords.{IsShortWord, length-join, printable-join, known_word}
 use Rattle.rank_query.proofs.PrintedWords.{decimal_numeral, decimal_word, code_word, visible_word, date_word}
+use Rattle.rank_query.proofs.PrintedWords.{dates_word}
 use Rattle.rank_query.proofs.PrintedWords.{four_places_text, tenths_text, months_word, months_spelt}
 use Rattle.rank_query.proofs.SpeltWords.{SpellAll}
 use Rattle.rank_query.proofs.RegionWords.{edges_of, longitude-range}
@@ -43,6 +46,10 @@ element_printed e = exact_printed (code_of e) (code_word e)
 date_printed : (day : ℤ) → IsPrinted (Exactly (date_text day))
 date_printed day = exact_printed (date_text day) (date_word day)
 
+-- as are two dates without their years
+dates_printed : (first last : ℤ) → IsPrinted (Exactly (dates_text first last))
+dates_printed first last = exact_printed (dates_text first last) (dates_word first last)
+
 -- with a number of rows or days within limits
 count_printed : (low high n : ℕ) → high < 10 ^ 4 → IsTrue (is_within low high n) → IsPrinted (Count n)
 count_printed low high n few within =
@@ -63,7 +70,7 @@ twelve : (m : ℕ) → is_month m ≡ true → m ≤ 12
 twelve m is = grind (arith, nat_tests)
 
 -- and with two months
-months_printed : (a b : ℕ) → is_month a ≡ true → is_month b ≡ true → IsPrinted (Months a b)
+months_printed : (a b : ℕ) → is_month a ≡ true → is_month b ≡ true → IsPrinted (TwoMonths a b)
 months_printed a b first last = record {
   short = months_word a b (twelve a first) (twelve b last);
   spelt = months_spelt a b (twelve a first) (twelve b last);
@@ -110,12 +117,13 @@ region_printed (Only id) is =
     ((known_printed (codes "station") refl, (code_printed 11 id.0 (omega arith) (omega arith) is, tt)), omega arith)
 
 -- the words of a season are such, and few
-season_printed : (s : Option (ℕ × ℕ)) → is_season s ≡ true → AllByRecursion IsPrinted (season_words s)
+season_printed : (s : Season) → is_season s ≡ true → AllByRecursion IsPrinted (season_words s)
     × (length (season_words s) ≤ 2)
-season_printed None is = (tt, omega arith)
-season_printed (Some s) is =
-    let both = and_parts (is_month s.0) (is_month s.1) is in
-    ((known_printed (codes "months") refl, (months_printed s.0 s.1 both.0 both.1, tt)), omega arith)
+season_printed AllYear is = (tt, omega arith)
+season_printed (Months a b) is =
+    let both = and_parts (is_month a) (is_month b) is in
+    ((known_printed (codes "months") refl, (months_printed a b both.0 both.1, tt)), omega arith)
+season_printed (Dates a b) is = ((known_printed (codes "days") refl, (dates_printed a b, tt)), omega arith)
 
 -- the words of a period are such, and few
 period_printed : (p : Option (ℤ × ℤ)) → AllByRecursion IsPrinted (period_words p) × (length (period_words p) ≤ 4)

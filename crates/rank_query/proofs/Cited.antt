@@ -42,25 +42,28 @@ pub use Rattle.jiff_core.specs.Calendar.{days_in_month}
 unfoldable pub use Rattle.jiff_core.specs.Calendar.{day_count, days_from_civil, days_of_months, days_of_years}
 pub use Rattle.memchr.specs.Find.{IsFirstByte, is_byte}
 pub use Rattle.rank_query.specs.Asked.{Asked, IsAsked, is_code, is_fall, is_heat, is_period}
-pub use Rattle.rank_query.specs.Asked.{is_region, is_score, is_season, is_temperature}
-pub use Rattle.rank_query.specs.FaultKinds.{IsFaultAmong, edge, has_form, is_behind_box, is_behind_first_day, is_date_word}
+pub use Rattle.rank_query.specs.Asked.{is_day_of_2000, is_region, is_score, is_season, is_temperature}
+pub use Rattle.rank_query.specs.FaultKinds.{IsFaultAmong, edge, has_form, is_behind_box, is_behind_first_day}
+pub use Rattle.rank_query.specs.FaultKinds.{is_date_word}
+pub use Rattle.rank_query.specs.FaultKinds.{is_dates_word}
 pub use Rattle.rank_query.specs.FaultKinds.{is_decimal, is_number, other, place_behind}
 pub use Rattle.rank_query.specs.FaultPlaces.{BeginQuery, EndsTooEarly, IsFirstWrong, IsFirstWrongAt, SpellNone}
 pub use Rattle.rank_query.specs.FaultPlaces.{StandsAmong, StandsIn}
-pub use Rattle.rank_query.specs.QueryTexts.{Count, Edge, Exactly, Months, QueryWord, Tenths, period_words}
+pub use Rattle.rank_query.specs.QueryTexts.{Count, Edge, Exactly, QueryWord, Tenths, TwoMonths, dates_text}
+pub use Rattle.rank_query.specs.QueryTexts.{period_words}
 pub use Rattle.rank_query.specs.QueryTexts.{query_text, query_words, region_words, score_words, season_words}
 pub use Rattle.rank_query.specs.QueryTexts.{word_text}
 pub use Rattle.rank_query.specs.Readers.{Read, by_word, made_into, one_word, or_fault, ◌>>=◌}
 unfoldable pub use Rattle.rank_query.specs.Readers.{keyword}
-pub use Rattle.rank_query.specs.Reading.{all_year_at, always_at, between_at, cold_at, country_at, dry_at}
+pub use Rattle.rank_query.specs.Reading.{all_year_at, always_at, between_at, cold_at, country_at, dates_at, dry_at}
 pub use Rattle.rank_query.specs.Reading.{everywhere_at, highest_at, hot_at, latitude_from, longitude, lowest_at}
 pub use Rattle.rank_query.specs.Reading.{months_at, nothing_more, state_at, station_at, wet_at}
 unfoldable pub use Rattle.rank_query.specs.Reading.{box_at, days_at, no_score_at, period_at, read_query, read_words}
 unfoldable pub use Rattle.rank_query.specs.Reading.{region_at, score_at, season_at, sum_at}
 pub use Rattle.rank_query.specs.Spelling.{IsNumeralOf, IsSpelling, SpellsQuery, SpellsWord}
-pub use Rattle.rank_query.specs.WordValues.{both_numbers, is_month, is_point, natural_behind, tenths_in}
-pub use Rattle.rank_query.specs.WordValues.{two_numbers}
-unfoldable pub use Rattle.rank_query.specs.WordValues.{code, date, degrees, element, heat, months, number}
+pub use Rattle.rank_query.specs.WordValues.{both, day_of_2000, is_month, is_point, natural_behind, tenths_in}
+pub use Rattle.rank_query.specs.WordValues.{two_days, two_numbers}
+unfoldable pub use Rattle.rank_query.specs.WordValues.{code, date, dates, degrees, element, heat, months, number}
 pub use Rattle.rank_query.specs.Words.{Word, is_separator, numbered_words, words_of}
 unfoldable pub use Rattle.rank_query.specs.Words.{says}
 pub use Rattle.rank_query.specs.declared.fault.QueryFault.{QueryFault}
@@ -70,3 +73,5 @@ pub use Rattle.rank_query.specs.declared.region.Region.{Region}
 pub use Rattle.rank_query.specs.declared.region.Region.TheVariants.{Country, Everywhere, Inside, Only, State}
 pub use Rattle.rank_query.specs.declared.score.Score.{Score}
 pub use Rattle.rank_query.specs.declared.score.Score.TheVariants.{Cold, Dry, Highest, Hot, Lowest, Sum, Wet}
+pub use Rattle.rank_query.specs.declared.season.Season.{Season}
+pub use Rattle.rank_query.specs.declared.season.Season.TheVariants.{AllYear, Dates, Months}

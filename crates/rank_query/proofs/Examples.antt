@@ -3,17 +3,19 @@ use Rattle.rank_query.proofs.Cited.{◌≡◌, ℕ, true, false, [], ◌∷◌, 
 use Rattle.rank_query.proofs.Cited.{codes, arith, pos, neg_ℤ, ℤ, map, repeat, ints, days_from_civil, day_count}
 use Rattle.rank_query.proofs.Cited.{days_of_years, days_of_months, year_and_rest, month_and_day, Tmax, Tmin, Prcp}
 use Rattle.rank_query.proofs.Cited.{Score, Highest, Lowest, Sum, Dry, Wet, Hot, Cold, Region, Inside, Country}
+use Rattle.rank_query.proofs.Cited.{Season, Months, Dates}
 use Rattle.rank_query.proofs.Cited.{State, Only, QueryTooLong, UnexpectedWord, QueryEnds, OutOfLimits, BadDate, BadBox}
 use Rattle.rank_query.specs.Asked.{top}
 use Rattle.rank_query.proofs.Cited.{EmptyPeriod, Asked, query_text, words_of, says, keyword, number, element, heat}
-use Rattle.rank_query.proofs.Cited.{months, degrees, code, date, edge, place_behind, BeginQuery, EndsTooEarly, StandsIn}
+use Rattle.rank_query.proofs.Cited.{months, dates, degrees, code, date, edge, place_behind, BeginQuery, EndsTooEarly}
+use Rattle.rank_query.proofs.Cited.{StandsIn}
 use Rattle.rank_query.proofs.Cited.{sum_at, no_score_at, score_at, box_at, region_at, season_at, days_at, period_at}
 use Rattle.rank_query.proofs.Cited.{read_words, read_query}
 use Rattle.std.specs.Fmt.{digits}
 use Rattle.ghcn_files.specs.declared.station.Station.{Station}
 use Rattle.rank_query.specs.Admits.{region_holds, admits_day}
 use Rattle.rank_query.specs.FaultKinds.{number as a_number, heat as a_heat, season as a_season, date as a_date}
-use Rattle.rank_query.specs.FaultKinds.{other as another}
+use Rattle.rank_query.specs.FaultKinds.{dates as two_dates, other as another}
 use Rattle.rank_query.proofs.FaultPlaces.{fault_stands, one_place}
 
 -- a query of a region and all days
@@ -187,13 +189,21 @@ colds_read : (read_query (codes "top 3 cold -10") ≡ Ok (top 3 (Cold (neg_ℤ (
 unfolding read_query read_words keyword says number heat score_at no_score_at region_at season_at period_at
 colds_read = (refl, refl, refl, refl, refl, refl, refl)
 
--- dry days of some months
-abbrev dry_in : ℕ × ℕ → Asked
-dry_in s = record (top 1 Dry) { season = Some s }
+-- dry days of a season
+abbrev dry_in : Season → Asked
+dry_in s = record (top 1 Dry) { season = s }
+
+-- of some months
+abbrev dry_months : ℕ → ℕ → Asked
+dry_months first last = dry_in (Months first last)
+
+-- and of some days of the year 2000, from a first to a last one
+abbrev dry_days : ℤ → ℤ → Asked
+dry_days first last = dry_in (Dates first last)
 
 -- seasons, of one year or over its turn
-seasons_read : (read_query (codes "top 1 dry months 6..6") ≡ Ok (dry_in (6, 6)))
-    × (read_query (codes "top 1 dry months 012..02") ≡ Ok (dry_in (12, 2)))
+seasons_read : (read_query (codes "top 1 dry months 6..6") ≡ Ok (dry_months 6 6))
+    × (read_query (codes "top 1 dry months 012..02") ≡ Ok (dry_months 12 2))
 unfolding read_query read_words keyword says number months score_at no_score_at region_at season_at period_at
 seasons_read = (refl, refl)
 
@@ -207,6 +217,30 @@ seasons_refused : (read_query (codes "top 1 dry months 0..3") ≡ Err (OutOfLimi
     × (read_query (codes "top 1 dry months") ≡ Err QueryEnds)
 unfolding read_query read_words keyword says number months score_at no_score_at region_at season_at period_at
 seasons_refused = (refl, refl, refl, refl, refl, refl, refl)
+
+-- seasons of days: 1 July alone, 15 December to 15 January, 29 February alone, all days but that
+days_read : (read_query (codes "top 1 dry days 07-01..07-01") ≡ Ok (dry_days (pos 11_139) (pos 11_139)))
+    × (read_query (codes " top 1  dry days 12-15..01-15 ") ≡ Ok (dry_days (pos 11_306) (pos 10_971)))
+    × (read_query (codes "top 1 dry days 02-29..02-29") ≡ Ok (dry_days (pos 11_016) (pos 11_016)))
+    × (read_query (codes "top 1 dry days 03-01..02-28") ≡ Ok (dry_days (pos 11_017) (pos 11_015)))
+unfolding read_query read_words keyword says number dates score_at no_score_at region_at season_at period_at
+    days_from_civil day_count days_of_years days_of_months
+days_read = (refl, refl, refl, refl)
+
+-- another word is no two days, whatever form it has; a season comes once, before a period
+days_refused : (read_query (codes "top 1 dry days 02-30..03-01") ≡ Err (BadDate 5))
+    × (read_query (codes "top 1 dry days 07-01") ≡ Err (BadDate 5))
+    × (read_query (codes "top 1 dry days 7-1..7-31") ≡ Err (BadDate 5))
+    × (read_query (codes "top 1 dry days 07-01...7-31") ≡ Err (BadDate 5))
+    × (read_query (codes "top 1 dry days 6..8") ≡ Err (BadDate 5))
+    × (read_query (codes "top 1 dry days 2020-07-01..2020-07-31") ≡ Err (BadDate 5))
+    × (read_query (codes "top 1 dry days") ≡ Err QueryEnds)
+    × (read_query (codes "top 1 dry days 12-15..01-15 months 1..2") ≡ Err (UnexpectedWord 6))
+    × (read_query (codes "top 1 dry months 1..2 days 12-15..01-15") ≡ Err (UnexpectedWord 6))
+    × (read_query (codes "top 1 dry from 2020-07-01 to 2020-07-01 days 12-15..01-15") ≡ Err (UnexpectedWord 8))
+unfolding read_query read_words keyword says number months dates score_at no_score_at region_at season_at period_at
+    days_at date days_from_civil day_count days_of_years days_of_months
+days_refused = (refl, refl, refl, refl, refl, refl, refl, refl, refl, refl)
 
 -- no dates
 dates_refused : (read_query (codes "top 1 highest TMAX from 2019-02-29 to 2019-03-01") ≡ Err (BadDate 6))
@@ -263,11 +297,12 @@ edges_behind : map place_behind (
     ≡ edge ∷ edge ∷ edge ∷ another ∷ []
 edges_behind = refl
 
--- degrees and months
+-- degrees, months and the days of a season
 others_behind : map place_behind ((codes "hot" ∷ codes "1" ∷ []) ∷ (codes "30" ∷ codes "hot" ∷ [])
     ∷ (codes "cold" ∷ codes "1" ∷ []) ∷ (codes "30" ∷ codes "cold" ∷ [])
-    ∷ (codes "months" ∷ codes "dry" ∷ []) ∷ (codes "1..2" ∷ codes "months" ∷ []) ∷ [])
-    ≡ a_heat ∷ another ∷ a_heat ∷ another ∷ a_season ∷ another ∷ []
+    ∷ (codes "months" ∷ codes "dry" ∷ []) ∷ (codes "1..2" ∷ codes "months" ∷ [])
+    ∷ (codes "days" ∷ codes "dry" ∷ []) ∷ (codes "01-01..02-29" ∷ codes "days" ∷ []) ∷ [])
+    ≡ a_heat ∷ another ∷ a_heat ∷ another ∷ a_season ∷ another ∷ two_dates ∷ another ∷ []
 others_behind = refl
 
 -- of a period: "to" may be a country too
@@ -343,9 +378,15 @@ unfolding digits
 canonical_texts = (refl, refl, refl, refl, refl, refl, refl, refl, refl)
 
 -- with a season
-season_text : query_text (dry_in (12, 2)) ≡ codes "top 1 dry months 12..2"
+season_text : query_text (dry_months 12 2) ≡ codes "top 1 dry months 12..2"
 unfolding digits
 season_text = refl
+
+-- by months or by days
+days_texts : (query_text (dry_days (pos 11_306) (pos 10_971)) ≡ codes "top 1 dry days 12-15..01-15")
+    × (query_text (dry_days (pos 11_016) (pos 11_016)) ≡ codes "top 1 dry days 02-29..02-29")
+unfolding digits year_and_rest month_and_day
+days_texts = (refl, refl)
 
 -- with a region
 box_text : query_text
@@ -443,13 +484,39 @@ all_days = refl
 
 -- a season over the turn of the year has its first and its last month: 2019-11-30 to 2019-12-01, 2020-01-31 to
 -- 2020-02-01
-winter : map (λ day. admits_day (dry_in (12, 1)) day) (pos 18230 ∷ pos 18231 ∷ pos 18292 ∷ pos 18293 ∷ [])
+winter : map (λ day. admits_day (dry_months 12 1) day) (pos 18230 ∷ pos 18231 ∷ pos 18292 ∷ pos 18293 ∷ [])
     ≡ false ∷ true ∷ true ∷ false ∷ []
 unfolding year_and_rest month_and_day
 winter = refl
 
 -- one of one year has what lies between: 2020-05-31 to 2020-06-01, 2020-06-30 to 2020-07-01
-june : map (λ day. admits_day (dry_in (6, 6)) day) (pos 18413 ∷ pos 18414 ∷ pos 18443 ∷ pos 18444 ∷ [])
+june : map (λ day. admits_day (dry_months 6 6) day) (pos 18413 ∷ pos 18414 ∷ pos 18443 ∷ pos 18444 ∷ [])
     ≡ false ∷ true ∷ true ∷ false ∷ []
 unfolding year_and_rest month_and_day
 june = refl
+
+-- a season of days has its first and its last day, of every year: 1 July of 2019, 2020 and 2021, and the days around it
+first_of_july : map (λ day. admits_day (dry_days (pos 11_139) (pos 11_139)) day)
+    (pos 18_077 ∷ pos 18_078 ∷ pos 18_079 ∷ pos 18_443 ∷ pos 18_444 ∷ pos 18_445 ∷ pos 18_809 ∷ [])
+    ≡ false ∷ true ∷ false ∷ false ∷ true ∷ false ∷ true ∷ []
+unfolding year_and_rest month_and_day days_from_civil day_count days_of_years days_of_months
+first_of_july = refl
+
+-- over the turn of the year: 2019-12-14 to 2019-12-15, 2020-01-15 to 2020-01-16
+over_the_turn : map (λ day. admits_day (dry_days (pos 11_306) (pos 10_971)) day)
+    (pos 18_244 ∷ pos 18_245 ∷ pos 18_261 ∷ pos 18_262 ∷ pos 18_276 ∷ pos 18_277 ∷ [])
+    ≡ false ∷ true ∷ true ∷ true ∷ true ∷ false ∷ []
+unfolding year_and_rest month_and_day days_from_civil day_count days_of_years days_of_months
+over_the_turn = refl
+
+-- 29 February is there in leap years alone: 2019-02-28 and 2019-03-01, 2020-02-28 to 2020-03-01
+leap_days : map (λ day. admits_day (dry_days (pos 11_016) (pos 11_016)) day)
+    (pos 17_955 ∷ pos 17_956 ∷ pos 18_320 ∷ pos 18_321 ∷ pos 18_322 ∷ []) ≡ false ∷ false ∷ false ∷ true ∷ false ∷ []
+unfolding year_and_rest month_and_day days_from_civil day_count days_of_years days_of_months
+leap_days = refl
+
+-- and all others are from 1 March to 28 February
+no_leap_days : map (λ day. admits_day (dry_days (pos 11_017) (pos 11_015)) day)
+    (pos 17_955 ∷ pos 17_956 ∷ pos 18_320 ∷ pos 18_321 ∷ pos 18_322 ∷ []) ≡ true ∷ true ∷ true ∷ false ∷ true ∷ []
+unfolding year_and_rest month_and_day days_from_civil day_count days_of_years days_of_months
+no_leap_days = refl

@@ -5,19 +5,22 @@ use Rattle.rank_query.proofs.Cited.{◌++◌, length, reverse, Option, Some, Non
 use Rattle.rank_query.proofs.Cited.{ap, ◌∙◌, subst, is_some, arith, nat_lt, ℤ, pos, neg_ℤ, int_le, AllByRecursion}
 use Rattle.rank_query.proofs.Cited.{map-append, length-map, length-reverse, reverse-reverse, read_date}
 use Rattle.rank_query.proofs.Cited.{is_within, natural, scaled_field, Element, element_of, is_number_within, number_of}
-use Rattle.rank_query.proofs.Cited.{Score, Highest, Lowest, Sum, Dry, Wet, Hot, Cold, Region, Everywhere, Inside, Country}
+use Rattle.rank_query.proofs.Cited.{Score, Highest, Lowest, Sum, Dry, Wet, Hot, Cold, Region, Everywhere, Inside}
+use Rattle.rank_query.proofs.Cited.{Country}
+use Rattle.rank_query.proofs.Cited.{Season, AllYear, Months, Dates}
 use Rattle.rank_query.proofs.Cited.{State, Only, QueryFault, QueryTooLong, UnexpectedWord, QueryEnds, OutOfLimits}
 use Rattle.rank_query.proofs.Cited.{BadDate, BadBox, EmptyPeriod, Asked, is_temperature, is_fall, is_heat, is_month}
 use Rattle.rank_query.proofs.Cited.{is_code, Word, says, words_of, numbered_words, ◌>>=◌, Read, keyword, one_word}
 use Rattle.rank_query.proofs.Cited.{made_into, by_word, number, element, heat, months, degrees, code, date, tenths_in}
-use Rattle.rank_query.proofs.Cited.{two_numbers, no_score_at, sum_at}
+use Rattle.rank_query.proofs.Cited.{two_numbers, two_days, dates, no_score_at, sum_at}
 use Rattle.rank_query.proofs.Cited.{score_at, box_at, everywhere_at, region_at}
-use Rattle.rank_query.proofs.Cited.{months_at, all_year_at, season_at, days_at, between_at, always_at, period_at}
+use Rattle.rank_query.proofs.Cited.{months_at, dates_at, all_year_at, season_at, days_at, between_at, always_at}
+use Rattle.rank_query.proofs.Cited.{period_at}
 use Rattle.rank_query.proofs.Cited.{nothing_more, read_words, read_query, place_behind, edge, other, has_form}
 use Rattle.rank_query.proofs.Cited.{is_decimal, is_behind_box, is_behind_first_day, IsFaultAmong}
 use Rattle.rank_query.proofs.Cited.{cases_Bool}
 use mathlib.Core.List.{reverse_aux}
-use Rattle.rank_query.specs.FaultKinds.{number as a_number, heat as a_heat, date as a_date, IsFaultOf}
+use Rattle.rank_query.specs.FaultKinds.{number as a_number, heat as a_heat, date as a_date, dates as a_dates, IsFaultOf}
 use Rattle.rank_query.proofs.ReadingSteps.{said, unnumbered, unnumbered-enumerate_from, tested, tested_err, test_err}
 use Rattle.rank_query.proofs.ReadingSteps.{test_ok, or_fault_err}
 use Rattle.rank_query.proofs.Spellings.{asked}
@@ -29,7 +32,8 @@ use Rattle.rank_query.proofs.Stops.{bind_err}
 use Rattle.rank_query.proofs.FaultPlaces.{place_of}
 use Rattle.rank_query.proofs.Places.{IsSettled, IsNoKeyword, HaveOtherLengths, not_both, settled_word, edge_more}
 use Rattle.rank_query.proofs.Places.{edge_less, edge_place, number_no_keyword, heat_no_keyword, months_no_keyword}
-use Rattle.rank_query.proofs.Places.{degrees_no_keyword, code_no_keyword, date_no_keyword, element_settled}
+use Rattle.rank_query.proofs.Places.{degrees_no_keyword, code_no_keyword, date_no_keyword, dates_no_keyword}
+use Rattle.rank_query.proofs.Places.{element_settled}
 use Rattle.rank_query.proofs.Places.{degrees_decimal, day_date}
 
 -- the error of a word that is wrong after these, if it has this number
@@ -202,7 +206,15 @@ date_kind : (past : List (List ℕ)) → place_behind past ≡ a_date → (w : W
 unfolding date
 date_kind past place w f e =
     let none = or_fault_err (BadDate w.0) f (read_date w.1) e in
-    subst (λ f. IsKind f w.0 past w.1) none.1 (λ at. (at, place, ap is_some none.0))
+    subst (λ f. IsKind f w.0 past w.1) none.1 (λ at. (at, inl (place, ap is_some none.0)))
+
+-- also of the days of a season
+dates_kind : (past : List (List ℕ)) → place_behind past ≡ a_dates → (w : Word) (f : QueryFault) → dates w ≡ Err f
+    → IsKind f w.0 past w.1
+unfolding dates
+dates_kind past place w f e =
+    let none = or_fault_err (BadDate w.0) f (two_days w.1) e in
+    subst (λ f. IsKind f w.0 past w.1) none.1 (λ at. (at, inr (place, ap is_some none.0)))
 
 -- after a word, what is made of the value of another
 made_row : {A B : Type 0} (text : List ℕ) (value : Word → Result A QueryFault) (make : A → B)
@@ -344,22 +356,27 @@ region_part =
     ) (always_part Everywhere)
   where
     two : HaveOtherLengths 2
-    two = (refl, (refl, (refl, (refl, (refl, (refl, (refl, tt)))))))
+    two = (refl, (refl, (refl, (refl, (refl, (refl, (refl, (refl, tt))))))))
 
     eleven : HaveOtherLengths 11
-    eleven = (refl, (refl, (refl, (refl, (refl, (refl, (refl, tt)))))))
+    eleven = (refl, (refl, (refl, (refl, (refl, (refl, (refl, (refl, tt))))))))
 
 -- two months after "months"
-months_row : Row (Option (ℕ × ℕ)) (codes "months") months_at
+months_row : Row Season (codes "months") months_at
 unfolding months
-months_row = made_row (codes "months") months Some
+months_row = made_row (codes "months") months (λ s. Months s.0 s.1)
     (λ past. limited_kind two_numbers (λ s. is_month s.0 && is_month s.1) (codes "months" ∷ past) (λ word. refl))
     (λ past w s is. settled_word w.1 (codes "months" ∷ past) (months_no_keyword w s is) refl refl)
 
+-- two days after "days"
+dates_row : Row Season (codes "days") dates_at
+dates_row = made_row (codes "days") dates (λ s. Dates s.0 s.1) (λ past. dates_kind (codes "days" ∷ past) refl)
+    (λ past w s is. settled_word w.1 (codes "days" ∷ past) (dates_no_keyword w s is) refl refl)
+
 -- a season
-season_part : Part (Option (ℕ × ℕ)) season_at
+season_part : Part Season season_at
 unfolding season_at
-season_part = rows_part season_rows all_year_at (months_row, tt) (always_part None)
+season_part = rows_part season_rows all_year_at (months_row, (dates_row, tt)) (always_part AllYear)
 
 -- two days after "from"
 days_row : Row (Option (ℤ × ℤ)) (codes "from") between_at

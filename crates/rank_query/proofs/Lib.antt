@@ -7,7 +7,9 @@ pub mod ReadingSteps
 pub mod WordValues
 pub mod ScoreWords
 pub mod RegionWords
+pub mod DaysOfYear
 pub mod Months
+pub mod Edges
 pub mod SeasonWords
 pub mod PeriodWords
 pub mod Spellings

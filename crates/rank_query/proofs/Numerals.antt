@@ -6,7 +6,7 @@ use Rattle.rank_query.proofs.Cited.{option_map, is_ascii_digit, digit_value, dig
 use Rattle.rank_query.proofs.Cited.{false_from_ne_true, cases_Bool, ints, drop_all, position_or_len_is, cond_some}
 use Rattle.rank_query.proofs.Cited.{IsFirstByte, is_byte, natural, joined, decimal_number, with_sign, signed_by}
 use Rattle.rank_query.proofs.Cited.{OutOfLimits, is_heat, heat, tenths_in, is_point}
-use Rattle.rank_query.proofs.Cited.{two_numbers, both_numbers, natural_behind}
+use Rattle.rank_query.proofs.Cited.{two_numbers, both, natural_behind}
 use Rattle.std.proofs.lemmas.Int.Digits.{digits_value_more}
 use Rattle.rank_query.proofs.ReadingSteps.{tested_again}
 
@@ -102,13 +102,13 @@ two-whole word nowhere =
     let none : after_first is_point word ≡ [] = drop_all (position_or_len is_point word + 1) word (omega arith) in
     rw none (no_second (natural (before_first is_point word)))
   where
-    no_second : (o : Option ℕ) → both_numbers o None ≡ None
+    no_second : (o : Option ℕ) → both o None ≡ None
     no_second None = refl
     no_second (Some a) = refl
 
 -- the first number comes before the first point, and the second after another one
 pub two-point : (word : List ℕ) (point : ℕ) → IsFirstByte (is_byte 46) word (Some point)
-    → two_numbers word ≡ both_numbers (natural (take point word)) (natural_behind (drop (point + 1) word))
+    → two_numbers word ≡ both (natural (take point word)) (natural_behind (drop (point + 1) word))
 two-point word point first =
     let at : position_or_len is_point word ≡ point =
     position_or_len_is is_point word point 0 (omega (arith, first.0.high))

@@ -1,7 +1,7 @@
 -- The words of a period: those that are read as a period spell it, and those that spell it are read as it.
 use Rattle.rank_query.proofs.Cited.{◌≡◌, ℕ, true, cond, ◌&&◌, List, [], ◌∷◌, ◌++◌, Option, Some, None, Ok, Err, codes}
 use Rattle.rank_query.proofs.Cited.{refl, sym, ap, subst, ℤ, int_le, and_parts, is_day, date_text, EmptyPeriod}
-use Rattle.rank_query.proofs.Cited.{is_period, Word, says, Read, keyword, one_word, date, season_at, days_at}
+use Rattle.rank_query.proofs.Cited.{is_period, AllYear, Word, says, Read, keyword, one_word, date, season_at, days_at}
 use Rattle.rank_query.proofs.Cited.{between_at, always_at, period_at, QueryWord, Exactly, period_words}
 use Rattle.rank_query.proofs.ReadingSteps.{bind_ok, test_ok, keyword_took, unnumbered}
 use Rattle.rank_query.proofs.SpeltWords.{TakesBehind, Spell, took_same, word_took, made_took, rows_took, ReadsAs}
@@ -67,7 +67,7 @@ period_read (Some p) is = behind_read period_at between_at (codes "from") (λ at
     (made_read Some (days_read p.0 p.1 [] is))
 
 -- a period begins no season
-pub no_season : (p : Option (ℤ × ℤ)) → PassesBy season_at None (period_words p ++ [])
+pub no_season : (p : Option (ℤ × ℤ)) → PassesBy season_at AllYear (period_words p ++ [])
 unfolding season_at says
 no_season None = refl
 no_season (Some p) = (codes "from", refl, λ at ws. refl)

@@ -3,8 +3,10 @@ use Rattle.rank_query.proofs.Cited.{◌≡◌, ℕ, suc, Bool, true, false, cond
 use Rattle.rank_query.proofs.Cited.{Err, codes, refl, sym, ap, subst, is_some, ℤ, bytes_decides, AllByRecursion, Field}
 use Rattle.rank_query.proofs.Cited.{Blank, Number, Bad, same_bytes, read_date, scaled_field, Element, Prcp, Snow, Snwd}
 use Rattle.rank_query.proofs.Cited.{Tmax, Tmin, code_of, is_number_within, number_of, QueryFault, UnexpectedWord}
-use Rattle.rank_query.proofs.Cited.{BadDate, BadBox, is_code, Word, number, element, heat, months, degrees, code, date}
-use Rattle.rank_query.proofs.Cited.{edge, other, is_number, is_decimal, is_date_word, is_behind_box, is_behind_first_day}
+use Rattle.rank_query.proofs.Cited.{BadDate, BadBox, is_code, Word, number, element, heat, months, dates, degrees, code}
+use Rattle.rank_query.proofs.Cited.{date}
+use Rattle.rank_query.proofs.Cited.{edge, other, is_number, is_decimal, is_date_word, is_behind_box}
+use Rattle.rank_query.proofs.Cited.{is_behind_first_day}
 use Rattle.rank_query.proofs.Cited.{place_behind}
 use Rattle.ghcn_files.proofs.Ordered.{each-weaker}
 use Rattle.rank_query.proofs.ReadingSteps.{or_fault_ok}
@@ -14,10 +16,11 @@ use Rattle.rank_query.proofs.WordValues.{element_code}
 abbrev pub IsSettled : List (List ℕ) → Type 0
 IsSettled past = place_behind past ≡ other
 
--- the words after which an edge, a first date, a number, degrees or months come
+-- the words after which an edge, a first date, a number, degrees, months or days of a season come
 abbrev keywords : List (List ℕ)
 keywords =
-    codes "box" ∷ codes "from" ∷ codes "top" ∷ codes "sum" ∷ codes "hot" ∷ codes "cold" ∷ codes "months" ∷ []
+    codes "box" ∷ codes "from" ∷ codes "top" ∷ codes "sum" ∷ codes "hot" ∷ codes "cold" ∷ codes "months" ∷ codes "days"
+    ∷ []
 
 -- a word is none of them
 abbrev pub IsNoKeyword : List ℕ → Type 0
@@ -65,19 +68,20 @@ number_no_keyword low high w n e = grind (arith, ints, no_keyword)
 -- nor are degrees by which a day is hot or cold
 pub heat_no_keyword : (w : Word) (t : ℤ) → heat w ≡ Ok t → IsNoKeyword w.1
 unfolding heat
-heat_no_keyword w t e = no_keyword heat w t (UnexpectedWord w.0) e (refl, (refl, (refl, (refl, (refl, (refl, (refl, tt)))))))
+heat_no_keyword w t e = no_keyword heat w t (UnexpectedWord w.0) e
+    (refl, (refl, (refl, (refl, (refl, (refl, (refl, (refl, tt))))))))
 
 -- nor are the months of a season
 pub months_no_keyword : (w : Word) (s : ℕ × ℕ) → months w ≡ Ok s → IsNoKeyword w.1
 unfolding months
 months_no_keyword w s e = no_keyword months w s (UnexpectedWord w.0) e
-    (refl, (refl, (refl, (refl, (refl, (refl, (refl, tt)))))))
+    (refl, (refl, (refl, (refl, (refl, (refl, (refl, (refl, tt))))))))
 
 -- nor are degrees of a box
 pub degrees_no_keyword : (low high : ℤ) (w : Word) (z : ℤ) → degrees low high w ≡ Ok z → IsNoKeyword w.1
 unfolding degrees
 degrees_no_keyword low high w z e = no_keyword (degrees low high) w z (BadBox w.0) e
-    (refl, (refl, (refl, (refl, (refl, (refl, (refl, tt)))))))
+    (refl, (refl, (refl, (refl, (refl, (refl, (refl, (refl, tt))))))))
 
 -- no keyword has the length of a code
 abbrev pub HaveOtherLengths : ℕ → Type 0
@@ -93,7 +97,14 @@ code_no_keyword len w c lengths e = no_keyword (code len) w c (UnexpectedWord w.
 -- nor is a date
 pub date_no_keyword : (w : Word) (day : ℤ) → date w ≡ Ok day → IsNoKeyword w.1
 unfolding date
-date_no_keyword w day e = no_keyword date w day (BadDate w.0) e (refl, (refl, (refl, (refl, (refl, (refl, (refl, tt)))))))
+date_no_keyword w day e = no_keyword date w day (BadDate w.0) e
+    (refl, (refl, (refl, (refl, (refl, (refl, (refl, (refl, tt))))))))
+
+-- nor are the days of a season
+pub dates_no_keyword : (w : Word) (s : ℤ × ℤ) → dates w ≡ Ok s → IsNoKeyword w.1
+unfolding dates
+dates_no_keyword w s e = no_keyword dates w s (BadDate w.0) e
+    (refl, (refl, (refl, (refl, (refl, (refl, (refl, (refl, tt))))))))
 
 -- after the code of an element another word comes
 code_settled : (e : Element) (past : List (List ℕ)) → IsSettled (code_of e ∷ past)

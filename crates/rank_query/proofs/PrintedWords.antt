@@ -6,7 +6,7 @@ use Rattle.rank_query.proofs.Cited.{join_with_byte, is_ascii_digit, digit_value,
 use Rattle.rank_query.proofs.Cited.{nat_tests, decimal_is_IsNumeral, length-decimal-le, decimal_digit, ints, civil}
 use Rattle.rank_query.proofs.Cited.{date_text, Spells, sign_text, with_sign, last_digits, four_places}
 use Rattle.rank_query.proofs.Cited.{tenths, Element, Prcp, Snow, Snwd, Tmax, Tmin, code_of, is_visible, is_printable}
-use Rattle.rank_query.proofs.Cited.{is_code, IsNumeralOf, Months, SpellsWord, word_text}
+use Rattle.rank_query.proofs.Cited.{is_code, IsNumeralOf, TwoMonths, SpellsWord, word_text, dates_text, drop}
 use Rattle.rank_query.proofs.Cited.{◌-◌, get_or, subst, AllPass-from_list_all}
 use Rattle.std.proofs.lemmas.List.Sums.{list_all-from_AllPass}
 use Rattle.std.proofs.lemmas.List.Folds.{list_all-append}
@@ -15,15 +15,15 @@ use Rattle.ghcn_fields.proofs.DateDigits.{digits-last_digits}
 use Rattle.ghcn_fields.specs.NumberTexts.{tenths_of}
 use Rattle.rank_query.proofs.OneWords.{stands_in_word, IsOneWord}
 
--- one word of at most eleven visible bytes
+-- one word of at most twelve visible bytes
 pub record IsShortWord (word : List ℕ) : Type 0 where
   pub one : IsOneWord word
-  pub short : length word ≤ 11
+  pub short : length word ≤ 12
   pub visible : list_all is_visible word ≡ true
 
 -- some short words, joined by blanks, are a short text
 pub length-join : (words : List (List ℕ)) → AllByRecursion IsShortWord words
-    → length (join_with_byte 32 words) ≤ 12 * length words
+    → length (join_with_byte 32 words) ≤ 13 * length words
 length-join [] all = omega arith
 length-join (w ∷ []) all = omega (arith, all.0.short)
 length-join (w ∷ v ∷ words) all =
@@ -49,7 +49,7 @@ visible_printable : (b : ℕ) → is_visible b ≡ true → is_printable b ≡ t
 visible_printable b h = grind (arith, nat_tests)
 
 -- what has a byte is a word, if each of them is visible
-word_from : (word : List ℕ) → 1 ≤ length word → length word ≤ 11 → list_all is_visible word ≡ true → IsShortWord word
+word_from : (word : List ℕ) → 1 ≤ length word → length word ≤ 12 → list_all is_visible word ≡ true → IsShortWord word
 word_from word some short visible = record {
   one = record {
     some = grind (arith, nat_tests);
@@ -130,6 +130,19 @@ date_word day =
     visible-append (last_digits 4 year) (45 ∷ last_digits 2 month ++ 45 ∷ last_digits 2 dom) (last_visible 4 year)
     (visible-append (last_digits 2 month) (45 ∷ last_digits 2 dom) (last_visible 2 month) (last_visible 2 dom)) in
     word_from (date_text day) (omega arith) (omega arith) visible
+
+-- its date without the year
+pub date_end_visible : (day : ℤ) → list_all is_visible (drop 5 (date_text day)) ≡ true
+date_end_visible day =
+    visible-append (last_digits 2 (civil day).1) (45 ∷ last_digits 2 (civil day).2) (last_visible 2 (civil day).1)
+    (last_visible 2 (civil day).2)
+
+-- and two such dates with two points between them are one word
+pub dates_word : (first last : ℤ) → IsShortWord (dates_text first last)
+dates_word first last =
+    word_from (dates_text first last) (omega arith) (omega arith)
+    (visible-append (drop 5 (date_text first)) (codes ".." ++ drop 5 (date_text last)) (date_end_visible first)
+    (date_end_visible last))
 
 -- a digit after a number's last one has its value
 digit_value-byte : (n : ℕ) → digit_value (48 + n % 10) ≡ n % 10
@@ -223,7 +236,7 @@ tenths_text (pos n) low high = tenths_of_text false n (omega (arith, ints))
 tenths_text (negsuc n) low high = tenths_of_text true (suc n) (omega (arith, ints))
 
 -- two months joined by two points are one word
-pub months_word : (a b : ℕ) → a ≤ 12 → b ≤ 12 → IsShortWord (word_text (Months a b))
+pub months_word : (a b : ℕ) → a ≤ 12 → b ≤ 12 → IsShortWord (word_text (TwoMonths a b))
 months_word a b first last =
     let two = decimal_numeral b (omega arith) in
     let wide : length (decimal b) ≤ 2 = length-decimal-le 2 b (omega arith) (omega arith) (omega arith) in
@@ -231,6 +244,6 @@ months_word a b first last =
     (digits_visible (decimal b) two.digits_alone) (omega (arith, wide))).0
 
 -- and spell them
-pub months_spelt : (a b : ℕ) → a ≤ 12 → b ≤ 12 → SpellsWord (word_text (Months a b)) (Months a b)
+pub months_spelt : (a b : ℕ) → a ≤ 12 → b ≤ 12 → SpellsWord (word_text (TwoMonths a b)) (TwoMonths a b)
 months_spelt a b first last =
     (decimal a, decimal b, refl, decimal_numeral a (omega arith), decimal_numeral b (omega arith))

@@ -3,7 +3,7 @@ use Rattle.rank_query.proofs.Cited.{rules, ◌≡◌, ℕ, ◌+◌, ◌<◌, ◌
 use Rattle.rank_query.proofs.Cited.{Ok, Err, IsOk, MatchResult, IsUtf8, codes, decimal, refl, sym, ap, ◌∙◌}
 use Rattle.rank_query.proofs.Cited.{append_assoc, append-nil, arith, ℤ, join_with_byte, list_all, nat_tests}
 use Rattle.rank_query.proofs.Cited.{decimal_digit, AllPass-from_list_all, four_places, four_places_of, is_visible}
-use Rattle.rank_query.proofs.Cited.{Score, Region, Inside, query_text, score_words, region_words, season_words}
+use Rattle.rank_query.proofs.Cited.{Score, Region, Inside, Season, query_text, score_words, region_words, season_words}
 use Rattle.rank_query.proofs.Cited.{period_words, map, QueryWord, Exactly, Count, word_text}
 use Rattle.std.proofs.lemmas.List.Concat.{flat_map-append}
 use Rattle.std.proofs.lemmas.Str.{IsUtf8-from_ascii}
@@ -32,7 +32,7 @@ spaced-four ws xs ys zs =
     ∙ append_assoc (spaced ws) (spaced xs) (spaced ys ++ spaced zs)
 
 -- the pieces that are printed are the canonical text
-pub printed-is : (k : ℕ) (s : Score) (r : Region) (t : Option (ℕ × ℕ)) (p : Option (ℤ × ℤ))
+pub printed-is : (k : ℕ) (s : Score) (r : Region) (t : Season) (p : Option (ℤ × ℤ))
     → (codes "top " ++ decimal k) ++
     (spaced (score_words s) ++ (spaced (region_words r) ++ (spaced (season_words t) ++ spaced (period_words p))))
     ≡ query_text (record { k = k; score = s; region = r; season = t; period = p })

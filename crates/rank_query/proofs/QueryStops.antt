@@ -1,6 +1,7 @@
 -- Where the reading of a query stops.
-use Rattle.rank_query.proofs.Cited.{◌≡◌, ℕ, true, inl, inr, List, [], ◌∷◌, Option, None, Result, Ok, Err, codes, refl}
-use Rattle.rank_query.proofs.Cited.{sym, ap, ◌∙◌, AllByRecursion, Score, Region, Everywhere, QueryFault}
+use Rattle.rank_query.proofs.Cited.{◌≡◌, ℕ, true, inl, inr, List, [], ◌∷◌, None, Result, Ok, Err, codes, refl}
+use Rattle.rank_query.proofs.Cited.{sym, ap, ◌∙◌, AllByRecursion, Score, Region, Everywhere, Season, AllYear}
+use Rattle.rank_query.proofs.Cited.{QueryFault}
 use Rattle.rank_query.proofs.Cited.{UnexpectedWord, Asked, Word, says, ◌>>=◌, Read, one_word, by_word, number}
 use Rattle.rank_query.proofs.Cited.{score_at, region_at, season_at, period_at, nothing_more, read_words}
 use Rattle.rank_query.proofs.Spellings.{asked}
@@ -17,7 +18,7 @@ use Rattle.rank_query.proofs.PeriodStops.{GoodPeriod, period_parts}
 use Rattle.rank_query.proofs.PeriodWords.{period_rows}
 
 -- what is read after a season
-abbrev from_period : ℕ → Score → Region → Option (ℕ × ℕ) → Reading Asked
+abbrev from_period : ℕ → Score → Region → Season → Reading Asked
 from_period k s r t ws = period_at ws >>= λ p. nothing_more p.1 (asked k s r t p.0)
 
 -- after a region
@@ -69,7 +70,7 @@ first_from next q reads ahead = record { on = on; stops = stops } where
   stops (w ∷ ws) fault e = ahead next w ws fault (λ rest. refl) on e
 
 -- from a period on
-period_ahead : (k : ℕ) (s : Score) (r : Region) (t : Option (ℕ × ℕ)) → StopsAhead (from_period k s r t)
+period_ahead : (k : ℕ) (s : Score) (r : Region) (t : Season) → StopsAhead (from_period k s r t)
 unfolding period_at
 period_ahead k s r t =
     optional_ahead GoodPeriod period_rows None (λ p ws. nothing_more ws (asked k s r t p)) period_parts
@@ -77,7 +78,7 @@ period_ahead k s r t =
     (nothing_ahead (asked k s r t p))) (nothing_ahead (asked k s r t None))
 
 -- a period may be missing
-period_first : (k : ℕ) (s : Score) (r : Region) (t : Option (ℕ × ℕ)) → StopsFirst Asked Any (from_period k s r t)
+period_first : (k : ℕ) (s : Score) (r : Region) (t : Season) → StopsFirst Asked Any (from_period k s r t)
 unfolding period_at
 period_first k s r t = first_from (from_period k s r t) (asked k s r t None) refl (period_ahead k s r t)
 
@@ -85,13 +86,13 @@ period_first k s r t = first_from (from_period k s r t) (asked k s r t None) ref
 season_ahead : (k : ℕ) (s : Score) (r : Region) → StopsAhead (from_season k s r)
 unfolding season_at
 season_ahead k s r =
-    optional_ahead GoodSeason season_rows None (from_period k s r) season_parts (λ t season. period_first k s r t)
-    (period_ahead k s r None)
+    optional_ahead GoodSeason season_rows AllYear (from_period k s r) season_parts (λ t season. period_first k s r t)
+    (period_ahead k s r AllYear)
 
 -- a season and a period may both be missing
 season_first : (k : ℕ) (s : Score) (r : Region) → StopsFirst Asked Any (from_season k s r)
 unfolding season_at period_at
-season_first k s r = first_from (from_season k s r) (asked k s r None None) refl (season_ahead k s r)
+season_first k s r = first_from (from_season k s r) (asked k s r AllYear None) refl (season_ahead k s r)
 
 -- from a region on
 region_ahead : (k : ℕ) (s : Score) → StopsAhead (from_region k s)
@@ -103,7 +104,7 @@ region_ahead k s =
 -- a region, a season and a period may all be missing
 region_first : (k : ℕ) (s : Score) → StopsFirst Asked Any (from_region k s)
 unfolding region_at season_at period_at
-region_first k s = first_from (from_region k s) (asked k s Everywhere None None) refl (region_ahead k s)
+region_first k s = first_from (from_region k s) (asked k s Everywhere AllYear None) refl (region_ahead k s)
 
 -- 1 is a number of rows
 pub one_row : number 1 1000 (0, codes "1") ≡ Ok 1

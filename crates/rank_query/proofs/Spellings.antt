@@ -1,7 +1,8 @@
 -- What is read as a query spells it, and what spells a query is read as it.
 use Rattle.rank_query.proofs.Cited.{ints, ◌≡◌, ℕ, ◌≤◌, false, List, [], ◌∷◌, ◌++◌, length, Option, Ok, codes, refl, sym}
 use Rattle.rank_query.proofs.Cited.{ap, ◌∙◌, subst, append_assoc, append-nil, arith, nat_lt, ℤ, enumerate_from}
-use Rattle.rank_query.proofs.Cited.{AllByRecursion, nat_tests, Score, Region, QueryTooLong, Asked, IsAsked, Word}
+use Rattle.rank_query.proofs.Cited.{AllByRecursion, nat_tests, Score, Region, Season, QueryTooLong, Asked, IsAsked}
+use Rattle.rank_query.proofs.Cited.{Word}
 use Rattle.rank_query.proofs.Cited.{words_of, numbered_words, says, keyword, one_word, number, score_at, region_at}
 use Rattle.rank_query.proofs.Cited.{season_at, period_at, nothing_more, read_words, read_query, SpellsQuery, IsSpelling}
 use Rattle.rank_query.proofs.Cited.{Count, QueryWord, score_words, region_words, season_words, period_words}
@@ -25,7 +26,7 @@ none_spelt [] all = refl
 none_spelt (w ∷ words) all = absurd all
 
 -- what is asked by its parts
-abbrev pub asked : ℕ → Score → Region → Option (ℕ × ℕ) → Option (ℤ × ℤ) → Asked
+abbrev pub asked : ℕ → Score → Region → Season → Option (ℤ × ℤ) → Asked
 asked k s r t p = record { k = k; score = s; region = r; season = t; period = p }
 
 -- the words of the parts of a query come one after another
@@ -34,7 +35,7 @@ parts_order s r t p =
     append_assoc (s ++ r) t p ∙ append_assoc s r (t ++ p) ∙ ap (λ p. s ++ (r ++ (t ++ p))) (sym (append-nil p))
 
 -- words spell a query, if those after "top" spell the others
-query_spelt : (ws left : List Word) (k : ℕ) (s : Score) (r : Region) (t : Option (ℕ × ℕ)) (p : Option (ℤ × ℤ))
+query_spelt : (ws left : List Word) (k : ℕ) (s : Score) (r : Region) (t : Season) (p : Option (ℤ × ℤ))
     → unnumbered ws ≡ codes "top" ∷ unnumbered left → Spell (unnumbered left)
     (Count k ∷ score_words s ++ (region_words r ++ (season_words t ++ (period_words p ++ []))))
     → AllByRecursion HasNoBlank (unnumbered ws) → SpellsQuery (unnumbered ws) (asked k s r t p)

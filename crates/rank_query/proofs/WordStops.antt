@@ -1,14 +1,18 @@
 -- Which words have no value, and some that have one.
 use Rattle.rank_query.proofs.Cited.{inl, inr, ◌≡◌, ℕ, Bool, true, cond, ◌&&◌, List, [], Option, Result, Ok, Err, codes}
 use Rattle.rank_query.proofs.Cited.{refl, ap, subst, ℤ, pos, neg_ℤ, int_le, Field, Blank, Number, Bad, is_within}
-use Rattle.rank_query.proofs.Cited.{is_day, date_text, read_date, natural, scaled_field, Element, code_of, element_of}
+use Rattle.rank_query.proofs.Cited.{is_day, date_text, dates_text, read_date, natural, scaled_field, Element, code_of}
+use Rattle.rank_query.proofs.Cited.{element_of}
 use Rattle.rank_query.proofs.Cited.{is_number_within, number_of, QueryFault, UnexpectedWord, OutOfLimits, BadDate}
-use Rattle.rank_query.proofs.Cited.{BadBox, is_code, is_heat, is_month, Word, number, element, heat}
-use Rattle.rank_query.proofs.Cited.{months, degrees, code, date, tenths_in, two_numbers, latitude_from, longitude}
+use Rattle.rank_query.proofs.Cited.{BadBox, is_code, is_heat, is_month, is_day_of_2000, Word, number, element, heat}
+use Rattle.rank_query.proofs.Cited.{dates}
+use Rattle.rank_query.proofs.Cited.{months, degrees, code, date, tenths_in, two_numbers, two_days, latitude_from}
+use Rattle.rank_query.proofs.Cited.{longitude}
 use Rattle.rank_query.proofs.OneWords.{HasNoBlank}
 use Rattle.rank_query.proofs.ReadingSteps.{test_ok, test_err, or_fault_err, tested, tested_ok, tested_err}
 use Rattle.rank_query.proofs.WordValues.{is_longitude, code_element, date_day, written_date}
-use Rattle.rank_query.proofs.PrintedWords.{date_word}
+use Rattle.rank_query.proofs.DaysOfYear.{dates_read, written_dates}
+use Rattle.rank_query.proofs.PrintedWords.{date_word, dates_word}
 use Rattle.rank_query.proofs.Stops.{IsWordOf}
 use Rattle.rank_query.proofs.PartStops.{ReadsWord}
 
@@ -54,6 +58,18 @@ pub reads_months : ReadsWord (ℕ × ℕ) (λ s. (is_month s.0 && is_month s.1) 
 unfolding months
 reads_months = reads_tested two_numbers (λ s. is_month s.0 && is_month s.1) OutOfLimits (codes "1..1") (1, 1) refl
     (λ w. refl) refl
+
+-- the first and the last day of a season
+pub reads_dates : ReadsWord (ℤ × ℤ) (λ s. (is_day_of_2000 s.0 && is_day_of_2000 s.1) ≡ true) dates
+unfolding dates
+reads_dates = record {
+  good = λ w s e. (dates_read w s e).0;
+  told = λ w fault e. subst (λ f. IsWordOf f [] w) (or_fault_err (BadDate w.0) fault (two_days w.1) e).1 refl;
+  sample = dates_text (pos 10_957) (pos 10_957);
+  clean = (dates_word (pos 10_957) (pos 10_957)).one.no_blank;
+  it = (pos 10_957, pos 10_957);
+  reads = written_dates 0 (pos 10_957) (pos 10_957) refl;
+}
 
 -- elements that a test allows, of which there is one
 pub reads_element : (allows : Element → Bool) (one : Element) → allows one ≡ true → HasNoBlank (code_of one)

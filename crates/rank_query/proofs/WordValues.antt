@@ -10,7 +10,7 @@ use Rattle.rank_query.proofs.Cited.{Spells, natural, scaled_field, Element, Prcp
 use Rattle.rank_query.proofs.Cited.{element_of, elements, is_number_within, number_of, UnexpectedWord, OutOfLimits}
 use Rattle.rank_query.proofs.Cited.{BadDate, BadBox, is_code, is_heat, is_month, Word, or_fault, number, element, heat}
 use Rattle.rank_query.proofs.Cited.{months, degrees, code, date, tenths_in, two_numbers, is_point, natural_behind}
-use Rattle.rank_query.proofs.Cited.{both_numbers, IsNumeralOf, Months, SpellsWord}
+use Rattle.rank_query.proofs.Cited.{both, IsNumeralOf, TwoMonths, SpellsWord}
 use Rattle.std.proofs.Math.Seq.{take-append_seam, drop-append-add}
 use Rattle.ghcn_fields.proofs.DateTexts.{read_date-law}
 use Rattle.ghcn_fields.proofs.DecimalTexts.{spells-from_signed, signed-from_spells}
@@ -71,12 +71,12 @@ point_at (d ∷ digits) rest all =
     let parts = and_parts (is_ascii_digit d) (list_all is_ascii_digit digits) all in
     rw (no_point d parts.0) (omega (arith, point_at digits rest parts.1))
 
--- two numbers that there are
-both-some : (o p : Option ℕ) (s : ℕ × ℕ) → both_numbers o p ≡ Some s → (o ≡ Some s.0) × (p ≡ Some s.1)
+-- two values that there are
+pub both-some : {A : Type 0} (o p : Option A) (s : A × A) → both o p ≡ Some s → (o ≡ Some s.0) × (p ≡ Some s.1)
 both-some None p s e = cc
 both-some (Some a) None s e = cc
-both-some (Some a) (Some b) s e =
-    let same : (a, b) ≡ s = cc in (ap (λ (s : ℕ × ℕ). Some s.0) same, ap (λ (s : ℕ × ℕ). Some s.1) same)
+both-some {A} (Some a) (Some b) s e =
+    let same : (a, b) ≡ s = cc in (ap (λ (s : A × A). Some s.0) same, ap (λ (s : A × A). Some s.1) same)
 
 -- a number after a point
 behind-some : (bytes : List ℕ) (n : ℕ) → natural_behind bytes ≡ Some n
@@ -89,7 +89,7 @@ behind-some (b ∷ bytes) n e = elim (cases_Bool (is_point b)) [
 
 -- a word that is read as two numbers joins them
 two_joined : (word : List ℕ) (s : ℕ × ℕ) → two_numbers word ≡ Some s
-    → SpellsWord word (Months s.0 s.1)
+    → SpellsWord word (TwoMonths s.0 s.1)
 two_joined word s e =
     let front : List ℕ = before_first is_point word in
     let place : ℕ = position_or_len is_point word in
@@ -106,7 +106,7 @@ two_joined word s e =
     )
 
 -- and a word that joins two numbers is read as them
-joined_two : (word : List ℕ) (a b : ℕ) → SpellsWord word (Months a b) → two_numbers word ≡ Some (a, b)
+joined_two : (word : List ℕ) (a b : ℕ) → SpellsWord word (TwoMonths a b) → two_numbers word ≡ Some (a, b)
 joined_two word a b j =
     let first : List ℕ = j.0 in
     let last : List ℕ = j.1 in
@@ -120,13 +120,13 @@ joined_two word a b j =
     rw (j.2, at, front, behind, one, two)
 
 -- a word that is read as months joins them
-pub months_joined : (w : Word) (s : ℕ × ℕ) → months w ≡ Ok s → SpellsWord w.1 (Months s.0 s.1)
+pub months_joined : (w : Word) (s : ℕ × ℕ) → months w ≡ Ok s → SpellsWord w.1 (TwoMonths s.0 s.1)
 unfolding months
 months_joined w s e = two_joined w.1 s (tested_ok two_numbers (λ v. is_month v.0 && is_month v.1) OutOfLimits w s e).0
 
 -- what joins two months is read as them
 pub joined_months : (s : ℕ × ℕ) (at : ℕ) (word : List ℕ) → (is_month s.0 && is_month s.1) ≡ true
-    → SpellsWord word (Months s.0 s.1) → months (at, word) ≡ Ok s
+    → SpellsWord word (TwoMonths s.0 s.1) → months (at, word) ≡ Ok s
 unfolding months
 joined_months s at word inside joins = tested_again two_numbers (λ v. is_month v.0 && is_month v.1) OutOfLimits at word
     s (joined_two word s.0 s.1 joins) inside

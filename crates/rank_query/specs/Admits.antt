@@ -1,5 +1,7 @@
 -- The stations and days that a query admits.
-use Rattle.std.specs.Prelude.{ℕ, Bool, true, ◌&&◌, ◌||◌, if◌then◌else◌, nat_le, take, Option, None, Some, ℤ, int_le}
+use Rattle.std.specs.Prelude.{ℕ, Bool, true, ◌&&◌, ◌||◌, if◌then◌else◌, nat_le, take, Option, None, Some, ℤ, pos}
+use Rattle.std.specs.Prelude.{int_le}
+use Rattle.jiff_core.specs.Calendar.{days_from_civil}
 use Rattle.ghcn_fields.specs.Bytes.{same_bytes}
 use Rattle.ghcn_fields.specs.Dates.{civil}
 use Rattle.ghcn_fields.specs.Days.{is_day, is_within}
@@ -7,12 +9,15 @@ use Rattle.ghcn_files.specs.declared.station.Station.{Station}
 use Rattle.ghcn_files.specs.Ids.{same_id}
 use Rattle.rank_query.specs.declared.region.Region.{Region}
 use Rattle.rank_query.specs.declared.region.Region.TheVariants.{Everywhere, Inside, Country, State, Only}
+use Rattle.rank_query.specs.declared.season.Season.{Season}
+use Rattle.rank_query.specs.declared.season.Season.TheVariants.{AllYear, Months, Dates}
 use Rattle.rank_query.specs.Asked.{Asked}
 
--- a longitude from the western to the eastern edge, over the date line if the western one is greater
+-- a number lies from a first to a last edge, over the date line or the turn of the year if the first is greater: it is
+-- a longitude between two others, or a day between two others of a year
 abbrev pub is_between_edges : ℤ → ℤ → ℤ → Bool
-is_between_edges west east z =
-    if int_le west east then int_le west z && int_le z east else int_le west z || int_le z east
+is_between_edges first last z =
+    if int_le first last then int_le first z && int_le z last else int_le first z || int_le z last
 
 -- the region holds the station
 abbrev pub region_holds : Region → Station → Bool
@@ -37,10 +42,15 @@ abbrev pub is_between_months : ℕ → ℕ → ℕ → Bool
 is_between_months first last m =
     if nat_le first last then is_within first last m else nat_le first m || nat_le m last
 
--- the season holds the day, by its month; without one every day
-abbrev pub season_holds : Option (ℕ × ℕ) → ℤ → Bool
-season_holds None day = true
-season_holds (Some s) day = is_between_months s.0 s.1 (civil day).1
+-- the day of the year 2000 with the month and the day of the month of a day
+abbrev pub in_2000 : ℤ → ℤ
+in_2000 day = days_from_civil (pos 2000) (civil day).1 (civil day).2
+
+-- the season holds the day, by its month, or by its month and its day of the month
+abbrev pub season_holds : Season → ℤ → Bool
+season_holds AllYear day = true
+season_holds (Months first last) day = is_between_months first last (civil day).1
+season_holds (Dates first last) day = is_between_edges first last (in_2000 day)
 
 -- the query admits the day
 abbrev pub admits_day : Asked → ℤ → Bool

@@ -10,19 +10,21 @@ use Rattle.rank_query.specs.declared.score.Score.{Score}
 use Rattle.rank_query.specs.declared.score.Score.TheVariants.{Highest, Lowest, Sum, Dry, Wet, Hot, Cold}
 use Rattle.rank_query.specs.declared.region.Region.{Region}
 use Rattle.rank_query.specs.declared.region.Region.TheVariants.{Everywhere, Inside, Country, State, Only}
+use Rattle.rank_query.specs.declared.season.Season.{Season}
+use Rattle.rank_query.specs.declared.season.Season.TheVariants.{AllYear, Months, Dates}
 
--- the k best of a score, of the stations of a region, in a season from a first to a last month, within a period of a
--- first and a last day; all months if there is no season, and all days if there is no period
+-- the k best of a score, of the stations of a region, in a season of each year, within a period of a first and a last
+-- day; all days if there is no period
 pub record Asked : Type 0 where
   pub k : ℕ
   pub score : Score
   pub region : Region
-  pub season : Option (ℕ × ℕ)
+  pub season : Season
   pub period : Option (ℤ × ℤ)
 
 -- the first k by a score, everywhere and always
 abbrev pub top : ℕ → Score → Asked
-top k score = record { k = k; score = score; region = Everywhere; season = None; period = None }
+top k score = record { k = k; score = score; region = Everywhere; season = AllYear; period = None }
 
 -- the element that a score is about
 abbrev pub score_element : Score → Element
@@ -82,10 +84,27 @@ is_region (Country code) = is_code 2 code
 is_region (State code) = is_code 2 code
 is_region (Only id) = is_id id.0
 
--- a season that can be asked for: none, or two months, by their numbers
-abbrev pub is_season : Option (ℕ × ℕ) → Bool
-is_season None = true
-is_season (Some s) = is_within 1 12 s.0 && is_within 1 12 s.1
+-- a day of the year 2000, which has 29 February
+abbrev pub is_day_of_2000 : ℤ → Bool
+is_day_of_2000 day = int_le (pos 10_957) day && int_le day (pos 11_322)
+
+-- a season that can be asked for: all year, two months by their numbers, or two days of the year 2000
+abbrev pub is_season : Season → Bool
+is_season AllYear = true
+is_season (Months first last) = is_within 1 12 first && is_within 1 12 last
+is_season (Dates first last) = is_day_of_2000 first && is_day_of_2000 last
+
+-- the first and the last month of a season that is given by months
+abbrev pub season_months : Season → Option (ℕ × ℕ)
+season_months AllYear = None
+season_months (Months first last) = Some (first, last)
+season_months (Dates first last) = None
+
+-- the first and the last day of a season that is given by days
+abbrev pub season_days : Season → Option (ℤ × ℤ)
+season_days AllYear = None
+season_days (Months first last) = None
+season_days (Dates first last) = Some (first, last)
 
 -- a period that can be asked for: none, or two days, the second not before the first
 abbrev pub is_period : Option (ℤ × ℤ) → Bool

@@ -1,5 +1,5 @@
 -- The words of a query in the order of the grammar, and its canonical text: these words, one blank between them.
-use Rattle.std.specs.Prelude.{ℕ, List, [], ◌∷◌, ◌++◌, map, codes, Option, None, Some, ℤ}
+use Rattle.std.specs.Prelude.{ℕ, List, [], ◌∷◌, ◌++◌, map, drop, codes, Option, None, Some, ℤ}
 use Rattle.std.specs.List.{join_with_byte}
 use Rattle.std.specs.Fmt.{decimal}
 use Rattle.ghcn_fields.specs.NumberTexts.{four_places, tenths}
@@ -9,6 +9,8 @@ use Rattle.rank_query.specs.declared.score.Score.{Score}
 use Rattle.rank_query.specs.declared.score.Score.TheVariants.{Highest, Lowest, Sum, Dry, Wet, Hot, Cold}
 use Rattle.rank_query.specs.declared.region.Region.{Region}
 use Rattle.rank_query.specs.declared.region.Region.TheVariants.{Everywhere, Inside, Country, State, Only}
+use Rattle.rank_query.specs.declared.season.Season.{Season}
+use Rattle.rank_query.specs.declared.season.Season.TheVariants.{AllYear, Months, Dates}
 use Rattle.rank_query.specs.Asked.{Asked}
 
 -- a word of a query: bytes as they are; or a number, which has more than one spelling: of rows or days, of tenths of
@@ -18,7 +20,7 @@ pub data QueryWord : Type 0 where
   Count : ℕ → QueryWord
   Tenths : ℤ → QueryWord
   Edge : ℤ → QueryWord
-  Months : ℕ → ℕ → QueryWord
+  TwoMonths : ℕ → ℕ → QueryWord
 
 -- the words of a score
 abbrev pub score_words : Score → List QueryWord
@@ -39,10 +41,15 @@ region_words (Country code) = Exactly (codes "country") ∷ Exactly code ∷ []
 region_words (State code) = Exactly (codes "state") ∷ Exactly code ∷ []
 region_words (Only id) = Exactly (codes "station") ∷ Exactly id.0 ∷ []
 
--- the words of a season; none for all months
-abbrev pub season_words : Option (ℕ × ℕ) → List QueryWord
-season_words None = []
-season_words (Some s) = Exactly (codes "months") ∷ Months s.0 s.1 ∷ []
+-- MM-DD..MM-DD, of two days
+abbrev pub dates_text : ℤ → ℤ → List ℕ
+dates_text first last = drop 5 (date_text first) ++ codes ".." ++ drop 5 (date_text last)
+
+-- the words of a season; none for all year
+abbrev pub season_words : Season → List QueryWord
+season_words AllYear = []
+season_words (Months first last) = Exactly (codes "months") ∷ TwoMonths first last ∷ []
+season_words (Dates first last) = Exactly (codes "days") ∷ Exactly (dates_text first last) ∷ []
 
 -- the words of a period; none for all days
 abbrev pub period_words : Option (ℤ × ℤ) → List QueryWord
@@ -62,7 +69,7 @@ word_text (Exactly text) = text
 word_text (Count n) = decimal n
 word_text (Tenths t) = tenths t
 word_text (Edge z) = four_places z
-word_text (Months first last) = decimal first ++ 46 ∷ 46 ∷ decimal last
+word_text (TwoMonths first last) = decimal first ++ 46 ∷ 46 ∷ decimal last
 
 -- the canonical text of a query
 abbrev pub query_text : Asked → List ℕ

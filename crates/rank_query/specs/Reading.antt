@@ -5,12 +5,14 @@ use Rattle.rank_query.specs.declared.score.Score.{Score}
 use Rattle.rank_query.specs.declared.score.Score.TheVariants.{Highest, Lowest, Sum, Dry, Wet, Hot, Cold}
 use Rattle.rank_query.specs.declared.region.Region.{Region}
 use Rattle.rank_query.specs.declared.region.Region.TheVariants.{Everywhere, Inside, Country, State, Only}
+use Rattle.rank_query.specs.declared.season.Season.{Season}
+use Rattle.rank_query.specs.declared.season.Season.TheVariants.{AllYear, Months, Dates}
 use Rattle.rank_query.specs.declared.fault.QueryFault.{QueryFault}
 use Rattle.rank_query.specs.declared.fault.QueryFault.TheVariants.{QueryTooLong, UnexpectedWord, EmptyPeriod}
 use Rattle.rank_query.specs.Asked.{Asked, is_temperature, is_fall}
 use Rattle.rank_query.specs.Words.{Word, numbered_words}
 use Rattle.rank_query.specs.Readers.{◌>>=◌, Read, next_word, keyword, one_word, made_into, by_word}
-use Rattle.rank_query.specs.WordValues.{number, element, heat, months, degrees, code, date}
+use Rattle.rank_query.specs.WordValues.{number, element, heat, months, dates, degrees, code, date}
 
 -- no score: another word is there, or none
 unfoldable pub no_score_at : List Word → Read Score
@@ -95,16 +97,20 @@ region_at ws =
     (codes "station", station_at) ∷ []) everywhere_at ws
 
 -- a season from a first to a last month
-abbrev pub months_at : List Word → Read (Option (ℕ × ℕ))
-months_at ws = made_into Some (one_word months ws)
+abbrev pub months_at : List Word → Read Season
+months_at ws = made_into (λ s. Months s.0 s.1) (one_word months ws)
 
--- all months, without a word
-abbrev pub all_year_at : List Word → Read (Option (ℕ × ℕ))
-all_year_at ws = Ok (None, ws)
+-- a season from a first to a last day of a year
+abbrev pub dates_at : List Word → Read Season
+dates_at ws = made_into (λ s. Dates s.0 s.1) (one_word dates ws)
 
--- a season, by its first word, and without one all months
-unfoldable pub season_at : List Word → Read (Option (ℕ × ℕ))
-season_at ws = by_word ((codes "months", months_at) ∷ []) all_year_at ws
+-- all year, without a word
+abbrev pub all_year_at : List Word → Read Season
+all_year_at ws = Ok (AllYear, ws)
+
+-- a season, by its first word, and without one all year
+unfoldable pub season_at : List Word → Read Season
+season_at ws = by_word ((codes "months", months_at) ∷ (codes "days", dates_at) ∷ []) all_year_at ws
 
 -- the first and the last day of a period, which isn't before the first
 unfoldable pub days_at : List Word → Read (ℤ × ℤ)

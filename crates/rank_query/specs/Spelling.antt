@@ -5,7 +5,7 @@ use Rattle.std.specs.Char.{is_ascii_digit}
 use Rattle.std.specs.Str.Parse.{digits_value}
 use Rattle.ghcn_fields.specs.Fields.{Spells}
 use Rattle.rank_query.specs.Asked.{Asked}
-use Rattle.rank_query.specs.QueryTexts.{QueryWord, Exactly, Count, Tenths, Edge, Months, query_words}
+use Rattle.rank_query.specs.QueryTexts.{QueryWord, Exactly, Count, Tenths, Edge, TwoMonths, query_words}
 use Rattle.rank_query.specs.Words.{words_of}
 
 -- digits write n, with leading zeros or without
@@ -21,7 +21,7 @@ SpellsWord word (Exactly text) = word ≡ text
 SpellsWord word (Count n) = IsNumeralOf word n
 SpellsWord word (Tenths t) = Spells 1 word t
 SpellsWord word (Edge z) = Spells 4 word z
-SpellsWord word (Months a b) =
+SpellsWord word (TwoMonths a b) =
     (first : List ℕ) × (last : List ℕ) × (word ≡ first ++ 46 ∷ 46 ∷ last) × IsNumeralOf first a × IsNumeralOf last b
 
 -- words spell a query if they spell those of the query, one by one

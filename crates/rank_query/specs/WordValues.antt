@@ -1,6 +1,8 @@
 -- What single words of a query text are read as.
-use Rattle.std.specs.Prelude.{ℕ, Bool, ◌&&◌, ◌==◌, if◌then◌else◌, List, [], ◌∷◌, Option, None, Some, Result, Ok, Err, ℤ}
-use Rattle.std.specs.List.{before_first, after_first}
+use Rattle.std.specs.Prelude.{ℕ, Bool, ◌&&◌, ◌==◌, if◌then◌else◌, List, [], ◌∷◌, ◌++◌, Option, None, Some, Result, Ok}
+use Rattle.std.specs.Prelude.{Err, ℤ, codes, take, drop}
+use Rattle.std.specs.List.{before_first, after_first, slice_range}
+use Rattle.ghcn_fields.specs.Bytes.{same_bytes}
 use Rattle.ghcn_fields.specs.Numbers.{natural, decimal_number, signed_by, scaled_field}
 use Rattle.ghcn_fields.specs.Days.{is_within}
 use Rattle.ghcn_fields.specs.Dates.{read_date}
@@ -49,15 +51,15 @@ abbrev pub natural_behind : List ℕ → Option ℕ
 natural_behind [] = None
 natural_behind (b ∷ bytes) = if is_point b then natural bytes else None
 
--- two numbers, if there are both
-abbrev pub both_numbers : Option ℕ → Option ℕ → Option (ℕ × ℕ)
-both_numbers None b = None
-both_numbers (Some a) None = None
-both_numbers (Some a) (Some b) = Some (a, b)
+-- two values, if there are both
+abbrev pub both : {A : Type 0} → Option A → Option A → Option (A × A)
+both None y = None
+both (Some x) None = None
+both (Some x) (Some y) = Some (x, y)
 
 -- the numbers before and after two points
 abbrev pub two_numbers : List ℕ → Option (ℕ × ℕ)
-two_numbers word = both_numbers (natural (before_first is_point word)) (natural_behind (after_first is_point word))
+two_numbers word = both (natural (before_first is_point word)) (natural_behind (after_first is_point word))
 
 -- the number of a month
 abbrev pub is_month : ℕ → Bool
@@ -76,3 +78,17 @@ code len w = if is_code len w.1 then Ok w.1 else Err (UnexpectedWord w.0)
 -- the day whose date a word is
 unfoldable pub date : Word → Result ℤ QueryFault
 date w = or_fault (BadDate w.0) (read_date w.1)
+
+-- the day of the year 2000 whose date without the year the bytes are, MM-DD
+abbrev pub day_of_2000 : List ℕ → Option ℤ
+day_of_2000 text = read_date (codes "2000-" ++ text)
+
+-- the days before and after two points, as days of the year 2000
+abbrev pub two_days : List ℕ → Option (ℤ × ℤ)
+two_days word =
+    if same_bytes (slice_range word 5 7) (codes "..") then both (day_of_2000 (take 5 word)) (day_of_2000 (drop 7 word))
+    else None
+
+-- the first and the last day of a season, as days of the year 2000
+unfoldable pub dates : Word → Result (ℤ × ℤ) QueryFault
+dates w = or_fault (BadDate w.0) (two_days w.1)

@@ -11,10 +11,10 @@ ghost use Rattle.rank_query.specs.Reading as reading;
 ghost use Rattle.rank_query.specs.Words.{words_of};
 
 use crate::values::{
-    code, date, degrees, element, fall, heat, keyword, months, needed, number, temperature,
+    code, date, dates, degrees, element, fall, heat, keyword, months, needed, number, temperature,
 };
 use crate::words::Words;
-use crate::{Query, QueryFault, Region, Score};
+use crate::{Query, QueryFault, Region, Score, Season};
 use ghcn_fields::Day;
 use ghcn_files::StationId;
 
@@ -165,14 +165,19 @@ fn edges(words: &mut Words) -> Result<Region, QueryFault>
 }
 
 #[tactic(auto, unfolding(crate::specs::Reading::season_at))]
-fn season(words: &mut Words) -> Result<Option<(u8, u8)>, QueryFault>
+fn season(words: &mut Words) -> Result<Season, QueryFault>
     ensures read { Gives (λ s. (s, words.new)) result (reading.season_at words.old) }
     ensures asked { IfOk result (λ s. IsTrue (is_season s)) }
 {
     if words.take_if(b"months") {
-        return Ok(Some(months(words)?));
+        let (first, last) = months(words)?;
+        return Ok(Season::Months(first, last));
     }
-    Ok(None)
+    if words.take_if(b"days") {
+        let (first, last) = dates(words)?;
+        return Ok(Season::Dates(first, last));
+    }
+    Ok(Season::AllYear)
 }
 
 #[tactic(auto, unfolding(crate::specs::Reading::period_at))]

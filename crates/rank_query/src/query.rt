@@ -1,13 +1,12 @@
 //! A query, and what it admits.
 
 ghost use Rattle.std.specs.Prelude.{◌≡◌, ◌≤◌, nat_le, ℤ, ◌≤ℤ◌, IsTrue};
-ghost use Rattle.ghcn_fields.specs.Dates.{civil};
 ghost use Rattle.ghcn_fields.specs.Days.{is_day};
 ghost use Rattle.rank_query.specs.Admits as admits;
-ghost use Rattle.rank_query.specs.Asked.{score_element, IsAsked};
+ghost use Rattle.rank_query.specs.Asked.{score_element, season_months, season_days, IsAsked};
 
-use crate::{Region, Score};
-use ghcn_fields::{Day, days_in_month};
+use crate::{Region, Score, Season};
+use ghcn_fields::Day;
 use ghcn_files::{Element, Station};
 use std::marker::Model;
 
@@ -17,7 +16,7 @@ pub struct Query {
     pub(crate) k: u64,
     pub(crate) score: Score,
     pub(crate) region: Region,
-    pub(crate) season: Option<(u8, u8)>,
+    pub(crate) season: Season,
     pub(crate) period: Option<(Day, Day)>,
 }
 
@@ -75,13 +74,29 @@ impl Query {
         self.region
     }
 
-    /// The first and the last month of the season, 1 to 12, if one is given. If the first is
+    /// The first and the last month of the season, 1 to 12, if it is given by months. If the first is
     /// greater, the season goes over the turn of the year.
     pub fn season(&self) -> Option<(u8, u8)>
-        ensures season { result ≡ self.now.season }
+        ensures season { result ≡ season_months self.now.season }
         ensures asked { IsAsked self.now }
     {
-        self.season
+        match self.season {
+            Season::Months(first, last) => Some((first, last)),
+            Season::AllYear | Season::Dates(_, _) => None,
+        }
+    }
+
+    /// The first and the last day of the season, if it is given by days: days of the year 2000, which
+    /// stand for these days of every year. If the first is later, the season goes over the turn of the
+    /// year.
+    pub fn days(&self) -> Option<(Day, Day)>
+        ensures days { result ≡ season_days self.now.season }
+        ensures asked { IsAsked self.now }
+    {
+        match self.season {
+            Season::Dates(first, last) => Some((first, last)),
+            Season::AllYear | Season::Months(_, _) => None,
+        }
     }
 
     /// The first and the last day of the period, if one is given.
@@ -119,7 +134,7 @@ impl Query {
     pub fn admits_day(&self, day: Day) -> bool
         ensures { result ≡ admits.admits_day self.now day }
     {
-        self.is_in_period(day) && self.is_in_season(day)
+        self.is_in_period(day) && self.season.holds(day)
     }
 
     fn is_in_period(&self, day: Day) -> bool
@@ -132,18 +147,9 @@ impl Query {
         }
     }
 
-    fn is_in_season(&self, day: Day) -> bool
-        ensures { result ≡ admits.season_holds self.now.season day }
-    {
-        match self.season {
-            None => true,
-            Some((first, last)) => is_between(first, last, day.civil().1),
-        }
-    }
-
     /// Whether the query admits the day, and a number up to which the days from it on are alike in that.
     ///
-    /// A caller that steps through days by number asks at most once a month.
+    /// A caller that steps through days by number asks at most once a month, and at the edges of a season of days.
     pub fn admits_from(&self, day: Day) -> (bool, i32)
         ensures on { day ≤ℤ result.1 }
         ensures alike { (d : ℤ) → IsTrue (is_day d) → day ≤ℤ d → d ≤ℤ result.1
@@ -171,41 +177,12 @@ impl Query {
         }
     }
 
-    /// Whether the season holds the day, and the last day of its month, up to which the days from it
-    /// on are alike in that.
+    /// Whether the season holds the day, and a number up to which the days from it on are alike in that.
     fn season_from(&self, day: Day) -> (bool, i32)
         ensures on { day ≤ℤ result.1 }
         ensures alike { (d : ℤ) → IsTrue (is_day d) → day ≤ℤ d → d ≤ℤ result.1
             → admits.season_holds self.now.season d ≡ result.0 }
     {
-        match self.season {
-            None => (true, i32::MAX),
-            Some((first, last)) => {
-                let (month, end) = month_of(day);
-                (is_between(first, last, month), end)
-            }
-        }
-    }
-}
-
-/// The month of a day, and the number of that month's last day.
-fn month_of(day: Day) -> (u8, i32)
-    ensures on { day ≤ℤ result.1 }
-    ensures month { (d : ℤ) → day ≤ℤ d → d ≤ℤ result.1 → (civil d).1 ≡ result.0 }
-{
-    let (year, month, place) = day.civil();
-    let left = days_in_month(year, month) - place;
-    (month, day.number() + left as i32)
-}
-
-/// Whether a month lies from a first to a last one, over the turn of the year if the first is
-/// greater.
-fn is_between(first: u8, last: u8, month: u8) -> bool
-    ensures { result ≡ admits.is_between_months first last month }
-{
-    if first <= last {
-        first <= month && month <= last
-    } else {
-        first <= month || month <= last
+        self.season.holds_from(day)
     }
 }

@@ -9,7 +9,7 @@ ghost use Rattle.rank_query.specs.Asked.{is_region};
 ghost use Rattle.rank_query.specs.Printed.{spaced};
 ghost use Rattle.rank_query.specs.QueryTexts.{query_text, score_words, region_words, season_words, period_words};
 
-use crate::{Query, Region, Score};
+use crate::{Query, Region, Score, Season};
 use ghcn_fields::{Day, Memory, write_date};
 use std::alloc::Global;
 use std::{fmt, str};
@@ -128,13 +128,24 @@ fn write_four_places<W: fmt::Write>(f: &mut fmt::Formatter<W>, number: u32) -> f
     write!(f, "{whole}.{first}{second}{third}{fourth}")
 }
 
-fn write_season<W: fmt::Write>(f: &mut fmt::Formatter<W>, season: Option<(u8, u8)>) -> fmt::Result
+fn write_season<W: fmt::Write>(f: &mut fmt::Formatter<W>, season: Season) -> fmt::Result
     ensures { WritesOnOk W.write_str_gives f.old result (spaced (season_words season)) f.new }
 {
-    let Some((first, last)) = season else {
-        return Ok(());
-    };
-    write!(f, " months {first}..{last}")
+    match season {
+        Season::AllYear => Ok(()),
+        Season::Months(first, last) => write!(f, " months {first}..{last}"),
+        Season::Dates(first, last) => write_days(f, first, last),
+    }
+}
+
+/// A season's first and last day, without their years.
+fn write_days<W: fmt::Write>(f: &mut fmt::Formatter<W>, first: Day, last: Day) -> fmt::Result
+    ensures { WritesOnOk W.write_str_gives f.old result (spaced (season_words (Season.Dates first last))) f.new }
+{
+    f.write_str(" days ")?;
+    write_visible(f, &write_date(first)[5..])?;
+    f.write_str("..")?;
+    write_visible(f, &write_date(last)[5..])
 }
 
 fn write_period<W: fmt::Write>(f: &mut fmt::Formatter<W>, period: Option<(Day, Day)>) -> fmt::Result

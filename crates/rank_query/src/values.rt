@@ -1,10 +1,10 @@
 //! What single words of a query text are read as.
 
-ghost use Rattle.std.specs.Prelude.{◌≡◌, true, ◌+◌, ◌<◌, ◌^◌, ◌&&◌, int_le, min, IfOk, IsTrue, length};
+ghost use Rattle.std.specs.Prelude.{◌≡◌, true, ◌+◌, ◌<◌, ◌^◌, ◌&&◌, int_le, min, IfOk, IfSome, IsTrue, length};
 ghost use Rattle.std.specs.Option.{option_map};
 ghost use Rattle.ghcn_fields.specs.Numbers.{natural, joined, decimal_number, signed_by};
 ghost use Rattle.ghcn_fields.specs.Days.{is_within};
-ghost use Rattle.rank_query.specs.Asked.{is_code, is_temperature, is_fall, is_heat};
+ghost use Rattle.rank_query.specs.Asked.{is_code, is_temperature, is_fall, is_heat, is_day_of_2000};
 ghost use Rattle.rank_query.specs.Readers as readers;
 ghost use Rattle.rank_query.specs.Readers.{Gives, one_word};
 ghost use Rattle.rank_query.specs.WordValues as values;
@@ -195,12 +195,48 @@ fn two_up_to(word: &[u8], most: u64) -> Option<(u64, u64)>
 fn both_up_to(first: &[u8], rest: &[u8], most: u64) -> Option<(u64, u64)>
     requires { most < 2 ^ 32 }
     ensures { result ≡ option_map (λ s. (min (most + 1) s.0, min (most + 1) s.1))
-        (values.both_numbers (natural first.now) (values.natural_behind rest.now)) }
+        (values.both (natural first.now) (values.natural_behind rest.now)) }
 {
     match rest {
         [b'.', last @ ..] => number_up_to(first, most).zip(number_up_to(last, most)),
         _ => None,
     }
+}
+
+/// The first and the last day of a season, as days of the year 2000, which two points join.
+#[tactic(auto, unfolding(crate::specs::WordValues::dates))]
+pub(crate) fn dates(words: &mut Words) -> Result<(Day, Day), QueryFault>
+    ensures read { Gives (λ s. (s, words.new)) result (one_word values.dates words.old) }
+    ensures within { IfOk result (λ s. IsTrue (is_day_of_2000 s.0 && is_day_of_2000 s.1)) }
+{
+    let (at, word) = needed(words)?;
+    two_days(word).ok_or(QueryFault::BadDate(at))
+}
+
+/// The days before and after two points, as days of the year 2000.
+#[tactic(auto, unfolding(crate::specs::Words::says))]
+fn two_days(word: &[u8]) -> Option<(Day, Day)>
+    ensures days { result ≡ values.two_days word.now }
+    ensures within { IfSome result (λ s. IsTrue (is_day_of_2000 s.0 && is_day_of_2000 s.1)) }
+{
+    if word.len() != 12 {
+        return None;
+    }
+    if !says(b"..", &word[5..7]) {
+        return None;
+    }
+    day_of_2000(&word[..5]).zip(day_of_2000(&word[7..]))
+}
+
+/// The day of the year 2000 whose date without the year, `MM-DD`, the bytes are.
+fn day_of_2000(text: &[u8]) -> Option<Day>
+    requires { length text.now ≡ 5 }
+    ensures day { result ≡ values.day_of_2000 text.now }
+    ensures within { IfSome result (λ day. IsTrue (is_day_of_2000 day)) }
+{
+    read_date(&[
+        b'2', b'0', b'0', b'0', b'-', text[0], text[1], text[2], text[3], text[4],
+    ])
 }
 
 /// A number of degrees from `low` to `high`, in ten-thousandths, with up to four decimals.

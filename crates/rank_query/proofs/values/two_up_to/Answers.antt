@@ -1,5 +1,5 @@
 use Rattle.rank_query.proofs.Cited.{◌≡◌, List, ℕ, ◌+◌, ◌-◌, min, length, take, drop, Option, Some, None, sym, ap, subst}
-use Rattle.rank_query.proofs.Cited.{◌∙◌, arith, option_map, common_steps, IsFirstByte, is_byte, natural, both_numbers}
+use Rattle.rank_query.proofs.Cited.{◌∙◌, arith, option_map, common_steps, IsFirstByte, is_byte, natural, both}
 use Rattle.rank_query.proofs.Cited.{natural_behind}
 use Rattle.rank_query.proofs.Numerals.{two-whole, two-point}
 use Rattle.rank_query.proofs.values.two_up_to.Goals as goal
@@ -26,5 +26,5 @@ returns-in-Some c =
     let rest : take (length word - (point + 1)) (drop (point + 1) word) ≡ drop (point + 1) word =
     grind (arith, common_steps) in
     c.both_up_to.ensures
-    ∙ ap (λ (part : List ℕ). kept c.args.most (both_numbers (natural (take point word)) (natural_behind part))) rest
+    ∙ ap (λ (part : List ℕ). kept c.args.most (both (natural (take point word)) (natural_behind part))) rest
     ∙ sym (ap (kept c.args.most) (two-point word point first))
