@@ -1,6 +1,7 @@
 -- Worked examples, by computation.
 use Rattle.std.proofs.Common.{true, ◌≡◌, ℕ, zero, suc, List, [], ◌∷◌, refl, Some, None, Option}
 use Rattle.std.specs.Prelude.{codes, ℤ, pos, neg_ℤ, ◌+ℤ◌}
+use Rattle.jiff_core.specs.Calendar.{days_from_civil, day_count, days_of_years, days_of_months}
 use Rattle.ghcn_files.specs.declared.station.StationId.{StationId}
 use Rattle.ghcn_files.specs.declared.element.Element.{Element}
 use Rattle.ghcn_files.specs.declared.element.Element.TheVariants.{Tmax, Tmin, Prcp, Snow}
@@ -8,6 +9,7 @@ use Rattle.ghcn_fields.specs.Dates.{year_and_rest, month_and_day}
 use Rattle.ghcn_series.specs.Series.{DayValue, Usable, Contents}
 use Rattle.rank_query.specs.declared.score.Score.{Score}
 use Rattle.rank_query.specs.declared.score.Score.TheVariants.{Highest, Lowest, Sum, Dry, Wet, Hot, Cold}
+use Rattle.rank_query.specs.declared.season.Season.TheVariants.{Months, Dates}
 use Rattle.rank_query.specs.Asked.{Asked, top}
 use Rattle.rank_scores.specs.Runs.{run_from}
 use Rattle.rank_scores.specs.declared.candidate.Candidate.{Candidate}
@@ -37,7 +39,11 @@ ask k score period = record (top k score) { period = period }
 
 -- a query of some months
 abbrev pub ask_in : ℕ → Score → ℕ × ℕ → Asked
-ask_in k score season = record (top k score) { season = Some season }
+ask_in k score season = record (top k score) { season = Months season.0 season.1 }
+
+-- a query of some days of each year, from a first to a last day of the year 2000
+abbrev pub ask_days : ℕ → Score → ℕ → ℕ → Asked
+ask_days k score first last = record (top k score) { season = Dates (pos first) (pos last) }
 
 -- a candidate
 abbrev pub found : StationId → ℤ → ℤ → ℤ → Candidate
@@ -150,6 +156,49 @@ june_spell : candidates (ask_in 2 Dry (6, 6)) (series id_a Prcp (each_day (pos 1
     ≡ found id_a (pos 18442) (pos 18443) (pos 2) ∷ []
 unfolding run_from year_and_rest month_and_day
 june_spell = refl
+
+-- so does one of days: 1 July alone, and 30 June to 1 July
+july_spell : (candidates (ask_days 2 Dry 11_139 11_139) (series id_a Prcp (each_day (pos 18442) 4 (pos 0)))
+    ≡ found id_a (pos 18444) (pos 18444) (pos 1) ∷ [])
+    × (candidates (ask_days 2 Dry 11_138 11_139) (series id_a Prcp (each_day (pos 18442) 4 (pos 0)))
+    ≡ found id_a (pos 18443) (pos 18444) (pos 2) ∷ [])
+unfolding run_from year_and_rest month_and_day days_from_civil day_count days_of_years days_of_months
+july_spell = (refl, refl)
+
+-- 2 July of 2019, 2020 and 2021, of two stations
+second_of_july : (candidates (ask_days 2 (Highest Tmax) 11_140 11_140)
+    (series id_a Tmax ((pos 18_079, pos 311) ∷ (pos 18_444, pos 311) ∷ (pos 18_628, pos 70) ∷ []))
+    ≡ found id_a (pos 18_079) (pos 18_079) (pos 311) ∷ [])
+    × (candidates (ask_days 2 (Highest Tmax) 11_140 11_140)
+    (series id_b Tmax ((pos 18_444, pos 320) ∷ (pos 18_445, pos 318) ∷ []))
+    ≡ found id_b (pos 18_445) (pos 18_445) (pos 318) ∷ [])
+unfolding year_and_rest month_and_day days_from_civil day_count days_of_years days_of_months
+second_of_july = (refl, refl)
+
+-- sums over the turn of the year, 31 December and 1 January: 2019-12-30 to 2020-01-02
+new_year_sums : candidates (ask_days 2 (Sum 2 Prcp) 11_322 10_957) (series id_c Prcp
+    ((pos 18_260, pos 100) ∷ (pos 18_261, pos 200) ∷ (pos 18_262, pos 300) ∷ (pos 18_263, pos 50) ∷ []))
+    ≡ found id_c (pos 18_261) (pos 18_262) (pos 500) ∷ []
+unfolding run_from year_and_rest month_and_day days_from_civil day_count days_of_years days_of_months
+new_year_sums = refl
+
+-- the end of February of 2020 and 2021
+abbrev pub february_rain : List DayValue
+february_rain = (pos 18_320, pos 120) ∷ (pos 18_321, pos 130) ∷ (pos 18_322, pos 20) ∷ (pos 18_686, pos 90) ∷
+    (pos 18_687, pos 80) ∷ []
+
+-- in a common year 28 February and 1 March are neighbours, and in a leap year 29 February is between them
+leap_sums : best 3 (candidates (ask_days 3 (Sum 2 Prcp) 11_015 11_017) (series id_a Prcp february_rain))
+    ≡ found id_a (pos 18_320) (pos 18_321) (pos 250) ∷ found id_a (pos 18_686) (pos 18_687) (pos 170) ∷
+    found id_a (pos 18_321) (pos 18_322) (pos 150) ∷ []
+unfolding run_from year_and_rest month_and_day days_from_civil day_count days_of_years days_of_months
+leap_sums = refl
+
+-- leap days alone
+leap_days : candidates (ask_days 3 (Highest Prcp) 11_016 11_016) (series id_a Prcp february_rain)
+    ≡ found id_a (pos 18_321) (pos 18_321) (pos 130) ∷ []
+unfolding year_and_rest month_and_day days_from_civil day_count days_of_years days_of_months
+leap_days = refl
 
 -- below and above zero, the lowest first
 lowest : best 2 (candidates (ask 2 (Lowest Tmin) None)
