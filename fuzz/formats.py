@@ -18,7 +18,7 @@ BLANK, BAD = "blank", "bad"
 CODE = re.compile(rb"[A-Z][A-Z0-9]{3}")
 
 Station = namedtuple("Station", "id latitude longitude state name")
-Query = namedtuple("Query", "k kind element number region months first last text")
+Query = namedtuple("Query", "k kind element number region is_in_season first last text")
 Candidate = namedtuple("Candidate", "score id first last name")
 
 
@@ -279,6 +279,14 @@ class Words:
         first, last = int(found[1]), int(found[2])
         return (first, last) if 1 <= first <= 12 and 1 <= last <= 12 else self.wrong("10 OutOfLimits")
 
+    def days(self):
+        """Two days of a leap year, as month and day."""
+        found = re.fullmatch(rb"([0-9]{2}-[0-9]{2})\.\.([0-9]{2}-[0-9]{2})", self.next())
+        both = [day_of(b"2000-" + it) for it in found.groups()] if found else [None]
+        if not all(both):
+            self.wrong("11 BadDate")
+        return [(date.fromordinal(it).month, date.fromordinal(it).day) for it in both]
+
     def edge(self, least, greatest):
         found = re.fullmatch(rb"(-?)([0-9]+)(?:\.([0-9]{1,4}))?", self.next())
         if not found:
@@ -325,13 +333,20 @@ def read_region(words):
 
 
 def read_season(words):
-    """The months that are admitted, and the words of the canonical text."""
-    if not words.is_next(b"months"):
-        return range(1, 13), []
-    words.next()
-    first, last = words.season()
-    months = range(first, last + 1) if first <= last else [*range(first, 13), *range(1, last + 1)]
-    return months, [b"months", b"%d..%d" % (first, last)]
+    """Whether a date is admitted, and the words of the canonical text."""
+    if words.is_next(b"months"):
+        words.next()
+        first, last = words.season()
+        months = range(first, last + 1) if first <= last else [*range(first, 13), *range(1, last + 1)]
+        return lambda it: it.month in months, [b"months", b"%d..%d" % (first, last)]
+    if words.is_next(b"days"):
+        words.next()
+        first, last = words.days()
+        goes_over = last < first
+        text = b"%02d-%02d..%02d-%02d" % (*first, *last)
+        return lambda it: ((first <= (it.month, it.day) or (it.month, it.day) <= last) if goes_over
+                           else first <= (it.month, it.day) <= last), [b"days", text]
+    return lambda it: True, []
 
 
 def read_query(text):
@@ -342,7 +357,7 @@ def read_query(text):
     k = words.limited(1000)
     kind, element, number, score = read_score(words)
     region, spelled = read_region(words)
-    months, season = read_season(words)
+    is_in_season, season = read_season(words)
     first, last, period = 1, date.max.toordinal(), []
     if words.is_next(b"from"):
         words.next()
@@ -356,7 +371,7 @@ def read_query(text):
         words.next()
         words.wrong()
     text = b" ".join([b"top", b"%d" % k, *score, *spelled, *season, *period])
-    return Query(k, kind, element, number, region, months, first, last, text)
+    return Query(k, kind, element, number, region, is_in_season, first, last, text)
 
 
 def is_admitted(station, region):
@@ -440,7 +455,7 @@ def read_all(query_text, stations, daily):
     found = {}
     for name in sorted(listed):
         days = {day: value for day, value in series.get((name, query.element), {}).items()
-                if query.first <= day <= query.last and date.fromordinal(day).month in query.months}
+                if query.first <= day <= query.last and query.is_in_season(date.fromordinal(day))}
         if days and is_admitted(listed[name], query.region):
             found[name] = candidates(query, listed[name], days)
     return query, found, unlisted

@@ -21,9 +21,14 @@ BAD_WORDS = (b"top", b"0", b"1001", b"1000", b"00001", b"366", b"367", b"-1", b"
              b"1..2..3", b"-1..2",
              b".5", b"5.", b"2020-02-30", b"2019-02-29", b"0000-01-01", b"0001-01-01", b"9999-12-31", b"2020-7-1",
              b"2020-07-01x", b"ZZ", b"Z", b"ZZZ", b"\xc3\xa9", b"x\ty")
-# Of cases after this one the query may have a word that no query had before.
+# Of cases after these the query may have a word that no query had before.
 LAST_WITHOUT_COLD = 20_000
+LAST_WITHOUT_DAYS = 25_000
 NEW_BAD_WORDS = (*BAD_WORDS, b"cold", b"cold", b"-10", b"-0.5")
+NEWEST_BAD_WORDS = (*NEW_BAD_WORDS, b"days", b"days", b"02-29..02-29", b"02-30..03-01", b"12-15..01-15",
+                    b"01-01..12-31", b"00-10..01-10", b"01-00..01-10", b"13-01..01-01", b"04-31..05-01", b"1-1..2-2",
+                    b"01-01.02-02", b"01-01...02-02", b"01-01..02-02x", b"01-01..", b"..01-01", b"01-01",
+                    b"0101..0202", b"01 01..02-02", b"2020-01-01..2020-02-02", b"01/01..02/02", b"+1-01..02-02")
 DEGREES = (b"30", b"0", b"-0", b"0.9", b"1.0", b"020.5", b"-10.0", b"-29.9", b"100", b"-100")
 KINDS = (b"highest", b"highest", b"lowest", b"sum", b"dry", b"wet", b"hot")
 NEW_KINDS = (*KINDS, b"cold", b"cold")
@@ -144,7 +149,22 @@ def score(rng, kinds):
     return [kind, *window, element], element
 
 
-def query_words(rng, names, asked):
+def day_of_a_year(rng):
+    month = rng.randint(1, 12)
+    return b"%02d-%02d" % (month, rng.randint(1, 29 if month == 2 else 30))
+
+
+def season_of_days(rng):
+    """Two days of a year: any, at an edge of a month or a year, or one day."""
+    kind = rng.randrange(4)
+    if kind == 0:
+        return rng.choice((b"02-29..02-29", b"03-01..02-28", b"02-28..03-01", b"12-31..01-01", b"01-01..12-31",
+                           b"12-15..01-15", b"02-28..02-28", b"03-01..03-01", b"07-01..06-30", b"01-31..02-01"))
+    first = day_of_a_year(rng)
+    return first + b".." + (first if kind == 1 else day_of_a_year(rng))
+
+
+def query_words(rng, names, asked, with_days):
     words = [b"top", rng.choice((b"1", b"2", b"3", b"10", b"100", b"1000", b"007")), *asked]
     region = rng.randrange(15)
     if region == 0:
@@ -157,7 +177,9 @@ def query_words(rng, names, asked):
         words += [b"state", rng.choice((b"NY", b"CA", b"A?", b"??", b"TX"))]
     elif region == 3:
         words += [b"station", rng.choice(names or IDS)]
-    if rng.random() < 0.3:
+    if with_days and rng.random() < 0.5:
+        words += [b"days", season_of_days(rng)]
+    elif rng.random() < 0.3:
         words += [b"months", rng.choice((b"1..1", b"12..1", b"6..8", b"10..03", b"7..7", b"2..11", b"1..12", b"8..7"))]
     if rng.random() < 0.25:
         first, last = date(rng), date(rng)
@@ -168,7 +190,7 @@ def query_words(rng, names, asked):
 
 
 def query(rng, names, asked, bad_words):
-    words = query_words(rng, names, asked)
+    words = query_words(rng, names, asked, bad_words is NEWEST_BAD_WORDS)
     if rng.random() < 0.2:
         for _ in range(rng.randint(1, 2)):
             at = rng.randrange(len(words) + 1)
@@ -194,6 +216,8 @@ def case(number):
     names = rng.sample(IDS, rng.choice((0, 2, 3, 4, 5, 5, 5)))
     stations = [station_line(rng, it) for it in names]
     kinds, bad_words = (KINDS, BAD_WORDS) if number <= LAST_WITHOUT_COLD else (NEW_KINDS, NEW_BAD_WORDS)
+    if number > LAST_WITHOUT_DAYS:
+        bad_words = NEWEST_BAD_WORDS
     asked, element = score(rng, kinds)
     daily = daily_lines(rng, names, element)
     for _ in range(rng.choice((0, 0, 1, 1, 2))):
