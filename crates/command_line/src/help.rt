@@ -107,6 +107,7 @@ pub const RANK_HELP: &str = "Queries:
            state SS                the state's letters in the station list
            station ID
   SEASON   months A..B             only days of these months; 12..2 is December to February
+           days MM-DD..MM-DD       only these days of each year; 12-15..01-15 goes over New Year
   PERIOD   from YYYY-MM-DD to YYYY-MM-DD, both days included
 
 Elements:

@@ -25,6 +25,7 @@ pub(crate) enum Place {
     Station,
     Season,
     Months,
+    Dates,
     Period,
     FirstDay,
     To,
@@ -47,7 +48,7 @@ impl Place {
             Place::North => Place::East,
             Place::East | Place::Code | Place::Station => Place::Season,
             Place::Season => after_season(word),
-            Place::Months => Place::Period,
+            Place::Months | Place::Dates => Place::Period,
             Place::Period => Place::FirstDay,
             Place::FirstDay => Place::To,
             Place::To => Place::LastDay,
@@ -68,14 +69,15 @@ impl Place {
             Place::Days => Wanted::Form("a number from 1 to 366"),
             Place::Fall => Wanted::OneOf("PRCP SNOW"),
             Place::Heat => Wanted::Form("a number from -100 to 100 with at most one decimal"),
-            Place::Region => Wanted::OneOf("box country state station months from"),
+            Place::Region => Wanted::OneOf("box country state station months days from"),
             Place::South => Wanted::Form("a latitude from -90 to 90"),
             Place::West | Place::East => Wanted::Form("a longitude from -180 to 180"),
             Place::North => Wanted::Form("a latitude from that of the southern edge to 90"),
             Place::Code => Wanted::Form("a code of two characters"),
             Place::Station => Wanted::Form("an ID of eleven characters"),
-            Place::Season => Wanted::OneOf("months from"),
+            Place::Season => Wanted::OneOf("months days from"),
             Place::Months => Wanted::Form("two months from 1 to 12, written A..B"),
+            Place::Dates => Wanted::Form("two days of a year, written MM-DD..MM-DD"),
             Place::Period => Wanted::Form("from"),
             Place::FirstDay | Place::LastDay => Wanted::Form(
                 "a date from 0001-01-01 to 9999-12-31",
@@ -111,6 +113,7 @@ fn after_region(word: &[u8]) -> Place {
 fn after_season(word: &[u8]) -> Place {
     match word {
         b"months" => Place::Months,
+        b"days" => Place::Dates,
         _ => Place::FirstDay,
     }
 }

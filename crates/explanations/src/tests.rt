@@ -92,7 +92,7 @@ fn words_of_queries(rt: HostRuntime) -> Result<(), Fail> {
         ),
         (
             "top 1 wet  where",
-            "top 1 wet  where: where is none of box country state station months from",
+            "top 1 wet  where: where is none of box country state station months days from per",
         ),
         (
             "top 1 wet box 91",
@@ -124,7 +124,7 @@ fn words_of_queries(rt: HostRuntime) -> Result<(), Fail> {
         ),
         (
             "top 1 wet state NY state",
-            "top 1 wet state NY state: state is none of months from",
+            "top 1 wet state NY state: state is none of months days from per",
         ),
         (
             "top 1 dry months 6-8",
@@ -132,7 +132,19 @@ fn words_of_queries(rt: HostRuntime) -> Result<(), Fail> {
         ),
         (
             "top 1 dry months 6..8 x",
-            "top 1 dry months 6..8 x: x isn't from",
+            "top 1 dry months 6..8 x: x is none of from per",
+        ),
+        (
+            "top 1 dry days 02-30..03-01",
+            "top 1 dry days 02-30..03-01: 02-30..03-01 isn't two days of a year, written MM-DD..MM-DD",
+        ),
+        (
+            "top 1 dry days",
+            "top 1 dry days: two days of a year, written MM-DD..MM-DD has to follow",
+        ),
+        (
+            "top 1 dry days 12-15..01-15 months",
+            "top 1 dry days 12-15..01-15 months: months is none of from per",
         ),
         (
             "top 1 dry from 2019-02-29",
@@ -152,7 +164,19 @@ fn words_of_queries(rt: HostRuntime) -> Result<(), Fail> {
         ),
         (
             "top 1 dry from 2019-01-01 to 2019-01-02 ! more",
-            "top 1 dry from 2019-01-01 to 2019-01-02 !: nothing may follow before !",
+            "top 1 dry from 2019-01-01 to 2019-01-02 !: ! isn't per",
+        ),
+        (
+            "top 1 dry per day",
+            "top 1 dry per day: day is none of station year",
+        ),
+        (
+            "top 1 dry per",
+            "top 1 dry per: one of station year has to follow",
+        ),
+        (
+            "top 1 dry months 6..8 per year ! more",
+            "top 1 dry months 6..8 per year !: nothing may follow before !",
         ),
     ];
     for (query, expected) in cases {
@@ -218,7 +242,14 @@ fn words_that_are_offered(rt: HostRuntime) -> Result<(), Fail> {
         "top 1 dry",
         "top 1 dry state NY",
         "top 1 dry months 1..2",
+        "top 1 dry days 12-15..01-15",
         "top 1 dry from 2019-01-01",
+        "top 1 dry from 2019-01-01 to 2019-01-02",
+        "top 1 dry per",
+        "top 1 dry state NY per",
+        "top 1 dry months 1..2 per",
+        "top 1 dry days 12-15..01-15 per",
+        "top 1 dry from 2019-01-01 to 2019-01-02 per",
     ];
     for begun in cases {
         let Some(offered) = offered_after(alloc, begun)? else {
