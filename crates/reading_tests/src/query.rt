@@ -47,6 +47,29 @@ fn parts_of_a_query(rt: HostRuntime) {
     }
 }
 
+/// The months and the days of the season of a query, the days by their numbers.
+fn season_of(text: &str) -> Option<(Option<(u8, u8)>, Option<(i32, i32)>)> {
+    let query = Query::parse(text).ok()?;
+    let days = match query.days() {
+        Some((first, last)) => Some((first.number(), last.number())),
+        None => None,
+    };
+    Some((query.season(), days))
+}
+
+#[test]
+fn seasons_of_queries(rt: HostRuntime) {
+    let cases = [
+        ("top 1 dry", None, None),
+        ("top 1 dry months 12..2", Some((12, 2)), None),
+        ("top 1 dry days 12-15..01-15", None, Some((11_306, 10_971))),
+        ("top 1 dry days 01-01..12-31", None, Some((10_957, 11_322))),
+    ];
+    for (text, months, days) in cases {
+        assert_eq!(rt; season_of(text), Some((months, days)), "{text}");
+    }
+}
+
 #[test]
 fn scores_and_their_elements(rt: HostRuntime) {
     let cases = [

@@ -105,6 +105,49 @@ fn days_of_a_season(rt: HostRuntime) {
     }
 }
 
+#[test]
+fn days_of_a_season_of_days(rt: HostRuntime) {
+    // 2019-02-28 and the day after it, 2019-12-31 and the day after it, 2020-02-28 and the two days after it.
+    let numbers = [17_955, 17_956, 18_261, 18_262, 18_320, 18_321, 18_322];
+    let cases = [
+        (
+            "top 1 dry days 02-29..02-29",
+            [false, false, false, false, false, true, false],
+        ),
+        (
+            "top 1 dry days 03-01..02-28",
+            [true, true, true, true, true, false, true],
+        ),
+        (
+            "top 1 dry days 12-31..12-31",
+            [false, false, true, false, false, false, false],
+        ),
+        (
+            "top 1 dry days 12-31..01-01",
+            [false, false, true, true, false, false, false],
+        ),
+        (
+            "top 1 dry days 01-02..12-30",
+            [true, true, false, false, true, true, true],
+        ),
+        (
+            "top 1 dry days 02-29..03-01",
+            [false, true, false, false, false, true, true],
+        ),
+        (
+            "top 1 dry days 01-01..12-31 from 2020-01-01 to 2020-02-28",
+            [false, false, false, true, true, false, false],
+        ),
+    ];
+    for (text, admitted) in cases {
+        for day in 0..numbers.len() {
+            let found = admits_number(text, numbers[day]);
+            let expected = Some((admitted[day], admitted[day]));
+            assert_eq!(rt; found, expected, "{text} at day {day}");
+        }
+    }
+}
+
 fn station(latitude: i32, longitude: i32) -> Station {
     Station {
         id: StationId(*b"ZZA00000001"),

@@ -23,6 +23,10 @@ fn canonical_texts(rt: HostRuntime) {
         ("top 3  cold -010", "top 3 cold -10.0"),
         ("top 1 dry months 012..02", "top 1 dry months 12..2"),
         (
+            "top 1 dry  days 12-15..01-15 ",
+            "top 1 dry days 12-15..01-15",
+        ),
+        (
             "top 1 wet state NY months 6..08 from 2020-07-01 to 2020-07-01",
             "top 1 wet state NY months 6..8 from 2020-07-01 to 2020-07-01",
         ),
@@ -51,6 +55,7 @@ fn texts_that_are_canonical(rt: HostRuntime) {
         "top 1000 highest TMAX",
         "top 2 lowest TMIN",
         "top 1 dry from 2020-07-01 to 2020-07-01",
+        "top 1 dry country ZZ days 02-29..02-29 from 2020-07-01 to 2020-07-01",
         "top 1 highest TMAX country ZZ",
         "top 1 highest TMAX station ZZA00000003 from 2020-07-02 to 2020-07-02",
     ];

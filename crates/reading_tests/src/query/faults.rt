@@ -137,6 +137,52 @@ fn first_fault_of_a_season(rt: HostRuntime) {
 }
 
 #[test]
+fn first_fault_of_a_season_of_days(rt: HostRuntime) {
+    let cases = [
+        ("top 1 dry days 01-01..12-31", None),
+        ("top 1 dry days 12-31..01-01", None),
+        ("top 1 dry days 02-29..02-29", None),
+        ("top 1 dry days 02-30..03-01", Some(BadDate(5))),
+        ("top 1 dry days 03-01..02-30", Some(BadDate(5))),
+        ("top 1 dry days 00-01..02-01", Some(BadDate(5))),
+        ("top 1 dry days 01-00..02-01", Some(BadDate(5))),
+        ("top 1 dry days 04-31..05-01", Some(BadDate(5))),
+        ("top 1 dry days 13-01..01-01", Some(BadDate(5))),
+        ("top 1 dry days 1-1..2-2", Some(BadDate(5))),
+        ("top 1 dry days 01-01", Some(BadDate(5))),
+        ("top 1 dry days 01-01.02-02", Some(BadDate(5))),
+        ("top 1 dry days 01-01...02-02", Some(BadDate(5))),
+        ("top 1 dry days 01-01..02-02x", Some(BadDate(5))),
+        ("top 1 dry days 01/01..02/02", Some(BadDate(5))),
+        ("top 1 dry days 6..8", Some(BadDate(5))),
+        ("top 1 dry days from", Some(BadDate(5))),
+        ("top 1 dry days 2020-01-01..2020-02-02", Some(BadDate(5))),
+        ("top 1 dry days 01-01 ..02-02", Some(BadDate(5))),
+        ("top 1 dry days", Some(QueryEnds)),
+        ("top 1 dry months 01-01..02-02", Some(UnexpectedWord(5))),
+        (
+            "top 1 dry days 12-15..01-15 months 1..2",
+            Some(UnexpectedWord(6)),
+        ),
+        (
+            "top 1 dry months 1..2 days 12-15..01-15",
+            Some(UnexpectedWord(6)),
+        ),
+        (
+            "top 1 dry days 12-15..01-15 country ZZ",
+            Some(UnexpectedWord(6)),
+        ),
+        (
+            "top 1 dry from 2020-07-01 to 2020-07-01 days 12-15..01-15",
+            Some(UnexpectedWord(8)),
+        ),
+    ];
+    for (text, fault) in cases {
+        assert_eq!(rt; Query::parse(text).err(), fault, "at {text}");
+    }
+}
+
+#[test]
 fn first_fault_of_a_period(rt: HostRuntime) {
     let cases = [
         ("top 1 dry from 0001-01-01 to 9999-12-31", None),
