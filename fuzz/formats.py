@@ -18,7 +18,7 @@ BLANK, BAD = "blank", "bad"
 CODE = re.compile(rb"[A-Z][A-Z0-9]{3}")
 
 Station = namedtuple("Station", "id latitude longitude state name")
-Query = namedtuple("Query", "k kind element number region is_in_season first last text")
+Query = namedtuple("Query", "k kind element number region is_in_season first last group text")
 Candidate = namedtuple("Candidate", "score id first last name")
 
 
@@ -349,6 +349,15 @@ def read_season(words):
     return lambda it: True, []
 
 
+def read_group(words):
+    """What only the best record is ranked of, and the words of the canonical text."""
+    if not words.is_next(b"per"):
+        return None, []
+    words.next()
+    group = words.one_of(b"station", b"year")
+    return group, [b"per", group]
+
+
 def read_query(text):
     if len(text) > 256:
         raise Refused("refused 7 QueryTooLong")
@@ -367,11 +376,12 @@ def read_query(text):
         if last < first:
             raise Refused("refused 13 EmptyPeriod")
         period = [b"from", date_text(first), b"to", date_text(last)]
+    group, grouped = read_group(words)
     if words.at < len(words.words):
         words.next()
         words.wrong()
-    text = b" ".join([b"top", b"%d" % k, *score, *spelled, *season, *period])
-    return Query(k, kind, element, number, region, is_in_season, first, last, text)
+    text = b" ".join([b"top", b"%d" % k, *score, *spelled, *season, *period, *grouped])
+    return Query(k, kind, element, number, region, is_in_season, first, last, group, text)
 
 
 def is_admitted(station, region):
@@ -416,7 +426,16 @@ def candidates(query, station, days):
     else:
         spell = [day for day, value in days.items() if is_in_spell(query, value)]
         found = [(last - first + 1, first, last) for first, last in runs(spell)]
-    return [Candidate(score, station.id, first, last, station.name) for score, first, last in found]
+    return best_of_groups(query, [Candidate(score, station.id, first, last, station.name) for score, first, last in found])
+
+
+def best_of_groups(query, found):
+    """Of the records of one station those that are ranked: all, or only the best one, or only the best one of each
+    year in which some begin."""
+    if query.group is None:
+        return found
+    years = {date.fromordinal(it.first).year if query.group == b"year" else None for it in found}
+    return [min((it for it in found if year in (None, date.fromordinal(it.first).year)), key=in_order) for year in years]
 
 
 def in_order(candidate):

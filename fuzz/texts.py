@@ -29,11 +29,14 @@ NEWEST_BAD_WORDS = (*NEW_BAD_WORDS, b"days", b"days", b"02-29..02-29", b"02-30..
                     b"01-01..12-31", b"00-10..01-10", b"01-00..01-10", b"13-01..01-01", b"04-31..05-01", b"1-1..2-2",
                     b"01-01.02-02", b"01-01...02-02", b"01-01..02-02x", b"01-01..", b"..01-01", b"01-01",
                     b"0101..0202", b"01 01..02-02", b"2020-01-01..2020-02-02", b"01/01..02/02", b"+1-01..02-02")
+LAST_WITHOUT_GROUPS = 30_000
+GROUP_BAD_WORDS = (*NEWEST_BAD_WORDS, b"per", b"per", b"year", b"day")
 DEGREES = (b"30", b"0", b"-0", b"0.9", b"1.0", b"020.5", b"-10.0", b"-29.9", b"100", b"-100")
 KINDS = (b"highest", b"highest", b"lowest", b"sum", b"dry", b"wet", b"hot")
 NEW_KINDS = (*KINDS, b"cold", b"cold")
 # The scores of spells whose days are told by degrees, and their elements.
 DEGREES_OF = {b"hot": b"TMAX", b"cold": b"TMIN"}
+GROUPS = ([], [b"per", b"station"], [b"per", b"year"], [b"per", b"year"])
 GUESSES = (0, 1, 55, -100, 300, 2**31, -2**31)
 
 # A run starts threads from that many bytes of daily files on.
@@ -189,8 +192,8 @@ def query_words(rng, names, asked, with_days):
     return words
 
 
-def query(rng, names, asked, bad_words):
-    words = query_words(rng, names, asked, bad_words is NEWEST_BAD_WORDS)
+def query(rng, names, asked, bad_words, group):
+    words = query_words(rng, names, asked, bad_words in (NEWEST_BAD_WORDS, GROUP_BAD_WORDS)) + group
     if rng.random() < 0.2:
         for _ in range(rng.randint(1, 2)):
             at = rng.randrange(len(words) + 1)
@@ -227,4 +230,8 @@ def case(number):
             daily = changed(rng, daily)
     cuts = sorted(rng.randrange(len(daily) + 1) for _ in range(rng.randint(0, 2)))
     files = [daily[a:b] for a, b in zip([0] + cuts, cuts + [len(daily)])] if daily or rng.random() < 0.5 else []
-    return Case(query(rng, names, asked, bad_words), text(rng, stations), [text(rng, it) for it in files], options(rng))
+    group = []
+    if number > LAST_WITHOUT_GROUPS:
+        bad_words, group = GROUP_BAD_WORDS, rng.choice(GROUPS)
+    whole = query(rng, names, asked, bad_words, group)
+    return Case(whole, text(rng, stations), [text(rng, it) for it in files], options(rng))

@@ -14,10 +14,15 @@ pub const GUESS_HELP: &str =
     "A score that the k-th best record should reach, in tenths of a degree or of a
           millimetre, whole millimetres of snow, or days; a negative one is written --guess=-3";
 
-/// The help of `--workers`.
+/// The help of `--workers` of `rank`.
 pub const WORKERS_HELP: &str =
-    "How many threads look for records, 1 to 64; without this option there are 4. If the
-          daily files together have less than 16 MiB, there is one";
+    "How many threads read the files, and then look for records, 1 to 64; without this option
+          there are 4. Fewer read, and one looks for records, if the files are small";
+
+/// The help of `--workers` of `check`.
+pub const READERS_HELP: &str =
+    "How many threads read the files, 1 to 64; without this option there are 4. Fewer read if
+          the files are small";
 
 /// The help of `--certificate` of `rank`.
 pub const CERTIFICATE_HELP: &str =
@@ -94,7 +99,7 @@ in daily files.";
 
 /// The help after the options of `rank`: queries, units, statuses and refusals.
 pub const RANK_HELP: &str = "Queries:
-  top K SCORE [REGION] [SEASON] [PERIOD]    K is from 1 to 1000
+  top K SCORE [REGION] [SEASON] [PERIOD] [GROUP]    K is from 1 to 1000
 
   SCORE    highest ELEM            greatest values of PRCP, SNOW, SNWD, TMAX or TMIN
            lowest TEMP             lowest values of TMAX or TMIN
@@ -109,6 +114,8 @@ pub const RANK_HELP: &str = "Queries:
   SEASON   months A..B             only days of these months; 12..2 is December to February
            days MM-DD..MM-DD       only these days of each year; 12-15..01-15 goes over New Year
   PERIOD   from YYYY-MM-DD to YYYY-MM-DD, both days included
+  GROUP    per station             the best row of each station alone
+           per year                the best row of each year of each station, by the row's first day
 
 Elements:
   TMAX     highest temperature of a day, degrees Celsius with one decimal

@@ -30,6 +30,8 @@ pub(crate) enum Place {
     FirstDay,
     To,
     LastDay,
+    Per,
+    Group,
     End,
 }
 
@@ -49,10 +51,12 @@ impl Place {
             Place::East | Place::Code | Place::Station => Place::Season,
             Place::Season => after_season(word),
             Place::Months | Place::Dates => Place::Period,
-            Place::Period => Place::FirstDay,
+            Place::Period => after_period(word),
             Place::FirstDay => Place::To,
             Place::To => Place::LastDay,
-            Place::LastDay | Place::End => Place::End,
+            Place::LastDay => Place::Per,
+            Place::Per => Place::Group,
+            Place::Group | Place::End => Place::End,
         }
     }
 
@@ -69,20 +73,22 @@ impl Place {
             Place::Days => Wanted::Form("a number from 1 to 366"),
             Place::Fall => Wanted::OneOf("PRCP SNOW"),
             Place::Heat => Wanted::Form("a number from -100 to 100 with at most one decimal"),
-            Place::Region => Wanted::OneOf("box country state station months days from"),
+            Place::Region => Wanted::OneOf("box country state station months days from per"),
             Place::South => Wanted::Form("a latitude from -90 to 90"),
             Place::West | Place::East => Wanted::Form("a longitude from -180 to 180"),
             Place::North => Wanted::Form("a latitude from that of the southern edge to 90"),
             Place::Code => Wanted::Form("a code of two characters"),
             Place::Station => Wanted::Form("an ID of eleven characters"),
-            Place::Season => Wanted::OneOf("months days from"),
+            Place::Season => Wanted::OneOf("months days from per"),
             Place::Months => Wanted::Form("two months from 1 to 12, written A..B"),
             Place::Dates => Wanted::Form("two days of a year, written MM-DD..MM-DD"),
-            Place::Period => Wanted::Form("from"),
+            Place::Period => Wanted::OneOf("from per"),
             Place::FirstDay | Place::LastDay => Wanted::Form(
                 "a date from 0001-01-01 to 9999-12-31",
             ),
             Place::To => Wanted::Form("to"),
+            Place::Per => Wanted::Form("per"),
+            Place::Group => Wanted::OneOf("station year"),
             Place::End => Wanted::Nothing,
         }
     }
@@ -99,7 +105,7 @@ fn after_score(word: &[u8]) -> Place {
     }
 }
 
-/// The place after the first word of a region, a season or a period.
+/// The place after the first word of a region, or of what may follow without one.
 fn after_region(word: &[u8]) -> Place {
     match word {
         b"box" => Place::South,
@@ -109,11 +115,19 @@ fn after_region(word: &[u8]) -> Place {
     }
 }
 
-/// The place after the first word of a season or a period.
+/// The place after the first word of a season, or of what may follow without one.
 fn after_season(word: &[u8]) -> Place {
     match word {
         b"months" => Place::Months,
         b"days" => Place::Dates,
+        _ => after_period(word),
+    }
+}
+
+/// The place after the first word of a period or a group.
+fn after_period(word: &[u8]) -> Place {
+    match word {
+        b"per" => Place::Group,
         _ => Place::FirstDay,
     }
 }

@@ -1,10 +1,10 @@
--- No candidate has a score above the bound.
+-- No contender has a score above the bound.
 use Rattle.rank_blocks.proofs.Cited.{◌≡◌, ℕ, ◌*◌, ◌<◌, ◌≤◌, Bool, true, List, [], ◌∷◌, map, filter, Option, Some, refl}
 use Rattle.rank_blocks.proofs.Cited.{ap, ◌∙◌, subst, arith, ℤ, pos, neg_ℤ, ◌≤ℤ◌, ◌+ℤ◌, ◌*ℤ◌, ◌&&◌, ◌-ℤ◌, Contains}
 use Rattle.rank_blocks.proofs.Cited.{filter_map, option_map, AllByRecursion, ints, clamps, All-contains, block_of}
 use Rattle.rank_blocks.proofs.Cited.{is_day, Element, DayValue, Usable, IsSeries, is_value, Score, Highest, Lowest, Sum}
 use Rattle.rank_blocks.proofs.Cited.{Dry, Wet, Hot, Cold, Asked, score_element, IsAsked, admits_day, Days, Windows, Spells}
-use Rattle.rank_blocks.proofs.Cited.{shape, test_of, is_such, window_total, begun, candidate, candidates_among}
+use Rattle.rank_blocks.proofs.Cited.{shape, test_of, is_such, window_total, begun, candidate, contenders_among}
 use Rattle.rank_blocks.proofs.Cited.{admitted, run_from, run_len, calendar_len, counted, total, blocks_total, is_among_blocks}
 use Rattle.rank_blocks.proofs.Cited.{is_reached, days_reached, blocks_of_window, holds_such, IsGreatest, IsDayScore}
 use Rattle.rank_blocks.proofs.Cited.{IsRunLength, IsSumBound, IsBlocksBound, IsBoundFor, block-holds, and_parts, length}
@@ -21,7 +21,7 @@ use Rattle.std.proofs.lemmas.Option.{same_Some}
 
 -- ---- what begins on a day
 
--- if nothing that begins on a day scores more, no candidate does
+-- if nothing that begins on a day scores more, no contender does
 candidates-below : (id : StationId) (f : DayValue → Option (ℤ × ℤ)) (bound : ℤ) (days : List DayValue)
     → ((x : DayValue) → Contains days x → (e : ℤ × ℤ) → f x ≡ Some e → e.1 ≤ℤ bound)
     → AllByRecursion (λ c. c.score ≤ℤ bound) (filter_map (λ x. option_map (candidate id x.0) (f x)) days)
@@ -41,7 +41,7 @@ below-greatest f q s z of_z x has =
 
 -- a day's own score is at most the greatest
 pub days-below : (f : ℤ → ℤ) (q : Asked) (s : Usable) (z : ℤ) → IsGreatest (IsDayScore f (days_reached q s)) z
-    → AllByRecursion (λ c. c.score ≤ℤ z) (candidates_among s.id (Days f) (admitted q s))
+    → AllByRecursion (λ c. c.score ≤ℤ z) (contenders_among s.id (Days f) (admitted q s))
 days-below f q s z of_z = candidates-below s.id (λ x. Some (x.0, f x.1)) z (admitted q s) (λ x has e is.
     grind (arith, ints, same_Some (x.0, f x.1) e is, below-greatest f q s z of_z x has))
 
@@ -61,7 +61,7 @@ reached-such test q s d e =
 -- a spell is no longer than the longest run of a wider kind
 spells-under : (test wide : ℤ → Bool) (q : Asked) (s : Usable) (z : ℤ)
     → ((d : ℤ) → is_such test (admitted q s) d ≡ true → wide d ≡ true) → IsGreatest (IsRunLength wide) z
-    → AllByRecursion (λ c. c.score ≤ℤ z) (candidates_among s.id (Spells test) (admitted q s))
+    → AllByRecursion (λ c. c.score ≤ℤ z) (contenders_among s.id (Spells test) (admitted q s))
 spells-under test wide q s z wider of_z =
     let such : ℤ → Bool = is_such test (admitted q s) in
     candidates-below s.id (begun (Spells test) (admitted q s)) z (admitted q s) (λ x has e is.
@@ -72,7 +72,7 @@ spells-under test wide q s z wider of_z =
 -- or than the days of the most blocks in a row that hold such a day
 spells-in_blocks : (test : ℤ → Bool) (q : Asked) (s : Usable) (z : ℤ)
     → IsBlocksBound (holds_such test (days_reached q s)) z → AllByRecursion (λ c. c.score ≤ℤ z)
-    (candidates_among s.id (Spells test) (admitted q s))
+    (contenders_among s.id (Spells test) (admitted q s))
 spells-in_blocks test q s z of_z =
     let such : ℤ → Bool = holds_such test (days_reached q s) in
     rw (← of_z.times) (spells-under test (λ d. such (block_of d)) q s (pos (32 * of_z.blocks))
@@ -108,7 +108,7 @@ window-blocks a n x e = grind (arith, ints, block-holds, block-rises)
 
 -- the sum of a window is at most the bound of sums
 pub windows-below : (n : ℕ) (q : Asked) (s : Usable) (z : ℤ) → IsSeries s → AreFallen s.days → IsSumBound q s n z
-    → AllByRecursion (λ c. c.score ≤ℤ z) (candidates_among s.id (Windows n) (admitted q s))
+    → AllByRecursion (λ c. c.score ≤ℤ z) (contenders_among s.id (Windows n) (admitted q s))
 windows-below n q s z series falls of_z =
     candidates-below s.id (begun (Windows n) (admitted q s)) z (admitted q s) (λ x has e is.
     let sum : window_total (admitted q s) n x.0 ≡ Some e.1 = grind (arith, ints, is) in
@@ -144,10 +144,10 @@ sums-fall q s n e asked series element is =
     for_each (λ x. pos 0 ≤ℤ x.1) s.days (λ x has.
     grind (arith, ints, asked.score, element, is, days-valid s series x has))
 
--- no candidate has a score above the bound for a score
+-- no contender has a score above the bound for a score, and so no candidate
 pub above-for : (score : Score) (q : Asked) (s : Usable) (z : ℤ) → IsSeries s
     → ((n : ℕ) (e : Element) → score ≡ Sum n e → AreFallen s.days) → IsBoundFor score q s z
-    → AllByRecursion (λ c. c.score ≤ℤ z) (candidates_among s.id (shape score) (admitted q s))
+    → AllByRecursion (λ c. c.score ≤ℤ z) (contenders_among s.id (shape score) (admitted q s))
 above-for (Highest e) q s z series falls of_z = days-below (λ v. v) q s z of_z
 above-for (Lowest e) q s z series falls of_z = days-below neg_ℤ q s z of_z
 above-for (Sum n e) q s z series falls of_z = windows-below n q s z series (falls n e refl) of_z

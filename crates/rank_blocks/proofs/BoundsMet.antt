@@ -6,6 +6,8 @@ use Rattle.rank_blocks.proofs.Cited.{is_reached, blocks_of_window, holds_such, b
 use Rattle.rank_blocks.proofs.Cited.{IsBlocksBound, IsBlocksTotal, IsRunLength, IsBoundFor, IsBound, IsRangeOf, in_range, summaries_in}
 use Rattle.rank_blocks.proofs.Cited.{IsTotalFrom, counts, days_in_range, AreOfBlocks, AreSummaries, HasDay, HasDays}
 use Rattle.rank_blocks.proofs.Cited.{HasSum, from_each, true}
+use Rattle.ghcn_series.proofs.ListFacts.{all-filter}
+use Rattle.rank_scores.specs.Candidates.{contenders}
 use Rattle.rank_scores.specs.Morsels.{IsAbove}
 use Rattle.rank_blocks.proofs.Members.{in_kept, greatest-some, greatest-unique, total-least}
 use Rattle.rank_blocks.proofs.DaysInBlocks.{block-rises}
@@ -114,6 +116,8 @@ module _ (r : BlockRange) (q : Asked) (s : Usable) (ms : List Summary) (of : IsR
 pub bound-computed : (q : Asked) (s : Usable) (z : ℤ) → IsAsked q → IsAskedOf q s → IsBound q s z → z ≡ bound q s
 bound-computed q s z asked of of_z = unique-for q.score q s z (bound q s) of_z (computed-IsBound q s asked of)
 
--- and no candidate's score is above it
+-- and no candidate's score is above it, since candidates are among the contenders
 pub bound-above : (q : Asked) (s : Usable) (z : ℤ) → IsAsked q → IsAskedOf q s → IsBound q s z → IsAbove q s z
-bound-above q s z asked of of_z = grind (arith, ints, above-for, sums-fall)
+bound-above q s z asked of of_z =
+    all-filter (λ c. c.score ≤ℤ z) _ (contenders q s) (above-for q.score q s z of.series
+    (λ n e is. sums-fall q s n e asked of.series of.element is) of_z)

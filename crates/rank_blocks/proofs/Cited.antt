@@ -38,7 +38,7 @@ pub use Rattle.rank_query.specs.declared.score.Score.TheVariants.{Cold, Dry, Hig
 pub use Rattle.rank_scores.proofs.Rising.{admitted-rise, from_both, from_each, rise-filter, rise-from_by_day, values_stand}
 pub use Rattle.rank_scores.proofs.Runs.{counted}
 pub use Rattle.rank_scores.proofs.Totals.{total-days}
-pub use Rattle.rank_scores.specs.Candidates.{Days, Spells, Windows, admitted, begun, candidate, candidates_among}
+pub use Rattle.rank_scores.specs.Candidates.{Days, Spells, Windows, admitted, begun, candidate, contenders_among}
 pub use Rattle.rank_scores.specs.Candidates.{is_such, shape, sum_of_values, test_of, window_total}
 pub use Rattle.rank_scores.specs.Morsels.{IsAskedOf}
 pub use Rattle.rank_scores.specs.Runs.{calendar_len, longest_run, run_len}

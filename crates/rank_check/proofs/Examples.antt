@@ -12,7 +12,7 @@ use Rattle.rank_query.specs.Asked.{Asked, top}
 use Rattle.rank_query.specs.Words.{says}
 use Rattle.rank_query.specs.Readers.{keyword}
 use Rattle.rank_query.specs.WordValues.{number, element, heat}
-use Rattle.rank_query.specs.Reading.{no_score_at, score_at, region_at, season_at, period_at, read_words}
+use Rattle.rank_query.specs.Reading.{no_score_at, score_at, region_at, season_at, period_at, per_at, read_words}
 use Rattle.rank_query.specs.Reading.{read_query}
 use Rattle.rank_check.specs.declared.verdict.Paper.TheVariants.{Report, Certificate}
 use Rattle.rank_check.specs.declared.verdict.Why.{Why}
@@ -102,14 +102,14 @@ bad_entry line why = Refused Certificate line why
 -- the right report and certificate are accepted
 accepted : verdict (ask 1) dataset right_report right_certificate ≡ Accepted
 unfolding digits year_and_rest month_and_day read_query read_words keyword says number element score_at no_score_at
-    region_at season_at period_at days_from_civil day_count days_of_years days_of_months
+    region_at season_at period_at per_at days_from_civil day_count days_of_years days_of_months
 accepted = refl
 
 -- another bound that is above all candidates and below the k-th score, and no skip at all
 also_accepted : (of_certificate (scanned (codes "skip ZZA00000003 310" ∷ codes "end 3" ∷ [])) ≡ Accepted)
     × (of_certificate (scanned (codes "scan ZZA00000003 9999" ∷ codes "end 3" ∷ [])) ≡ Accepted)
 unfolding digits year_and_rest month_and_day read_query read_words keyword says number element score_at no_score_at
-    region_at season_at period_at days_from_civil day_count days_of_years days_of_months
+    region_at season_at period_at per_at days_from_civil day_count days_of_years days_of_months
 also_accepted = (refl, refl)
 
 -- a skip at the k-th score, a bound below a candidate, a series left out, a wrong number of lines, another k-th score
@@ -120,7 +120,7 @@ certificates : (of_certificate (scanned (codes "skip ZZA00000003 311" ∷ codes 
     × (of_certificate (certificate (codes "kth 310" ∷ codes "scan ZZA00000001 311" ∷ codes "scan ZZA00000002 311"
     ∷ codes "skip ZZA00000003 250" ∷ codes "end 3" ∷ [])) ≡ bad_entry 3 OtherFloor)
 unfolding digits year_and_rest month_and_day read_query read_words keyword says number element score_at no_score_at
-    region_at season_at period_at days_from_civil day_count days_of_years days_of_months
+    region_at season_at period_at per_at days_from_civil day_count days_of_years days_of_months
 certificates = (refl, refl, refl, refl, refl)
 
 -- a certificate with the first series twice, and this end
@@ -135,7 +135,7 @@ doubled : (of_certificate (with_one_twice (codes "end 3")) ≡ bad_entry 8 Form)
     × (of_certificate (scanned (codes "skip ZZA00000003 250" ∷ codes "end 3" ∷ codes "end 3" ∷ [])) ≡ bad_entry 8 Form)
     × (of_report (report (row ∷ row ∷ codes "end 2" ∷ [])) ≡ bad_row 4 Form)
 unfolding digits year_and_rest month_and_day read_query read_words keyword says number element score_at no_score_at
-    region_at season_at period_at days_from_civil day_count days_of_years days_of_months
+    region_at season_at period_at per_at days_from_civil day_count days_of_years days_of_months
 doubled = (refl, refl, refl, refl)
 
 -- the verdict on a report with this row
@@ -149,7 +149,7 @@ reports : (of_one (codes "1 ZZA00000001 2020-07-01 2020-07-01 31.0 C ALPHA") ≡
     × (of_report (report (codes "end 0 all" ∷ [])) ≡ bad_row 3 TooFew)
     × (verdict (ask 2) dataset right_report right_certificate ≡ bad_row 2 OtherQuery)
 unfolding digits year_and_rest month_and_day read_query read_words keyword says number element score_at no_score_at
-    region_at season_at period_at days_from_civil day_count days_of_years days_of_months
+    region_at season_at period_at per_at days_from_civil day_count days_of_years days_of_months
 reports = (refl, refl, refl, refl, refl)
 
 -- the verdict on a report with these two rows
@@ -164,7 +164,7 @@ of_two : (two_rows (row ∷ codes "2 ZZA00000001 2020-07-01 2020-07-01 31.1 C AL
     ∷ codes "2 ZZA00000002 2020-07-01 2020-07-01 31.1 C BRAVO" ∷ []) ≡ bad_row 3 NotBest)
     × (two_rows (row ∷ codes "2 ZZA00000002 2020-07-01 2020-07-01 31.1 C BRAVO" ∷ []) ≡ bad_entry 2 OtherQuery)
 unfolding digits year_and_rest month_and_day read_query read_words keyword says number element score_at no_score_at
-    region_at season_at period_at days_from_civil day_count days_of_years days_of_months
+    region_at season_at period_at per_at days_from_civil day_count days_of_years days_of_months
 of_two = (refl, refl, refl)
 
 -- ---- version 2
@@ -184,7 +184,7 @@ versions : (counted (codes "scan ZZA00000001 311 1" ∷ codes "scan ZZA00000002 
     × (counted (codes "scan ZZA00000001 311" ∷ []) ≡ bad_entry 4 Form)
     × (of_certificate (text (codes "extremes certificate 3" ∷ [])) ≡ bad_entry 1 Form)
 unfolding digits year_and_rest month_and_day read_query read_words keyword says number element score_at no_score_at
-    region_at season_at period_at days_from_civil day_count days_of_years days_of_months
+    region_at season_at period_at per_at days_from_civil day_count days_of_years days_of_months
 versions = (refl, refl, refl, refl, refl)
 
 -- ---- of two errors the one of the earlier test is reported
@@ -195,7 +195,7 @@ early : (verdict (ask 2) dataset
     right_certificate ≡ bad_row 2 OtherQuery)
     × (verdict (ask 2) dataset right_report (scanned (codes "end 3" ∷ [])) ≡ bad_entry 6 Form)
 unfolding digits year_and_rest month_and_day read_query read_words keyword says number element score_at no_score_at
-    region_at season_at period_at days_from_civil day_count days_of_years days_of_months
+    region_at season_at period_at per_at days_from_civil day_count days_of_years days_of_months
 early = (refl, refl)
 
 -- the verdict on a report that has this row and says that there are no more, if two are asked for, beside the
@@ -215,7 +215,7 @@ rows_in_turn : (two_rows (row ∷ codes "2 ZZA00000001 2020-07-01 2020-07-01 31.
     × (one_of_two (codes "1 ZZA00000001 2020-07-01 2020-07-01 31.0 C ALPHA") ≡ bad_row 3 NotACandidate)
     × (one_of_two row ≡ bad_row 4 TooFew)
 unfolding digits year_and_rest month_and_day read_query read_words keyword says number element score_at no_score_at
-    region_at season_at period_at days_from_civil day_count days_of_years days_of_months
+    region_at season_at period_at per_at days_from_civil day_count days_of_years days_of_months
 rows_in_turn = (refl, refl, refl, refl)
 
 -- the verdict on a certificate of these lines beside the right two rows
@@ -238,7 +238,7 @@ entries_in_turn : (beside_two (codes "kth 310" ∷ codes "scan ZZA00000001 311" 
     × (beside_three (codes "kth 305" ∷ codes "skip ZZA00000001 310" ∷ codes "end 1" ∷ []) ≡ bad_entry 4 NoBound)
     × (of_certificate (scanned (codes "skip ZZA00000004 311" ∷ codes "end 3" ∷ [])) ≡ bad_entry 6 OtherSeries)
 unfolding digits year_and_rest month_and_day read_query read_words keyword says number element score_at no_score_at
-    region_at season_at period_at days_from_civil day_count days_of_years days_of_months
+    region_at season_at period_at per_at days_from_civil day_count days_of_years days_of_months
 entries_in_turn = (refl, refl, refl)
 
 -- a line before the next one, and before the number of lines; of two lines too many the first
@@ -249,7 +249,7 @@ lines_in_turn : (of_certificate (certificate (codes "kth 311" ∷ codes "scan ZZ
     × (of_certificate (scanned (codes "skip ZZA00000003 250" ∷ codes "scan ZZA00000004 1" ∷ codes "scan ZZA00000005 1"
     ∷ codes "end 5" ∷ [])) ≡ bad_entry 7 OtherSeries)
 unfolding digits year_and_rest month_and_day read_query read_words keyword says number element score_at no_score_at
-    region_at season_at period_at days_from_civil day_count days_of_years days_of_months
+    region_at season_at period_at per_at days_from_civil day_count days_of_years days_of_months
 lines_in_turn = (refl, refl, refl)
 
 -- the report's form before the certificate's; the k-th score before the lines; the series before the bound
@@ -259,7 +259,7 @@ firsts : (verdict (ask 1) dataset [] [] ≡ bad_row 1 Form)
     × (of_certificate (certificate (codes "kth 311" ∷ codes "scan ZZA00000001 311" ∷ codes "skip ZZA00000003 250"
     ∷ codes "end 2" ∷ [])) ≡ bad_entry 5 OtherSeries)
 unfolding digits year_and_rest month_and_day read_query read_words keyword says number element score_at no_score_at
-    region_at season_at period_at days_from_civil day_count days_of_years days_of_months
+    region_at season_at period_at per_at days_from_civil day_count days_of_years days_of_months
 firsts = (refl, refl, refl)
 
 -- if there are fewer candidates than were asked for there is no k-th score, and no series may be skipped
@@ -270,7 +270,7 @@ without_kth : verdict (ask 10) dataset (text (codes "extremes report 1" ∷ code
     (text (codes "extremes certificate 1" ∷ codes "query top 10 highest TMAX" ∷ codes "kth none"
     ∷ codes "skip ZZA00000001 311" ∷ codes "end 1" ∷ [])) ≡ bad_entry 4 NotBelow
 unfolding digits year_and_rest month_and_day read_query read_words keyword says number element score_at no_score_at
-    region_at season_at period_at days_from_civil day_count days_of_years days_of_months
+    region_at season_at period_at per_at days_from_civil day_count days_of_years days_of_months
 without_kth = refl
 
 -- of version 2: the series, the bound and the skip before the count of the same line, and that before the next line and
@@ -282,7 +282,7 @@ counts_in_turn : (counted (codes "scan ZZA00000002 311 1" ∷ codes "end 1" ∷ 
     ≡ bad_entry 4 NotCounted)
     × (counted (codes "scan ZZA00000001 311 2" ∷ codes "end 1" ∷ []) ≡ bad_entry 4 NotCounted)
 unfolding digits year_and_rest month_and_day read_query read_words keyword says number element score_at no_score_at
-    region_at season_at period_at days_from_civil day_count days_of_years days_of_months
+    region_at season_at period_at per_at days_from_civil day_count days_of_years days_of_months
 counts_in_turn = (refl, refl, refl, refl, refl)
 
 -- ---- pieces
@@ -386,5 +386,5 @@ cold_accepted : verdict (top 3 (Cold (neg_ℤ (pos 100)))) frosts
     (text (codes "extremes certificate 2" ∷ codes "query top 3 cold -10.0" ∷ codes "kth 1"
     ∷ codes "scan ZZA00000001 32 2" ∷ codes "scan ZZA00000002 32 1" ∷ codes "end 2" ∷ [])) ≡ Accepted
 unfolding digits year_and_rest month_and_day read_query read_words keyword says number heat score_at no_score_at
-    region_at season_at period_at days_from_civil day_count days_of_years days_of_months run_from
+    region_at season_at period_at per_at days_from_civil day_count days_of_years days_of_months run_from
 cold_accepted = refl

@@ -20,7 +20,8 @@ use Rattle.ghcn_series.specs.Held.{IsContents}
 use Rattle.rank_query.specs.Asked.{Asked, score_element}
 use Rattle.rank_query.specs.Admits.{admits_station}
 use Rattle.rank_scores.specs.declared.candidate.Candidate.{Candidate}
-use Rattle.rank_scores.specs.Candidates.{admitted, shape, candidates_among, candidates}
+use Rattle.rank_scores.specs.Groups.{leaders}
+use Rattle.rank_scores.specs.Candidates.{admitted, shape, contenders_among, candidates}
 use Rattle.rank_scores.specs.Morsels.{has_admitted, admitted_series, all_candidates, morsels, id_comes_first}
 use Rattle.rank_scores.proofs.QueryCandidates.{candidates-own}
 use Rattle.ghcn_files.proofs.Ordered as ordered
@@ -151,7 +152,7 @@ module _ (q : Asked) (c : Contents) where
   none_of u e =
       let none : admitted q u ≡ [] = nil_from_length (admitted q u) (eqb-true (length (admitted q u)) 0
       (so (length (admitted q u) == 0) e)) in
-      ap (candidates_among u.id (shape q.score)) none
+      ap (λ days. leaders q.per (contenders_among u.id (shape q.score) days)) none
 
   -- a candidate of the query is one of a morsel
   pub candidate_in : (d : Candidate) → In (all_candidates q c) d

@@ -11,7 +11,7 @@ use Rattle.rank_query.specs.Asked.{Asked, top}
 use Rattle.rank_query.specs.Words.{says}
 use Rattle.rank_query.specs.Readers.{keyword}
 use Rattle.rank_query.specs.WordValues.{number, element}
-use Rattle.rank_query.specs.Reading.{no_score_at, score_at, region_at, season_at, period_at, read_words, read_query}
+use Rattle.rank_query.specs.Reading.{no_score_at, score_at, region_at, season_at, period_at, per_at, read_words, read_query}
 use Rattle.rank_merge.specs.declared.fault.MergeFault.TheVariants.{BadReport, BadCertificate, OtherQuery, OutOfOrder}
 use Rattle.rank_merge.specs.declared.fault.MergeFault.TheVariants.{OtherFloor, NotRising, NotScanned, NotCounted, Twice}
 use Rattle.rank_merge.specs.Merging.{Texts, merge}
@@ -64,7 +64,7 @@ two_and_one = papers (codes "1") (alpha ∷ codes "end 1" ∷ []) (codes "kth 31
 -- in either order the parts merge into these
 merged : (merge (ask 1) (two ∷ one ∷ []) ≡ Ok two_and_one) × (merge (ask 1) (one ∷ two ∷ []) ≡ Ok two_and_one)
 unfolding digits year_and_rest month_and_day read_query read_words keyword says number element score_at no_score_at
-    region_at season_at period_at days_from_civil day_count days_of_years days_of_months
+    region_at season_at period_at per_at days_from_civil day_count days_of_years days_of_months
 merged = (refl, refl)
 
 -- a station in two certificates, another query before a line in no format, and a certificate cut short
@@ -73,7 +73,7 @@ refused : (merge (ask 1) (two ∷ two ∷ []) ≡ Err (Twice (record { 0 = codes
     × (merge (ask 1) (two ∷ (one.0, text (codes "extremes certificate 1" ∷ [])) ∷ []) ≡ Err (BadCertificate 2 2))
     × (merge (ask 1) (([], one.1) ∷ two ∷ []) ≡ Err (BadReport 1 1))
 unfolding digits year_and_rest month_and_day read_query read_words keyword says number element score_at no_score_at
-    region_at season_at period_at days_from_civil day_count days_of_years days_of_months
+    region_at season_at period_at per_at days_from_civil day_count days_of_years days_of_months
 refused = (refl, refl, refl, refl)
 
 -- ---- two stations in two parts each
@@ -89,7 +89,7 @@ first_named : merge (ask 1) (of_stations (codes "ZZA00000003" ∷ [])
     ∷ of_stations (codes "ZZA00000001" ∷ codes "ZZA00000003" ∷ []) ∷ of_stations (codes "ZZA00000001" ∷ []) ∷ [])
     ≡ Err (Twice (record { 0 = codes "ZZA00000001" }))
 unfolding digits year_and_rest month_and_day read_query read_words keyword says number element score_at no_score_at
-    region_at season_at period_at days_from_civil day_count days_of_years days_of_months
+    region_at season_at period_at per_at days_from_civil day_count days_of_years days_of_months
 first_named = refl
 
 -- ---- the three highest, if each part has fewer
@@ -115,7 +115,7 @@ few_and_others = papers (codes "3") (alpha ∷ codes "2 ZZA00000002 2020-07-01 2
 -- a count falls if a row is left out
 three_merged : merge (ask 3) (others ∷ few ∷ []) ≡ Ok few_and_others
 unfolding digits year_and_rest month_and_day read_query read_words keyword says number element score_at no_score_at
-    region_at season_at period_at days_from_civil day_count days_of_years days_of_months
+    region_at season_at period_at per_at days_from_civil day_count days_of_years days_of_months
 three_merged = refl
 
 -- ---- heads
@@ -137,5 +137,5 @@ heads_refused : (merge (ask 2) (papers (codes "2") (codes "1 ZZA00000002 2020-07
     × (merge (ask 2) (two_rows (codes "kth 305" ∷ codes "scan ZZA00000001 311 1" ∷ codes "scan ZZA00000002 305 0"
     ∷ codes "end 2" ∷ []) ∷ []) ≡ Err (NotCounted 1 5))
 unfolding digits year_and_rest month_and_day read_query read_words keyword says number element score_at no_score_at
-    region_at season_at period_at days_from_civil day_count days_of_years days_of_months
+    region_at season_at period_at per_at days_from_civil day_count days_of_years days_of_months
 heads_refused = (refl, refl, refl, refl, refl)

@@ -26,7 +26,8 @@ use Rattle.rank_papers.specs.Certificate.{Entry, IsRightEntry, Certified, SaysRi
 use Rattle.rank_head.specs.HeadTests.{of_rows, stands_before, IdsRise, is_scanned}
 use Rattle.rank_head.specs.RightHead.{AreInOrder, IsRightHead}
 use Rattle.rank_pool.proofs.Orders.{take-all, sorted-all}
-use Rattle.rank_scores.specs.Candidates.{admitted, shape, candidates_among, candidates}
+use Rattle.rank_scores.specs.Groups.{leaders}
+use Rattle.rank_scores.specs.Candidates.{admitted, shape, contenders_among, candidates}
 use Rattle.rank_scores.proofs.QueryCandidates.{all_apart, candidates-own, morsels_rise}
 use Rattle.rank_pool.specs.First.{in_order, kth}
 use Rattle.rank_pool.proofs.Ranked.{in_order-descends, best-first, kth_score-kth}
@@ -176,7 +177,8 @@ module _ (q : Asked) (k : Option ℤ) (all : List Entry) where
       → AllByRecursion IsSeen (flat_map (candidates q) (u ∷ us))) [
         | true ↦ λ e k. each-append IsSeen (candidates q u) (flat_map (candidates q) us) k.0 (seen_all us k.1)
         | false ↦ λ e k.
-            let none : candidates q u ≡ [] = ap (candidates_among u.id (shape q.score)) (empty (admitted q u) e) in
+            let none : candidates q u ≡ [] = ap
+            (λ days. leaders q.per (contenders_among u.id (shape q.score) days)) (empty (admitted q u) e) in
             each-append IsSeen (candidates q u) (flat_map (candidates q) us)
             (subst (AllByRecursion IsSeen) (sym none) tt) (seen_all us k)
       ] refl h

@@ -10,13 +10,14 @@ use Rattle.std.proofs.lemmas.Int.{ints}
 use Rattle.ghcn_fields.specs.Days.{is_day, is_within}
 use Rattle.ghcn_files.specs.declared.station.StationId.{StationId}
 use Rattle.ghcn_series.specs.Series.{DayValue, Usable, value_on}
+use Rattle.ghcn_series.proofs.ListFacts.{all-filter}
 use Rattle.rank_query.specs.declared.score.Score.{Score}
 use Rattle.rank_query.specs.declared.score.Score.TheVariants.{Highest, Lowest, Sum, Dry, Wet, Hot, Cold}
 use Rattle.rank_query.specs.Asked.{Asked, IsAsked, is_score, is_fall}
 use Rattle.rank_query.specs.Admits.{admits_day, period_holds, season_holds}
 use Rattle.rank_scores.specs.declared.candidate.Candidate.{Candidate}
 use Rattle.rank_scores.specs.Runs.{run_from, run_len, begins_run}
-use Rattle.rank_scores.specs.Candidates.{Shape, Days, Windows, Spells, shape, plus, window_total, is_such, begun, candidate, candidates, test_of}
+use Rattle.rank_scores.specs.Candidates.{Shape, Days, Windows, Spells, shape, plus, window_total, is_such, begun, candidate, candidates, contenders, test_of}
 use Rattle.rank_scores.specs.Stretches.{admitted_among}
 use Rattle.rank_scores.specs.declared.spell.Spell.TheVariants as spells
 
@@ -196,5 +197,6 @@ module _ (q : Asked) (days : List DayValue) where
 -- the candidates of a series begin and end on days of the calendar
 pub candidates_of_days : (q : Asked) (s : Usable) → IsAsked q → AllByRecursion IsOfDays (candidates q s)
 candidates_of_days q s asked =
-    each_begun q s.days s.id (shape q.score) (admitted_among q s.days) (own_days q s.days s.days)
-    (asked_ends q s.days q.score asked.score)
+    all-filter IsOfDays _ (contenders q s)
+    (each_begun q s.days s.id (shape q.score) (admitted_among q s.days) (own_days q s.days s.days)
+    (asked_ends q s.days q.score asked.score))

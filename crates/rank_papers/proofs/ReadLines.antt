@@ -1,6 +1,5 @@
 -- What any report or certificate writes in its lines is read of them.
-use Rattle.std.proofs.Common.{◌≡◌, ◌-◌, Bool, true, cond, List, length, Some, None, refl, ap, ◌∙◌, arith, FitsSigned}
-use Rattle.std.proofs.Common.{w64, ℕ}
+use Rattle.std.proofs.Common.{◌≡◌, ◌-◌, Bool, true, cond, List, length, Some, None, refl, ap, ◌∙◌, arith, FitsSigned, w64, ℕ}
 use Rattle.std.specs.Prelude.{ℤ, codes, slice_range}
 use Rattle.std.specs.List.{list_all}
 use Rattle.std.proofs.lemmas.Bool.{and_parts}
@@ -8,9 +7,7 @@ use Rattle.std.proofs.lemmas.Bool.Decides.{nat_tests}
 use Rattle.std.proofs.lemmas.Int.{ints}
 use Rattle.ghcn_files.specs.Ids.{is_id, is_visible}
 use Rattle.rank_query.specs.declared.score.Score.TheVariants.{Dry}
-use Rattle.rank_query.specs.declared.region.Region.TheVariants.{Everywhere}
-use Rattle.rank_query.specs.declared.season.Season.TheVariants.{AllYear}
-use Rattle.rank_query.specs.Asked.{Asked, IsAsked}
+use Rattle.rank_query.specs.Asked.{Asked, IsAsked, top}
 use Rattle.rank_query.specs.QueryTexts.{query_text}
 use Rattle.rank_query.specs.Reading.{read_query}
 use Rattle.rank_query.proofs.CanonicalTexts.{canonical}
@@ -33,7 +30,7 @@ query_in-line q asked =
 
 -- a query that can be asked
 abbrev pub some_query : Asked
-some_query = record { k = 1; score = Dry; region = Everywhere; season = AllYear; period = None }
+some_query = top 1 Dry
 
 -- it is read of its line
 pub some_query-line : query_in (query_line some_query) ≡ Some some_query

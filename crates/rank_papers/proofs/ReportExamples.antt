@@ -11,7 +11,7 @@ use Rattle.rank_query.specs.Asked.{top}
 use Rattle.rank_query.specs.Words.{says}
 use Rattle.rank_query.specs.Readers.{keyword}
 use Rattle.rank_query.specs.WordValues.{number, element}
-use Rattle.rank_query.specs.Reading.{no_score_at, score_at, region_at, season_at, period_at, read_words}
+use Rattle.rank_query.specs.Reading.{no_score_at, score_at, region_at, season_at, period_at, per_at, read_words}
 use Rattle.rank_query.specs.Reading.{read_query}
 use Rattle.rank_scores.specs.declared.candidate.Candidate.{Candidate}
 use Rattle.rank_papers.specs.Report.{Named, report_text}
@@ -65,7 +65,7 @@ report_written = refl
 -- and read
 report_read : read_report top_ten_text ≡ Ok (record { query = top 10 (Highest Tmax); rows = top_ten })
 unfolding digits year_and_rest month_and_day read_query read_words keyword says number element score_at no_score_at
-    region_at season_at period_at days_from_civil day_count days_of_years days_of_months
+    region_at season_at period_at per_at days_from_civil day_count days_of_years days_of_months
 report_read = refl
 
 -- the lowest: the printed value is the negated score
@@ -83,7 +83,7 @@ lowest_read : read_report (lowest (
       rows = (on_day a (pos 18444) (pos 5), codes "ALPHA") ∷ (on_day a (pos 18445) (neg_ℤ (pos 3)), []) ∷ [];
     })
 unfolding digits year_and_rest month_and_day read_query read_words keyword says number element score_at no_score_at
-    region_at season_at period_at days_from_civil day_count days_of_years days_of_months
+    region_at season_at period_at per_at days_from_civil day_count days_of_years days_of_months
 lowest_read = refl
 
 -- other spellings of a value, a wrong rank, a blank at the end, a row too many, and an end that disagrees
@@ -101,14 +101,14 @@ bad_rows : (read_report (lowest (codes "1 ZZA00000001 2020-07-01 2020-07-01 -0.5
     ∷ [])) ≡ Err 5)
     × (read_report (lowest (codes "1 ZZA00000001 2020-02-30 2020-07-01 0.3 C" ∷ [])) ≡ Err 3)
 unfolding digits year_and_rest month_and_day read_query read_words keyword says number element score_at no_score_at
-    region_at season_at period_at days_from_civil day_count days_of_years days_of_months
+    region_at season_at period_at per_at days_from_civil day_count days_of_years days_of_months
 bad_rows = (refl, refl, refl, refl, refl, refl, refl, refl)
 
 -- a name may begin with a blank and have two blanks inside, and both come back
 names_read : read_report (lowest (codes "1 ZZA00000001 2020-07-01 2020-07-01 0.3 C  A  B" ∷ codes "end 1 all" ∷ []))
     ≡ Ok (record { query = top 2 (Lowest Tmin); rows = (on_day a (pos 18444) (neg_ℤ (pos 3)), codes " A  B") ∷ [] })
 unfolding digits year_and_rest month_and_day read_query read_words keyword says number element score_at no_score_at
-    region_at season_at period_at days_from_civil day_count days_of_years days_of_months
+    region_at season_at period_at per_at days_from_civil day_count days_of_years days_of_months
 names_read = refl
 
 -- the longest dry spell
@@ -129,5 +129,5 @@ spell_read : (read_report (spells (codes "1 ZZA00000001 2020-06-29 2020-07-02 4 
     × (read_report (spells (codes "end 1" ∷ [])) ≡ Err 3)
     × (read_report (spells (codes "end 0 all" ∷ codes "x" ∷ [])) ≡ Err 4)
 unfolding digits year_and_rest month_and_day read_query read_words keyword says number element score_at no_score_at
-    region_at season_at period_at days_from_civil day_count days_of_years days_of_months
+    region_at season_at period_at per_at days_from_civil day_count days_of_years days_of_months
 spell_read = (refl, refl, refl, refl, refl)

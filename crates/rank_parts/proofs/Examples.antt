@@ -12,7 +12,7 @@ use Rattle.rank_query.specs.Asked.{Asked, top}
 use Rattle.rank_query.specs.Words.{says}
 use Rattle.rank_query.specs.Readers.{keyword}
 use Rattle.rank_query.specs.WordValues.{number, element}
-use Rattle.rank_query.specs.Reading.{no_score_at, score_at, region_at, season_at, period_at, read_words}
+use Rattle.rank_query.specs.Reading.{no_score_at, score_at, region_at, season_at, period_at, per_at, read_words}
 use Rattle.rank_query.specs.Reading.{read_query}
 use Rattle.rank_check.specs.declared.verdict.Paper.TheVariants.{Report, Certificate}
 use Rattle.rank_check.specs.declared.verdict.Why.{Why}
@@ -111,7 +111,7 @@ accepted : (of_certificate first_part right_counted ≡ Accepted 2 3)
     × (of_certificate first_part right_plain ≡ Accepted 2 3)
     × (of_certificate second_part right_plain ≡ Accepted 1 3)
 unfolding digits year_and_rest month_and_day read_query read_words keyword says number element score_at no_score_at
-    region_at season_at period_at days_from_civil day_count days_of_years days_of_months
+    region_at season_at period_at per_at days_from_civil day_count days_of_years days_of_months
 accepted = (refl, refl, refl, refl, refl)
 
 -- a line that stands for no series isn't seen by any part: each accepts, and 2 and 1 don't add up to 4
@@ -120,7 +120,7 @@ one_line_more : (of_certificate first_part (counted (codes "scan ZZA00000001 311
     × (of_certificate second_part (counted (codes "scan ZZA00000001 311 1" ∷ codes "scan ZZA00000002 311 0"
     ∷ codes "skip ZZA00000003 250" ∷ codes "scan ZZA00000004 9 0" ∷ codes "end 4" ∷ [])) ≡ Accepted 1 4)
 unfolding digits year_and_rest month_and_day read_query read_words keyword says number element score_at no_score_at
-    region_at season_at period_at days_from_civil day_count days_of_years days_of_months
+    region_at season_at period_at per_at days_from_civil day_count days_of_years days_of_months
 one_line_more = (refl, refl)
 
 -- a refusal of a line of the certificate
@@ -133,7 +133,7 @@ missing : (of_certificate first_part (counted (codes "scan ZZA00000001 311 1" �
     × (of_certificate second_part (counted (codes "scan ZZA00000001 311 1" ∷ codes "scan ZZA00000002 311 0"
     ∷ codes "end 2" ∷ [])) ≡ Accepted 1 2)
 unfolding digits year_and_rest month_and_day read_query read_words keyword says number element score_at no_score_at
-    region_at season_at period_at days_from_civil day_count days_of_years days_of_months
+    region_at season_at period_at per_at days_from_civil day_count days_of_years days_of_months
 missing = (refl, refl)
 
 -- a report that leaves out the best candidate is refused by its part, and by no other
@@ -145,7 +145,7 @@ left_out : (part_verdict (ask 1) first_part bravo_alone (plain (codes "scan ZZA0
     × (part_verdict (ask 1) second_part bravo_alone (plain (codes "scan ZZA00000001 311"
     ∷ codes "scan ZZA00000002 311" ∷ codes "skip ZZA00000003 250" ∷ codes "end 3" ∷ [])) ≡ Accepted 1 3)
 unfolding digits year_and_rest month_and_day read_query read_words keyword says number element score_at no_score_at
-    region_at season_at period_at days_from_civil day_count days_of_years days_of_months
+    region_at season_at period_at per_at days_from_civil day_count days_of_years days_of_months
 left_out = (refl, refl)
 
 -- lines of a part: a bound below a candidate, a skip at the k-th score; a bound of a series of another part isn't seen
@@ -158,7 +158,7 @@ bad_lines : (of_certificate first_part (plain (codes "scan ZZA00000001 310" ∷ 
     × (of_certificate second_part (plain (codes "scan ZZA00000001 311" ∷ codes "scan ZZA00000002 9"
     ∷ codes "skip ZZA00000003 250" ∷ codes "end 3" ∷ [])) ≡ bad_line 5 NoBound)
 unfolding digits year_and_rest month_and_day read_query read_words keyword says number element score_at no_score_at
-    region_at season_at period_at days_from_civil day_count days_of_years days_of_months
+    region_at season_at period_at per_at days_from_civil day_count days_of_years days_of_months
 bad_lines = (refl, refl, refl, refl)
 
 -- rows of a part's series: another value, another name; the part that doesn't have the series sees neither
@@ -169,7 +169,7 @@ bad_rows : (part_verdict (ask 1) first_part (report (codes "1 ZZA00000001 2020-0
     × (part_verdict (ask 1) second_part (report (codes "1 ZZA00000001 2020-07-01 2020-07-01 31.1 C BRAVO"
     ∷ codes "end 1" ∷ [])) right_counted ≡ Accepted 1 3)
 unfolding digits year_and_rest month_and_day read_query read_words keyword says number element score_at no_score_at
-    region_at season_at period_at days_from_civil day_count days_of_years days_of_months
+    region_at season_at period_at per_at days_from_civil day_count days_of_years days_of_months
 bad_rows = (refl, refl, refl)
 
 -- ---- the head, which each part sees, also one without series
@@ -187,7 +187,7 @@ heads : (seen [] [] ≡ Refused Report 1 Form)
     × (seen right_report (text (codes "extremes certificate 2" ∷ codes "query top 1 highest TMAX" ∷ codes "kth 310"
     ∷ codes "scan ZZA00000001 311 1" ∷ codes "end 1" ∷ [])) ≡ bad_line 3 OtherFloor)
 unfolding digits year_and_rest month_and_day read_query read_words keyword says number element score_at no_score_at
-    region_at season_at period_at days_from_civil day_count days_of_years days_of_months
+    region_at season_at period_at per_at days_from_civil day_count days_of_years days_of_months
 heads = (refl, refl, refl, refl, refl)
 
 -- lines that don't rise, a row of no line that was scanned, a count of another number of rows
@@ -197,7 +197,7 @@ lines_of_heads : (seen right_report (counted (codes "scan ZZA00000002 311 0" ∷
     ≡ Refused Report 3 NotACandidate)
     × (seen right_report (counted (codes "scan ZZA00000001 311 0" ∷ codes "end 1" ∷ [])) ≡ bad_line 4 NotCounted)
 unfolding digits year_and_rest month_and_day read_query read_words keyword says number element score_at no_score_at
-    region_at season_at period_at days_from_civil day_count days_of_years days_of_months
+    region_at season_at period_at per_at days_from_civil day_count days_of_years days_of_months
 lines_of_heads = (refl, refl, refl)
 
 -- rows out of order
@@ -208,7 +208,7 @@ rows_of_heads : part_verdict (ask 2) no_part (text (codes "extremes report 1" �
     ∷ codes "scan ZZA00000001 311 1" ∷ codes "scan ZZA00000002 311 1" ∷ codes "end 2" ∷ []))
     ≡ Refused Report 4 OutOfOrder
 unfolding digits year_and_rest month_and_day read_query read_words keyword says number element score_at no_score_at
-    region_at season_at period_at days_from_civil day_count days_of_years days_of_months
+    region_at season_at period_at per_at days_from_civil day_count days_of_years days_of_months
 rows_of_heads = refl
 
 -- ---- what is reported first
@@ -220,7 +220,7 @@ in_turn : (of_certificate first_part (text (codes "extremes certificate 2" ∷ c
     ∷ [])) ≡ bad_line 4 NoBound)
     × (of_certificate first_part (plain (codes "scan ZZA00000001 310" ∷ codes "end 1" ∷ [])) ≡ bad_line 4 NoBound)
 unfolding digits year_and_rest month_and_day read_query read_words keyword says number element score_at no_score_at
-    region_at season_at period_at days_from_civil day_count days_of_years days_of_months
+    region_at season_at period_at per_at days_from_civil day_count days_of_years days_of_months
 in_turn = (refl, refl, refl)
 
 -- the lines that are printed

@@ -8,6 +8,7 @@ use Rattle.rank_query.proofs.Cited.{region_words, season_words, period_words, qu
 use Rattle.rank_query.proofs.Cited.{SpellsWord, IsSpelling, QueryWord, Exactly, Count, Tenths, Edge, TwoMonths, Season}
 use Rattle.rank_query.proofs.Cited.{AllYear}
 use Rattle.rank_query.proofs.Cited.{Months, Dates, dates_text}
+use Rattle.rank_query.proofs.Cited.{per_words, Per, Each, Station, Year}
 use Rattle.rank_query.proofs.Cited.{word_text, words_of, map, List, [], ◌∷◌, sym, subst, length-map, is_code, code_of}
 use Rattle.rank_query.proofs.Cited.{date_text, Element, nat_le, list_all, is_visible, ◌&&◌}
 use Rattle.rank_query.specs.Laws.{IsShortLine}
@@ -136,6 +137,12 @@ period_printed (Some p) = (
   omega arith,
 )
 
+-- the words of a group are such, and few
+per_printed : (g : Per) → AllByRecursion IsPrinted (per_words g) × (length (per_words g) ≤ 2)
+per_printed Each = (tt, omega arith)
+per_printed Station = ((known_printed (codes "per") refl, (known_printed (codes "station") refl, tt)), omega arith)
+per_printed Year = ((known_printed (codes "per") refl, (known_printed (codes "year") refl, tt)), omega arith)
+
 -- words before words are such
 all_both : (xs ys : List QueryWord) → AllByRecursion IsPrinted xs → AllByRecursion IsPrinted ys
     → AllByRecursion IsPrinted (xs ++ ys)
@@ -165,14 +172,17 @@ canonical q is =
     let region = region_printed q.region is.region in
     let season = season_printed q.season is.season in
     let period = period_printed q.period in
+    let group = per_printed q.per in
     let placed = all_both (score_words q.score) (region_words q.region) score.0 region.0 in
     let front = all_both (score_words q.score ++ region_words q.region) (season_words q.season) placed season.0 in
+    let dated = all_both (score_words q.score ++ region_words q.region ++ season_words q.season)
+    (period_words q.period) front period.0 in
     let all : AllByRecursion IsPrinted (query_words q) = (
       known_printed (codes "top") refl,
       (
         count_printed 1 1000 q.k (omega arith) is.k,
-        all_both (score_words q.score ++ region_words q.region ++ season_words q.season)
-            (period_words q.period) front period.0,
+        all_both (score_words q.score ++ region_words q.region ++ season_words q.season ++ period_words q.period)
+            (per_words q.per) dated group.0,
       ),
     ) in
     let texts : List (List ℕ) = map word_text (query_words q) in
@@ -191,9 +201,12 @@ canonical q is =
           region.1,
           season.1,
           period.1,
+          group.1,
           length-append (score_words q.score) (region_words q.region),
           length-append (score_words q.score ++ region_words q.region) (season_words q.season),
           length-append (score_words q.score ++ region_words q.region ++ season_words q.season) (period_words q.period),
+          length-append (score_words q.score ++ region_words q.region ++ season_words q.season ++ period_words q.period)
+              (per_words q.per),
         );
         printable = printable-join texts short;
       };

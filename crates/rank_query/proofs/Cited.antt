@@ -50,25 +50,28 @@ pub use Rattle.rank_query.specs.FaultKinds.{is_decimal, is_number, other, place_
 pub use Rattle.rank_query.specs.FaultPlaces.{BeginQuery, EndsTooEarly, IsFirstWrong, IsFirstWrongAt, SpellNone}
 pub use Rattle.rank_query.specs.FaultPlaces.{StandsAmong, StandsIn}
 pub use Rattle.rank_query.specs.QueryTexts.{Count, Edge, Exactly, QueryWord, Tenths, TwoMonths, dates_text}
-pub use Rattle.rank_query.specs.QueryTexts.{period_words}
+pub use Rattle.rank_query.specs.QueryTexts.{per_words, period_words}
 pub use Rattle.rank_query.specs.QueryTexts.{query_text, query_words, region_words, score_words, season_words}
 pub use Rattle.rank_query.specs.QueryTexts.{word_text}
 pub use Rattle.rank_query.specs.Readers.{Read, by_word, made_into, one_word, or_fault, ◌>>=◌}
 unfoldable pub use Rattle.rank_query.specs.Readers.{keyword}
 pub use Rattle.rank_query.specs.Reading.{all_year_at, always_at, between_at, cold_at, country_at, dates_at, dry_at}
+pub use Rattle.rank_query.specs.Reading.{each_at}
 pub use Rattle.rank_query.specs.Reading.{everywhere_at, highest_at, hot_at, latitude_from, longitude, lowest_at}
 pub use Rattle.rank_query.specs.Reading.{months_at, nothing_more, state_at, station_at, wet_at}
-unfoldable pub use Rattle.rank_query.specs.Reading.{box_at, days_at, no_score_at, period_at, read_query, read_words}
+unfoldable pub use Rattle.rank_query.specs.Reading.{box_at, days_at, no_score_at, per_at, period_at, read_query, read_words}
 unfoldable pub use Rattle.rank_query.specs.Reading.{region_at, score_at, season_at, sum_at}
 pub use Rattle.rank_query.specs.Spelling.{IsNumeralOf, IsSpelling, SpellsQuery, SpellsWord}
-pub use Rattle.rank_query.specs.WordValues.{both, day_of_2000, is_month, is_point, natural_behind, tenths_in}
+pub use Rattle.rank_query.specs.WordValues.{both, day_of_2000, group_of, is_month, is_point, natural_behind, tenths_in}
 pub use Rattle.rank_query.specs.WordValues.{two_days, two_numbers}
-unfoldable pub use Rattle.rank_query.specs.WordValues.{code, date, dates, degrees, element, heat, months, number}
+unfoldable pub use Rattle.rank_query.specs.WordValues.{code, date, dates, degrees, element, group, heat, months, number}
 pub use Rattle.rank_query.specs.Words.{Word, is_separator, numbered_words, words_of}
 unfoldable pub use Rattle.rank_query.specs.Words.{says}
 pub use Rattle.rank_query.specs.declared.fault.QueryFault.{QueryFault}
 pub use Rattle.rank_query.specs.declared.fault.QueryFault.TheVariants.{BadBox, BadDate, EmptyPeriod, OutOfLimits}
 pub use Rattle.rank_query.specs.declared.fault.QueryFault.TheVariants.{QueryEnds, QueryTooLong, UnexpectedWord}
+pub use Rattle.rank_query.specs.declared.per.Per.{Per}
+pub use Rattle.rank_query.specs.declared.per.Per.TheVariants.{Each, Station, Year}
 pub use Rattle.rank_query.specs.declared.region.Region.{Region}
 pub use Rattle.rank_query.specs.declared.region.Region.TheVariants.{Country, Everywhere, Inside, Only, State}
 pub use Rattle.rank_query.specs.declared.score.Score.{Score}

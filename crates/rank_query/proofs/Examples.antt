@@ -9,8 +9,8 @@ use Rattle.rank_query.specs.Asked.{top}
 use Rattle.rank_query.proofs.Cited.{EmptyPeriod, Asked, query_text, words_of, says, keyword, number, element, heat}
 use Rattle.rank_query.proofs.Cited.{months, dates, degrees, code, date, edge, place_behind, BeginQuery, EndsTooEarly}
 use Rattle.rank_query.proofs.Cited.{StandsIn}
-use Rattle.rank_query.proofs.Cited.{sum_at, no_score_at, score_at, box_at, region_at, season_at, days_at, period_at}
-use Rattle.rank_query.proofs.Cited.{read_words, read_query}
+use Rattle.rank_query.proofs.Cited.{sum_at, no_score_at, score_at, box_at, region_at, season_at, days_at, period_at, per_at}
+use Rattle.rank_query.proofs.Cited.{read_words, read_query, group, Station as ByStation, Year as ByYear}
 use Rattle.std.specs.Fmt.{digits}
 use Rattle.ghcn_files.specs.declared.station.Station.{Station}
 use Rattle.rank_query.specs.Admits.{region_holds, admits_day}
@@ -30,26 +30,26 @@ words = refl
 no_blanks : (read_query (codes "top" ++ 9 ∷ codes "1 wet") ≡ Err (UnexpectedWord 1))
     × (read_query (codes "top 1" ++ 9 ∷ codes " wet") ≡ Err (UnexpectedWord 2))
     × (read_query (codes "top 1 wet" ++ 13 ∷ []) ≡ Err (UnexpectedWord 3))
-unfolding read_query read_words keyword says number score_at no_score_at region_at season_at period_at
+unfolding read_query read_words keyword says number score_at no_score_at region_at season_at period_at per_at
 no_blanks = (refl, refl, refl)
 
 -- texts that are read
 read : (read_query (codes "top 1000 highest TMAX") ≡ Ok (top 1000 (Highest Tmax)))
     × (read_query (codes " top  0001 highest   PRCP ") ≡ Ok (top 1 (Highest Prcp)))
-unfolding read_query read_words keyword says number element score_at no_score_at region_at season_at period_at
+unfolding read_query read_words keyword says number element score_at no_score_at region_at season_at period_at per_at
 read = (refl, refl)
 
 -- k is from 1 to 1000, however many digits it has
 out_of_limits : (read_query (codes "top 1001 highest TMAX") ≡ Err (OutOfLimits 2))
     × (read_query (codes "top 0 highest TMAX") ≡ Err (OutOfLimits 2))
     × (read_query (codes "top 18446744073709551617 highest TMAX") ≡ Err (OutOfLimits 2))
-unfolding read_query read_words keyword says number element score_at no_score_at region_at season_at period_at
+unfolding read_query read_words keyword says number element score_at no_score_at region_at season_at period_at per_at
 out_of_limits = (refl, refl, refl)
 
 -- a word is needed and there is none
 ends : (read_query (codes "top 1") ≡ Err QueryEnds) × (read_query [] ≡ Err QueryEnds)
     × (read_query (codes "top 1 highest") ≡ Err QueryEnds)
-unfolding read_query read_words keyword says number element score_at no_score_at region_at season_at period_at
+unfolding read_query read_words keyword says number element score_at no_score_at region_at season_at period_at per_at
 ends = (refl, refl, refl)
 
 -- a word that can't be there
@@ -57,14 +57,14 @@ unexpected : (read_query (codes "Top 1 highest TMAX") ≡ Err (UnexpectedWord 1)
     × (read_query (codes "top +1 highest TMAX") ≡ Err (UnexpectedWord 2))
     × (read_query (codes "top 1 highest TAVG") ≡ Err (UnexpectedWord 4))
     × (read_query (codes "top 1 highest TMAX TMAX") ≡ Err (UnexpectedWord 5))
-unfolding read_query read_words keyword says number element score_at no_score_at region_at season_at period_at
+unfolding read_query read_words keyword says number element score_at no_score_at region_at season_at period_at per_at
 unexpected = (refl, refl, refl, refl)
 
 -- the other scores
 scores : (read_query (codes "top 2 lowest TMIN") ≡ Ok (top 2 (Lowest Tmin)))
     × (read_query (codes "top 1 sum 366 PRCP") ≡ Ok (top 1 (Sum 366 Prcp)))
     × (read_query (codes "top  007 wet") ≡ Ok (top 7 Wet)) × (read_query (codes "top 3 dry ") ≡ Ok (top 3 Dry))
-unfolding read_query read_words keyword says number element score_at sum_at no_score_at region_at season_at period_at
+unfolding read_query read_words keyword says number element score_at sum_at no_score_at region_at season_at period_at per_at
 scores = (refl, refl, refl, refl)
 
 -- lowest values are of temperatures, and sums of rain or snow over 1 to 366 days
@@ -75,7 +75,7 @@ scores_refused : (read_query (codes "top 1 lowest PRCP") ≡ Err (UnexpectedWord
     × (read_query (codes "top 1 sum PRCP") ≡ Err (UnexpectedWord 4))
     × (read_query (codes "top 1 hotter 30") ≡ Err (UnexpectedWord 3))
     × (read_query (codes "top 1 dry PRCP") ≡ Err (UnexpectedWord 4))
-unfolding read_query read_words keyword says number element score_at sum_at no_score_at region_at season_at period_at
+unfolding read_query read_words keyword says number element score_at sum_at no_score_at region_at season_at period_at per_at
 scores_refused = (refl, refl, refl, refl, refl, refl, refl)
 
 -- the first of several errors of a box is reported at its word: no latitude and no longitude,
@@ -85,7 +85,7 @@ boxes_refused : (read_query (codes "top 1 highest TMAX box -91 0 10 10") ≡ Err
     × (read_query (codes "top 1 highest TMAX box 0 181 0 x") ≡ Err (BadBox 7))
     × (read_query (codes "top 1 highest TMAX box 0 0 0 1.00000") ≡ Err (BadBox 9))
     × (read_query (codes "top 1 highest TMAX box 0 0 0") ≡ Err QueryEnds)
-unfolding read_query read_words keyword says number element score_at no_score_at region_at season_at period_at box_at
+unfolding read_query read_words keyword says number element score_at no_score_at region_at season_at period_at per_at box_at
     degrees
 boxes_refused = (refl, refl, refl, refl, refl)
 
@@ -98,7 +98,7 @@ boxes_read : (read_query (codes "top 3 highest TMAX box -10 170 10.0000 -170") �
     (asked_in (Inside (neg_ℤ (pos 100_000)) (pos 1_700_000) (pos 100_000) (neg_ℤ (pos 1_700_000))) 3 (Highest Tmax)))
     × (read_query (codes "top 3 highest TMAX box -90 -180.0 0090 180.0000") ≡ Ok
     (asked_in (Inside (neg_ℤ (pos 900_000)) (neg_ℤ (pos 1_800_000)) (pos 900_000) (pos 1_800_000)) 3 (Highest Tmax)))
-unfolding read_query read_words keyword says number element score_at no_score_at region_at season_at period_at box_at
+unfolding read_query read_words keyword says number element score_at no_score_at region_at season_at period_at per_at box_at
     degrees
 boxes_read = (refl, refl)
 
@@ -109,7 +109,7 @@ at_the_edges : (read_query (codes "top 1 wet box 90 180 90 -180") ≡ Ok
     (in_box_of (neg_ℤ (pos 900_000)) (neg_ℤ (pos 1_800_000)) (neg_ℤ (pos 900_000)) (pos 1_800_000)))
     × (read_query (codes "top 1 wet box 12 22 12.0 22.00") ≡ Ok
     (in_box_of (pos 120_000) (pos 220_000) (pos 120_000) (pos 220_000)))
-unfolding read_query read_words keyword says number score_at no_score_at region_at season_at period_at box_at degrees
+unfolding read_query read_words keyword says number score_at no_score_at region_at season_at period_at per_at box_at degrees
 at_the_edges = (refl, refl, refl)
 
 -- past them by the last decimal; a point without decimals, and decimals without a digit before them
@@ -122,13 +122,13 @@ past_the_world : (read_query (codes "top 1 wet box -90.0001 0 0 0") ≡ Err (Bad
     × (read_query (codes "top 1 wet box 0 0 0 180.0001") ≡ Err (BadBox 8))
     × (read_query (codes "top 1 wet box 1. 0 2 0") ≡ Err (BadBox 5))
     × (read_query (codes "top 1 wet box .5 0 2 0") ≡ Err (BadBox 5))
-unfolding read_query read_words keyword says number score_at no_score_at region_at season_at period_at box_at degrees
+unfolding read_query read_words keyword says number score_at no_score_at region_at season_at period_at per_at box_at degrees
 past_the_world = (refl, refl, refl, refl, refl, refl, refl, refl, refl)
 
 -- a northern edge one ten-thousandth south of the southern one, and a word that isn't a number, before what follows
 turned : (read_query (codes "top 1 wet box 1 0 0.9999 181") ≡ Err (BadBox 7))
     × (read_query (codes "top 1 wet box south 0 95 0") ≡ Err (BadBox 5))
-unfolding read_query read_words keyword says number score_at no_score_at region_at season_at period_at box_at degrees
+unfolding read_query read_words keyword says number score_at no_score_at region_at season_at period_at per_at box_at degrees
 turned = (refl, refl)
 
 -- codes of another length, and bytes that don't show in print
@@ -137,7 +137,7 @@ codes_refused : (read_query (codes "top 1 highest TMAX country ZZZ") ≡ Err (Un
     × (read_query (codes "top 1 highest TMAX station ZZA0000000") ≡ Err (UnexpectedWord 6))
     × (read_query (codes "top 1 highest TMAX country" ++ 32 ∷ 127 ∷ 33 ∷ []) ≡ Err (UnexpectedWord 6))
     × (read_query (codes "top 1 highest TMAX state NY country ZZ") ≡ Err (UnexpectedWord 7))
-unfolding read_query read_words keyword says number element score_at no_score_at region_at season_at period_at code
+unfolding read_query read_words keyword says number element score_at no_score_at region_at season_at period_at per_at code
 codes_refused = (refl, refl, refl, refl, refl)
 
 -- a letter of two bytes isn't a code, and neither is a control byte; the first and the last byte that show in print are
@@ -147,7 +147,7 @@ no_codes : (read_query (codes "top 1 wet country " ++ 195 ∷ 169 ∷ []) ≡ Er
     × (read_query (codes "top 1 wet station ZZA0000000" ++ 127 ∷ []) ≡ Err (UnexpectedWord 5))
     × (read_query (codes "top 1 wet state !~") ≡ Ok
     (asked_in (State (codes "!~")) 1 Wet))
-unfolding read_query read_words keyword says number element score_at no_score_at region_at season_at period_at code
+unfolding read_query read_words keyword says number element score_at no_score_at region_at season_at period_at per_at code
 no_codes = (refl, refl, refl, refl, refl)
 
 -- codes that are read
@@ -158,7 +158,7 @@ codes_read : (read_query (codes "top 1 highest TMAX state NY") ≡ Ok
     (asked_in (Country (codes "ZZ")) 1 (Highest Tmax)))
     × (read_query (codes "top 1 highest TMAX station ZZA00000003") ≡ Ok
     (asked_in (Only (record { 0 = codes "ZZA00000003" })) 1 (Highest Tmax)))
-unfolding read_query read_words keyword says number element score_at no_score_at region_at season_at period_at code
+unfolding read_query read_words keyword says number element score_at no_score_at region_at season_at period_at per_at code
 codes_read = (refl, refl, refl, refl)
 
 -- degrees, with a minus or without, and with one decimal at most
@@ -166,7 +166,7 @@ heats_read : (read_query (codes "top 2 hot 30") ≡ Ok (top 2 (Hot (pos 300))))
     × (read_query (codes "top 1 hot -0") ≡ Ok (top 1 (Hot (pos 0))))
     × (read_query (codes "top 1 hot -00.5") ≡ Ok (top 1 (Hot (neg_ℤ (pos 5)))))
     × (read_query (codes "top 1 hot 100.0") ≡ Ok (top 1 (Hot (pos 1_000))))
-unfolding read_query read_words keyword says number heat score_at no_score_at region_at season_at period_at
+unfolding read_query read_words keyword says number heat score_at no_score_at region_at season_at period_at per_at
 heats_read = (refl, refl, refl, refl)
 
 -- from -100 to 100 degrees, however many digits there are
@@ -176,7 +176,7 @@ heats_refused : (read_query (codes "top 1 hot 100.1") ≡ Err (OutOfLimits 4))
     × (read_query (codes "top 1 hot 30.05") ≡ Err (UnexpectedWord 4))
     × (read_query (codes "top 1 hot 30.") ≡ Err (UnexpectedWord 4))
     × (read_query (codes "top 1 hot +30") ≡ Err (UnexpectedWord 4)) × (read_query (codes "top 1 hot") ≡ Err QueryEnds)
-unfolding read_query read_words keyword says number heat score_at no_score_at region_at season_at period_at
+unfolding read_query read_words keyword says number heat score_at no_score_at region_at season_at period_at per_at
 heats_refused = (refl, refl, refl, refl, refl, refl, refl)
 
 -- degrees of cold days are written as those of hot ones, and "cold" needs them
@@ -186,7 +186,7 @@ colds_read : (read_query (codes "top 3 cold -10") ≡ Ok (top 3 (Cold (neg_ℤ (
     × (read_query (codes "top 1 cold 100.1") ≡ Err (OutOfLimits 4))
     × (read_query (codes "top 1 cold -10.05") ≡ Err (UnexpectedWord 4))
     × (read_query (codes "top 1 cold") ≡ Err QueryEnds) × (read_query (codes "top 1 colder 0") ≡ Err (UnexpectedWord 3))
-unfolding read_query read_words keyword says number heat score_at no_score_at region_at season_at period_at
+unfolding read_query read_words keyword says number heat score_at no_score_at region_at season_at period_at per_at
 colds_read = (refl, refl, refl, refl, refl, refl, refl)
 
 -- dry days of a season
@@ -204,7 +204,7 @@ dry_days first last = dry_in (Dates first last)
 -- seasons, of one year or over its turn
 seasons_read : (read_query (codes "top 1 dry months 6..6") ≡ Ok (dry_months 6 6))
     × (read_query (codes "top 1 dry months 012..02") ≡ Ok (dry_months 12 2))
-unfolding read_query read_words keyword says number months score_at no_score_at region_at season_at period_at
+unfolding read_query read_words keyword says number months score_at no_score_at region_at season_at period_at per_at
 seasons_read = (refl, refl)
 
 -- two numbers of 1 to 12 with two points between them, before a period
@@ -215,7 +215,7 @@ seasons_refused : (read_query (codes "top 1 dry months 0..3") ≡ Err (OutOfLimi
     × (read_query (codes "top 1 dry months 1...3") ≡ Err (UnexpectedWord 5))
     × (read_query (codes "top 1 dry months ..3") ≡ Err (UnexpectedWord 5))
     × (read_query (codes "top 1 dry months") ≡ Err QueryEnds)
-unfolding read_query read_words keyword says number months score_at no_score_at region_at season_at period_at
+unfolding read_query read_words keyword says number months score_at no_score_at region_at season_at period_at per_at
 seasons_refused = (refl, refl, refl, refl, refl, refl, refl)
 
 -- seasons of days: 1 July alone, 15 December to 15 January, 29 February alone, all days but that
@@ -223,7 +223,7 @@ days_read : (read_query (codes "top 1 dry days 07-01..07-01") ≡ Ok (dry_days (
     × (read_query (codes " top 1  dry days 12-15..01-15 ") ≡ Ok (dry_days (pos 11_306) (pos 10_971)))
     × (read_query (codes "top 1 dry days 02-29..02-29") ≡ Ok (dry_days (pos 11_016) (pos 11_016)))
     × (read_query (codes "top 1 dry days 03-01..02-28") ≡ Ok (dry_days (pos 11_017) (pos 11_015)))
-unfolding read_query read_words keyword says number dates score_at no_score_at region_at season_at period_at
+unfolding read_query read_words keyword says number dates score_at no_score_at region_at season_at period_at per_at
     days_from_civil day_count days_of_years days_of_months
 days_read = (refl, refl, refl, refl)
 
@@ -238,7 +238,7 @@ days_refused : (read_query (codes "top 1 dry days 02-30..03-01") ≡ Err (BadDat
     × (read_query (codes "top 1 dry days 12-15..01-15 months 1..2") ≡ Err (UnexpectedWord 6))
     × (read_query (codes "top 1 dry months 1..2 days 12-15..01-15") ≡ Err (UnexpectedWord 6))
     × (read_query (codes "top 1 dry from 2020-07-01 to 2020-07-01 days 12-15..01-15") ≡ Err (UnexpectedWord 8))
-unfolding read_query read_words keyword says number months dates score_at no_score_at region_at season_at period_at
+unfolding read_query read_words keyword says number months dates score_at no_score_at region_at season_at period_at per_at
     days_at date days_from_civil day_count days_of_years days_of_months
 days_refused = (refl, refl, refl, refl, refl, refl, refl, refl, refl, refl)
 
@@ -246,7 +246,7 @@ days_refused = (refl, refl, refl, refl, refl, refl, refl, refl, refl, refl)
 dates_refused : (read_query (codes "top 1 highest TMAX from 2019-02-29 to 2019-03-01") ≡ Err (BadDate 6))
     × (read_query (codes "top 1 highest TMAX from 2020-07-01 2020-07-02") ≡ Err (UnexpectedWord 7))
     × (read_query (codes "top 1 highest TMAX from 2020-07-01 to") ≡ Err QueryEnds)
-unfolding read_query read_words keyword says number element score_at no_score_at region_at season_at period_at days_at
+unfolding read_query read_words keyword says number element score_at no_score_at region_at season_at period_at per_at days_at
     date
 dates_refused = (refl, refl, refl)
 
@@ -258,7 +258,7 @@ dry_from first last = record (top 1 Dry) { period = Some (first, last) }
 periods : (read_query (codes "top 1 dry from 2020-07-01 to 2020-07-01") ≡ Ok (dry_from (pos 18444) (pos 18444)))
     × (read_query (codes "top 1 dry from 2020-07-02 to 2020-07-01 now") ≡ Err EmptyPeriod)
     × (read_query (codes "top 1 dry from 2020-07-01 to 2020-07-01 now") ≡ Err (UnexpectedWord 8))
-unfolding read_query read_words keyword says number score_at no_score_at region_at season_at period_at days_at date
+unfolding read_query read_words keyword says number score_at no_score_at region_at season_at period_at per_at days_at date
     days_from_civil day_count days_of_years days_of_months
 periods = (refl, refl, refl)
 
@@ -266,19 +266,45 @@ periods = (refl, refl, refl)
 in_order : (read_query (codes "top 1 dry months 6..8 country ZZ") ≡ Err (UnexpectedWord 6))
     × (read_query (codes "top 1 dry from 2020-07-01 to 2020-07-01 months 6..8") ≡ Err (UnexpectedWord 8))
     × (read_query (codes "top 1 country ZZ dry") ≡ Err (UnexpectedWord 3))
-unfolding read_query read_words keyword says number months code score_at no_score_at region_at season_at period_at
+unfolding read_query read_words keyword says number months code score_at no_score_at region_at season_at period_at per_at
     days_at date days_from_civil day_count days_of_years days_of_months
 in_order = (refl, refl, refl)
 
+-- the hottest days, and of which groups each the best alone
+hottest_of : (read_query (codes "top 2 highest TMAX per station") ≡ Ok (record (top 2 (Highest Tmax)) { per = ByStation }))
+    × (read_query (codes " top 02 highest TMAX  per year ") ≡ Ok (record (top 2 (Highest Tmax)) { per = ByYear }))
+unfolding read_query read_words keyword says number element score_at no_score_at region_at season_at period_at per_at
+    group
+hottest_of = (refl, refl)
+
+-- a group comes last, and is a station or a year
+groups_refused : (read_query (codes "top 1 highest TMAX per") ≡ Err QueryEnds)
+    × (read_query (codes "top 1 highest TMAX per day") ≡ Err (UnexpectedWord 6))
+    × (read_query (codes "top 1 highest TMAX per Year") ≡ Err (UnexpectedWord 6))
+    × (read_query (codes "top 1 highest TMAX per year months 1..2") ≡ Err (UnexpectedWord 7))
+    × (read_query (codes "top 1 highest TMAX per year per station") ≡ Err (UnexpectedWord 7))
+    × (read_query (codes "top 1 highest TMAX station") ≡ Err QueryEnds)
+    × (read_query (codes "top 1 highest TMAX year") ≡ Err (UnexpectedWord 5))
+unfolding read_query read_words keyword says number element code score_at no_score_at region_at season_at period_at
+    per_at group
+groups_refused = (refl, refl, refl, refl, refl, refl, refl)
+
+-- a region of one station needs its ID
+no_id : read_query (codes "top 1 dry station per station from 2020-07-01 to 2020-07-01 per year")
+    ≡ Err (UnexpectedWord 5)
+unfolding read_query read_words keyword says number element code score_at no_score_at region_at season_at period_at
+    per_at group
+no_id = refl
+
 -- a text of 257 blanks is too long, one of 256 has no word
 too_long : (read_query (replicate 257 32) ≡ Err QueryTooLong) × (read_query (replicate 256 32) ≡ Err QueryEnds)
-unfolding read_query read_words keyword says number element score_at no_score_at region_at season_at period_at
+unfolding read_query read_words keyword says number element score_at no_score_at region_at season_at period_at per_at
 too_long = (refl, refl)
 
 -- the length is that in bytes: 129 letters of two bytes are too long, 128 are one word
 two_byte_letters : (read_query (repeat 129 (195 ∷ 169 ∷ [])) ≡ Err QueryTooLong)
     × (read_query (repeat 128 (195 ∷ 169 ∷ [])) ≡ Err (UnexpectedWord 1))
-unfolding read_query read_words keyword says number score_at no_score_at region_at season_at period_at
+unfolding read_query read_words keyword says number score_at no_score_at region_at season_at period_at per_at
 two_byte_letters = (refl, refl)
 
 -- what the grammar has after words, of which the nearest comes first: K and the days of a sum, the four edges of a
@@ -407,6 +433,12 @@ region_texts : (query_text (asked_in (Country (codes "ZZ")) 1 Dry) ≡ codes "to
     × (query_text (asked_in (Only (record { 0 = codes "ZZA00000003" })) 1 Dry) ≡ codes "top 1 dry station ZZA00000003")
 unfolding digits
 region_texts = (refl, refl, refl)
+
+-- with a group
+group_texts : (query_text (record (top 1 Dry) { per = ByStation }) ≡ codes "top 1 dry per station")
+    × (query_text (record (top 1 Dry) { per = ByYear }) ≡ codes "top 1 dry per year")
+unfolding digits
+group_texts = (refl, refl)
 
 -- with a period
 period_text : query_text (dry_from (pos 18444) (pos 18444)) ≡ codes "top 1 dry from 2020-07-01 to 2020-07-01"

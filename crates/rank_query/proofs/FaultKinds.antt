@@ -14,6 +14,7 @@ use Rattle.rank_query.proofs.Cited.{is_code, Word, says, words_of, numbered_word
 use Rattle.rank_query.proofs.Cited.{made_into, by_word, number, element, heat, months, degrees, code, date, tenths_in}
 use Rattle.rank_query.proofs.Cited.{two_numbers, two_days, dates, no_score_at, sum_at}
 use Rattle.rank_query.proofs.Cited.{score_at, box_at, everywhere_at, region_at}
+use Rattle.rank_query.proofs.Cited.{Per, Each, group, group_of, each_at, per_at}
 use Rattle.rank_query.proofs.Cited.{months_at, dates_at, all_year_at, season_at, days_at, between_at, always_at}
 use Rattle.rank_query.proofs.Cited.{period_at}
 use Rattle.rank_query.proofs.Cited.{nothing_more, read_words, read_query, place_behind, edge, other, has_form}
@@ -28,11 +29,12 @@ use Rattle.rank_query.proofs.ScoreWords.{score_rows}
 use Rattle.rank_query.proofs.RegionWords.{region_rows}
 use Rattle.rank_query.proofs.SeasonWords.{season_rows}
 use Rattle.rank_query.proofs.PeriodWords.{period_rows}
+use Rattle.rank_query.proofs.GroupWords.{per_rows}
 use Rattle.rank_query.proofs.Stops.{bind_err}
 use Rattle.rank_query.proofs.FaultPlaces.{place_of}
 use Rattle.rank_query.proofs.Places.{IsSettled, IsNoKeyword, HaveOtherLengths, not_both, settled_word, edge_more}
 use Rattle.rank_query.proofs.Places.{edge_less, edge_place, number_no_keyword, heat_no_keyword, months_no_keyword}
-use Rattle.rank_query.proofs.Places.{degrees_no_keyword, code_no_keyword, date_no_keyword, dates_no_keyword}
+use Rattle.rank_query.proofs.Places.{degrees_no_keyword, code_no_keyword, group_no_keyword, date_no_keyword, dates_no_keyword}
 use Rattle.rank_query.proofs.Places.{element_settled}
 use Rattle.rank_query.proofs.Places.{degrees_decimal, day_date}
 
@@ -410,6 +412,26 @@ period_part : Part (Option (ℤ × ℤ)) period_at
 unfolding period_at
 period_part = rows_part period_rows always_at (days_row, tt) (always_part None)
 
+-- of a group
+group_kind : (past : List (List ℕ)) → IsSettled past → (w : Word) (f : QueryFault) → group w ≡ Err f
+    → IsKind f w.0 past w.1
+unfolding group
+group_kind past settled w f e = subst (λ f. IsKind f w.0 past w.1)
+    (or_fault_err (UnexpectedWord w.0) f (group_of w.1) e).1 (λ at. (at, inl settled))
+
+-- a group after "per"
+group_row : Row Per (codes "per") (one_word group)
+group_row = λ past ws g fault e next.
+    let per : List (List ℕ) = codes "per" ∷ past in
+    one_step group g per ws fault e (group_kind per refl)
+    (λ w x rest is e. further per w rest fault (next (w.1 ∷ per) x rest
+    (settled_word w.1 per (group_no_keyword w x is) refl refl) e))
+
+-- a group may be missing
+per_part : Part Per per_at
+unfolding per_at
+per_part = rows_part per_rows each_at (group_row, tt) (always_part Each)
+
 -- no word may follow
 nothing_kind : (past : List (List ℕ)) (ws : List Word) (q : Asked) (fault : QueryFault) → IsSettled past
     → nothing_more ws q ≡ Err fault → IsFaultBehind past ws fault
@@ -429,8 +451,9 @@ words_kind ws fault e =
     (λ past s rest settled e.
     region_part past rest _ fault settled e (λ past r rest settled e.
     season_part past rest _ fault settled e (λ past t rest settled e.
-    period_part past rest (λ p. nothing_more p.1 (asked k s r t p.0)) fault settled e (λ past p rest settled e.
-    nothing_kind past rest (asked k s r t p) fault settled e)))))))
+    period_part past rest _ fault settled e (λ past p rest settled e.
+    per_part past rest (λ g. nothing_more g.1 (asked k s r t p g.0)) fault settled e (λ past g rest settled e.
+    nothing_kind past rest (asked k s r t p g) fault settled e))))))))
 
 -- an error of a word, whose number is one more than there are words before it, is among those of the words
 is_among : (fault : QueryFault) (n : ℕ) (ws past : List (List ℕ)) (word : List ℕ) (behind : List (List ℕ))

@@ -12,6 +12,7 @@ pub mod Months
 pub mod Edges
 pub mod SeasonWords
 pub mod PeriodWords
+pub mod GroupWords
 pub mod Spellings
 pub mod PrintedWords
 pub mod CanonicalTexts
@@ -23,6 +24,7 @@ pub mod ScoreStops
 pub mod RegionStops
 pub mod SeasonStops
 pub mod PeriodStops
+pub mod GroupStops
 pub mod QueryStops
 pub mod FaultPlaces
 pub mod Places

@@ -2,7 +2,8 @@
 use Rattle.rank_query.proofs.Cited.{◌≡◌, ℕ, true, cond, ◌&&◌, List, [], ◌∷◌, ◌++◌, Option, Some, None, Ok, Err, codes}
 use Rattle.rank_query.proofs.Cited.{refl, sym, ap, subst, ℤ, int_le, and_parts, is_day, date_text, EmptyPeriod}
 use Rattle.rank_query.proofs.Cited.{is_period, AllYear, Word, says, Read, keyword, one_word, date, season_at, days_at}
-use Rattle.rank_query.proofs.Cited.{between_at, always_at, period_at, QueryWord, Exactly, period_words}
+use Rattle.rank_query.proofs.Cited.{between_at, always_at, period_at, QueryWord, Exactly, period_words, per_words}
+use Rattle.rank_query.proofs.Cited.{Per, Each, Station, Year}
 use Rattle.rank_query.proofs.ReadingSteps.{bind_ok, test_ok, keyword_took, unnumbered}
 use Rattle.rank_query.proofs.SpeltWords.{TakesBehind, Spell, took_same, word_took, made_took, rows_took, ReadsAs}
 use Rattle.rank_query.proofs.SpeltWords.{word_read, made_read, then_read, behind_read, always_read, PassesBy, passed_by}
@@ -59,15 +60,18 @@ days_read first last others is =
     (then_read _ (day_read last days.1)
     (always_read (λ ws. ap (λ b. cond b (Ok ((first, last), ws)) (Err EmptyPeriod)) order.1))))
 
--- what spells a period that can be asked for is read as it
-pub period_read : (p : Option (ℤ × ℤ)) → is_period p ≡ true → ReadsAs period_at p (period_words p ++ []) []
+-- what spells a period that can be asked for is read as it, if none begins what comes after all days
+pub period_read : (p : Option (ℤ × ℤ)) (others : List QueryWord) → is_period p ≡ true → PassesBy period_at None others
+    → ReadsAs period_at p (period_words p ++ others) others
 unfolding period_at says
-period_read None is = passed_by period_at None [] refl
-period_read (Some p) is = behind_read period_at between_at (codes "from") (λ at ws. refl)
-    (made_read Some (days_read p.0 p.1 [] is))
+period_read None others is passes = passed_by period_at None others passes
+period_read (Some p) others is passes = behind_read period_at between_at (codes "from") (λ at ws. refl)
+    (made_read Some (days_read p.0 p.1 others is))
 
--- a period begins no season
-pub no_season : (p : Option (ℤ × ℤ)) → PassesBy season_at AllYear (period_words p ++ [])
+-- neither a period nor a group begins a season
+pub no_season : (p : Option (ℤ × ℤ)) (g : Per) → PassesBy season_at AllYear (period_words p ++ (per_words g ++ []))
 unfolding season_at says
-no_season None = refl
-no_season (Some p) = (codes "from", refl, λ at ws. refl)
+no_season None Each = refl
+no_season None Station = (codes "per", refl, λ at ws. refl)
+no_season None Year = (codes "per", refl, λ at ws. refl)
+no_season (Some p) g = (codes "from", refl, λ at ws. refl)

@@ -7,7 +7,7 @@ use Rattle.rank_query.proofs.Cited.{BadDate, BadBox, is_code, Word, number, elem
 use Rattle.rank_query.proofs.Cited.{date}
 use Rattle.rank_query.proofs.Cited.{edge, other, is_number, is_decimal, is_date_word, is_behind_box}
 use Rattle.rank_query.proofs.Cited.{is_behind_first_day}
-use Rattle.rank_query.proofs.Cited.{place_behind}
+use Rattle.rank_query.proofs.Cited.{place_behind, Per, group}
 use Rattle.ghcn_files.proofs.Ordered.{each-weaker}
 use Rattle.rank_query.proofs.ReadingSteps.{or_fault_ok}
 use Rattle.rank_query.proofs.WordValues.{element_code}
@@ -104,6 +104,12 @@ date_no_keyword w day e = no_keyword date w day (BadDate w.0) e
 pub dates_no_keyword : (w : Word) (s : ℤ × ℤ) → dates w ≡ Ok s → IsNoKeyword w.1
 unfolding dates
 dates_no_keyword w s e = no_keyword dates w s (BadDate w.0) e
+    (refl, (refl, (refl, (refl, (refl, (refl, (refl, (refl, tt))))))))
+
+-- nor is a group
+pub group_no_keyword : (w : Word) (g : Per) → group w ≡ Ok g → IsNoKeyword w.1
+unfolding group
+group_no_keyword w g e = no_keyword group w g (UnexpectedWord w.0) e
     (refl, (refl, (refl, (refl, (refl, (refl, (refl, (refl, tt))))))))
 
 -- after the code of an element another word comes

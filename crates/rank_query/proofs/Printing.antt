@@ -4,7 +4,7 @@ use Rattle.rank_query.proofs.Cited.{Ok, Err, IsOk, MatchResult, IsUtf8, codes, d
 use Rattle.rank_query.proofs.Cited.{append_assoc, append-nil, arith, ℤ, join_with_byte, list_all, nat_tests}
 use Rattle.rank_query.proofs.Cited.{decimal_digit, AllPass-from_list_all, four_places, four_places_of, is_visible}
 use Rattle.rank_query.proofs.Cited.{Score, Region, Inside, Season, query_text, score_words, region_words, season_words}
-use Rattle.rank_query.proofs.Cited.{period_words, map, QueryWord, Exactly, Count, word_text}
+use Rattle.rank_query.proofs.Cited.{Per, per_words, period_words, map, QueryWord, Exactly, Count, word_text}
 use Rattle.std.proofs.lemmas.List.Concat.{flat_map-append}
 use Rattle.std.proofs.lemmas.Str.{IsUtf8-from_ascii}
 use Rattle.std.proofs.lemmas.Str.Ascii.{IsAscii-from_all}
@@ -31,16 +31,25 @@ spaced-four ws xs ys zs =
     ∙ ap (λ text. text ++ (spaced ys ++ spaced zs)) (flat_map-append (λ w. 32 ∷ word_text w) ws xs)
     ∙ append_assoc (spaced ws) (spaced xs) (spaced ys ++ spaced zs)
 
+-- and five
+spaced-five : (vs ws xs ys zs : List QueryWord) → spaced (vs ++ ws ++ xs ++ ys ++ zs) ≡ spaced vs ++
+    (spaced ws ++ (spaced xs ++ (spaced ys ++ spaced zs)))
+spaced-five vs ws xs ys zs =
+    spaced-four (vs ++ ws) xs ys zs
+    ∙ ap (λ text. text ++ (spaced xs ++ (spaced ys ++ spaced zs))) (flat_map-append (λ w. 32 ∷ word_text w) vs ws)
+    ∙ append_assoc (spaced vs) (spaced ws) (spaced xs ++ (spaced ys ++ spaced zs))
+
 -- the pieces that are printed are the canonical text
-pub printed-is : (k : ℕ) (s : Score) (r : Region) (t : Season) (p : Option (ℤ × ℤ))
+pub printed-is : (k : ℕ) (s : Score) (r : Region) (t : Season) (p : Option (ℤ × ℤ)) (g : Per)
     → (codes "top " ++ decimal k) ++
-    (spaced (score_words s) ++ (spaced (region_words r) ++ (spaced (season_words t) ++ spaced (period_words p))))
-    ≡ query_text (record { k = k; score = s; region = r; season = t; period = p })
-printed-is k s r t p =
+    (spaced (score_words s) ++ (spaced (region_words r) ++ (spaced (season_words t) ++ (spaced (period_words p)
+    ++ spaced (per_words g)))))
+    ≡ query_text (record { k = k; score = s; region = r; season = t; period = p; per = g })
+printed-is k s r t p g =
     ap (λ text. (codes "top " ++ decimal k) ++ text)
-    (sym (spaced-four (score_words s) (region_words r) (season_words t) (period_words p)))
+    (sym (spaced-five (score_words s) (region_words r) (season_words t) (period_words p) (per_words g)))
     ∙ sym (join-spaced (Exactly (codes "top"))
-    (Count k ∷ score_words s ++ region_words r ++ season_words t ++ period_words p))
+    (Count k ∷ score_words s ++ region_words r ++ season_words t ++ period_words p ++ per_words g))
 
 -- four digits, one after another
 four_digits : (a b c d : ℕ) → a < 10 → b < 10 → c < 10 → d < 10

@@ -3,7 +3,8 @@ use Rattle.rank_query.proofs.Cited.{◌≡◌, ℕ, true, inl, inr, List, [], �
 use Rattle.rank_query.proofs.Cited.{sym, ap, ◌∙◌, AllByRecursion, Score, Region, Everywhere, Season, AllYear}
 use Rattle.rank_query.proofs.Cited.{QueryFault}
 use Rattle.rank_query.proofs.Cited.{UnexpectedWord, Asked, Word, says, ◌>>=◌, Read, one_word, by_word, number}
-use Rattle.rank_query.proofs.Cited.{score_at, region_at, season_at, period_at, nothing_more, read_words}
+use Rattle.rank_query.proofs.Cited.{score_at, region_at, season_at, period_at, per_at, nothing_more, read_words}
+use Rattle.rank_query.proofs.Cited.{ℤ, Option, Each}
 use Rattle.rank_query.proofs.Spellings.{asked}
 use Rattle.rank_query.proofs.Stops.{Reading, then, GoesOn, Stops, StopsFirst, ReadsPart, stops_behind, stops_word}
 use Rattle.rank_query.proofs.Stops.{first_then}
@@ -16,10 +17,16 @@ use Rattle.rank_query.proofs.SeasonStops.{GoodSeason, season_parts}
 use Rattle.rank_query.proofs.SeasonWords.{season_rows}
 use Rattle.rank_query.proofs.PeriodStops.{GoodPeriod, period_parts}
 use Rattle.rank_query.proofs.PeriodWords.{period_rows}
+use Rattle.rank_query.proofs.GroupStops.{per_parts}
+use Rattle.rank_query.proofs.GroupWords.{per_rows}
 
--- what is read after a season
+-- what is read after a period
+abbrev from_group : ℕ → Score → Region → Season → Option (ℤ × ℤ) → Reading Asked
+from_group k s r t p ws = per_at ws >>= λ g. nothing_more g.1 (asked k s r t p g.0)
+
+-- after a season
 abbrev from_period : ℕ → Score → Region → Season → Reading Asked
-from_period k s r t ws = period_at ws >>= λ p. nothing_more p.1 (asked k s r t p.0)
+from_period k s r t ws = period_at ws >>= λ p. from_group k s r t p.0 p.1
 
 -- after a region
 abbrev from_season : ℕ → Score → Region → Reading Asked
@@ -69,18 +76,32 @@ first_from next q reads ahead = record { on = on; stops = stops } where
   stops [] fault e = let ok : ◌≡◌ {A = Result Asked QueryFault} (Ok q) (Err fault) = sym reads ∙ e in absurd cc
   stops (w ∷ ws) fault e = ahead next w ws fault (λ rest. refl) on e
 
+-- from a group on
+group_ahead : (k : ℕ) (s : Score) (r : Region) (t : Season) (p : Option (ℤ × ℤ))
+    → StopsAhead (from_group k s r t p)
+unfolding per_at
+group_ahead k s r t p =
+    optional_ahead Any per_rows Each (λ g ws. nothing_more ws (asked k s r t p g)) per_parts
+    (λ g any. first_from (λ ws. nothing_more ws (asked k s r t p g)) (asked k s r t p g) refl
+    (nothing_ahead (asked k s r t p g))) (nothing_ahead (asked k s r t p Each))
+
+-- a group may be missing
+group_first : (k : ℕ) (s : Score) (r : Region) (t : Season) (p : Option (ℤ × ℤ))
+    → StopsFirst Asked Any (from_group k s r t p)
+unfolding per_at
+group_first k s r t p = first_from (from_group k s r t p) (asked k s r t p Each) refl (group_ahead k s r t p)
+
 -- from a period on
 period_ahead : (k : ℕ) (s : Score) (r : Region) (t : Season) → StopsAhead (from_period k s r t)
 unfolding period_at
 period_ahead k s r t =
-    optional_ahead GoodPeriod period_rows None (λ p ws. nothing_more ws (asked k s r t p)) period_parts
-    (λ p period. first_from (λ ws. nothing_more ws (asked k s r t p)) (asked k s r t p) refl
-    (nothing_ahead (asked k s r t p))) (nothing_ahead (asked k s r t None))
+    optional_ahead GoodPeriod period_rows None (from_group k s r t) period_parts
+    (λ p period. group_first k s r t p) (group_ahead k s r t None)
 
--- a period may be missing
+-- a period and a group may both be missing
 period_first : (k : ℕ) (s : Score) (r : Region) (t : Season) → StopsFirst Asked Any (from_period k s r t)
-unfolding period_at
-period_first k s r t = first_from (from_period k s r t) (asked k s r t None) refl (period_ahead k s r t)
+unfolding period_at per_at
+period_first k s r t = first_from (from_period k s r t) (asked k s r t None Each) refl (period_ahead k s r t)
 
 -- from a season on
 season_ahead : (k : ℕ) (s : Score) (r : Region) → StopsAhead (from_season k s r)
@@ -89,10 +110,10 @@ season_ahead k s r =
     optional_ahead GoodSeason season_rows AllYear (from_period k s r) season_parts (λ t season. period_first k s r t)
     (period_ahead k s r AllYear)
 
--- a season and a period may both be missing
+-- a season, a period and a group may all be missing
 season_first : (k : ℕ) (s : Score) (r : Region) → StopsFirst Asked Any (from_season k s r)
-unfolding season_at period_at
-season_first k s r = first_from (from_season k s r) (asked k s r AllYear None) refl (season_ahead k s r)
+unfolding season_at period_at per_at
+season_first k s r = first_from (from_season k s r) (asked k s r AllYear None Each) refl (season_ahead k s r)
 
 -- from a region on
 region_ahead : (k : ℕ) (s : Score) → StopsAhead (from_region k s)
@@ -101,10 +122,10 @@ region_ahead k s =
     optional_ahead GoodRegion region_rows Everywhere (from_season k s) region_parts (λ r region. season_first k s r)
     (season_ahead k s Everywhere)
 
--- a region, a season and a period may all be missing
+-- a region and all that comes after it may be missing
 region_first : (k : ℕ) (s : Score) → StopsFirst Asked Any (from_region k s)
-unfolding region_at season_at period_at
-region_first k s = first_from (from_region k s) (asked k s Everywhere AllYear None) refl (region_ahead k s)
+unfolding region_at season_at period_at per_at
+region_first k s = first_from (from_region k s) (asked k s Everywhere AllYear None Each) refl (region_ahead k s)
 
 -- 1 is a number of rows
 pub one_row : number 1 1000 (0, codes "1") ≡ Ok 1

@@ -2,7 +2,7 @@
 use Rattle.rank_query.proofs.Cited.{ints, arith, ◌≡◌, ℕ, List, [], ◌∷◌, None, Result, Ok, Err, codes, inl, inr}
 use Rattle.rank_query.proofs.Cited.{refl, sym, subst, length, IfOk, nat_lt, AllByRecursion, Everywhere, AllYear}
 use Rattle.rank_query.proofs.Cited.{QueryFault, QueryTooLong, Asked, IsAsked, Word, numbered_words, Read, keyword}
-use Rattle.rank_query.proofs.Cited.{one_word, by_word, number, score_at, region_at, season_at, period_at}
+use Rattle.rank_query.proofs.Cited.{one_word, by_word, number, score_at, region_at, season_at, period_at, per_at}
 use Rattle.rank_query.proofs.Cited.{read_words, read_query, IsSpelling}
 use Rattle.rank_query.proofs.Spellings.{asked, nothing_left, read_spells}
 use Rattle.rank_query.proofs.ReadingSteps.{bind_ok, else_ok, by_word_took}
@@ -39,12 +39,13 @@ words_asked ws q e =
     let r = bind_ok (region_at s.0.1) _ q s.2 in
     let t = bind_ok (season_at r.0.1) _ q r.2 in
     let p = bind_ok (period_at t.0.1) _ q t.2 in
+    let g = bind_ok (per_at p.0.1) _ q p.2 in
     let rows = ((part_word (reads_number 1 1000 one_row)).takes top.0 k.0 k.1).good in
     let score = (score_part.takes k.0.1 s.0 s.1).good in
     let region = by_word_good GoodRegion region_rows Everywhere s.0.1 r.0.1 r.0.0 region_parts refl r.1 in
     let season = by_word_good GoodSeason season_rows AllYear r.0.1 t.0.1 t.0.0 season_parts refl t.1 in
     let period = by_word_good GoodPeriod period_rows None t.0.1 p.0.1 p.0.0 period_parts refl p.1 in
-    subst IsAsked (nothing_left p.0.1 (asked k.0.0 s.0.0 r.0.0 t.0.0 p.0.0) q p.2).1
+    subst IsAsked (nothing_left g.0.1 (asked k.0.0 s.0.0 r.0.0 t.0.0 p.0.0 g.0.0) q g.2).1
     (record { k = rows; score = score; region = region; season = season; period = period })
 
 -- what is read as a query can be asked

@@ -2,7 +2,7 @@
 use Rattle.rank_query.proofs.Cited.{◌≡◌, ℕ, true, List, [], ◌∷◌, ◌++◌, Option, Some, None, Ok, codes, refl, sym, subst}
 use Rattle.rank_query.proofs.Cited.{is_season, Word, says, Read, Everywhere, Season, AllYear, Months, Dates, one_word}
 use Rattle.rank_query.proofs.Cited.{months, dates, region_at, months_at, dates_at, all_year_at, season_at, dates_text}
-use Rattle.rank_query.proofs.Cited.{QueryWord, Exactly, TwoMonths, season_words, period_words, ℤ}
+use Rattle.rank_query.proofs.Cited.{QueryWord, Exactly, TwoMonths, season_words, period_words, per_words, Per, Each, Station, Year, ℤ}
 use Rattle.rank_query.proofs.ReadingSteps.{unnumbered}
 use Rattle.rank_query.proofs.SpeltWords.{TakesBehind, took_same, word_took, made_took, rows_took, ReadsAs, word_read}
 use Rattle.rank_query.proofs.SpeltWords.{made_read, behind_read, PassesBy, passed_by}
@@ -38,11 +38,13 @@ season_read (Dates a b) others is passes = behind_read season_at dates_at (codes
     (made_read (λ s. Dates s.0 s.1) (word_read dates (Exactly (dates_text a b)) (a, b)
     (λ at word same. subst (λ (v : List ℕ). dates (at, v) ≡ Ok (a, b)) (sym same) (written_dates at a b is))))
 
--- neither a season nor a period begins a region
-pub no_region : (s : Season) (p : Option (ℤ × ℤ)) → PassesBy region_at Everywhere
-    (season_words s ++ (period_words p ++ []))
+-- neither a season nor a period nor a group begins a region
+pub no_region : (s : Season) (p : Option (ℤ × ℤ)) (g : Per) → PassesBy region_at Everywhere
+    (season_words s ++ (period_words p ++ (per_words g ++ [])))
 unfolding region_at says
-no_region AllYear None = refl
-no_region AllYear (Some p) = (codes "from", refl, λ at ws. refl)
-no_region (Months a b) p = (codes "months", refl, λ at ws. refl)
-no_region (Dates a b) p = (codes "days", refl, λ at ws. refl)
+no_region AllYear None Each = refl
+no_region AllYear None Station = (codes "per", refl, λ at ws. refl)
+no_region AllYear None Year = (codes "per", refl, λ at ws. refl)
+no_region AllYear (Some p) g = (codes "from", refl, λ at ws. refl)
+no_region (Months a b) p g = (codes "months", refl, λ at ws. refl)
+no_region (Dates a b) p g = (codes "days", refl, λ at ws. refl)

@@ -10,21 +10,24 @@ use Rattle.rank_query.specs.declared.score.Score.{Score}
 use Rattle.rank_query.specs.declared.score.Score.TheVariants.{Highest, Lowest, Sum, Dry, Wet, Hot, Cold}
 use Rattle.rank_query.specs.declared.region.Region.{Region}
 use Rattle.rank_query.specs.declared.region.Region.TheVariants.{Everywhere, Inside, Country, State, Only}
+use Rattle.rank_query.specs.declared.per.Per.{Per}
+use Rattle.rank_query.specs.declared.per.Per.TheVariants.{Each}
 use Rattle.rank_query.specs.declared.season.Season.{Season}
 use Rattle.rank_query.specs.declared.season.Season.TheVariants.{AllYear, Months, Dates}
 
 -- the k best of a score, of the stations of a region, in a season of each year, within a period of a first and a last
--- day; all days if there is no period
+-- day; all days if there is no period; of each group the best alone, or each candidate
 pub record Asked : Type 0 where
   pub k : ℕ
   pub score : Score
   pub region : Region
   pub season : Season
   pub period : Option (ℤ × ℤ)
+  pub per : Per
 
 -- the first k by a score, everywhere and always
 abbrev pub top : ℕ → Score → Asked
-top k score = record { k = k; score = score; region = Everywhere; season = AllYear; period = None }
+top k score = record { k = k; score = score; region = Everywhere; season = AllYear; period = None; per = Each }
 
 -- the element that a score is about
 abbrev pub score_element : Score → Element

@@ -9,6 +9,8 @@ use Rattle.rank_query.specs.declared.score.Score.{Score}
 use Rattle.rank_query.specs.declared.score.Score.TheVariants.{Highest, Lowest, Sum, Dry, Wet, Hot, Cold}
 use Rattle.rank_query.specs.declared.region.Region.{Region}
 use Rattle.rank_query.specs.declared.region.Region.TheVariants.{Everywhere, Inside, Country, State, Only}
+use Rattle.rank_query.specs.declared.per.Per.{Per}
+use Rattle.rank_query.specs.declared.per.Per.TheVariants.{Each, Station, Year}
 use Rattle.rank_query.specs.declared.season.Season.{Season}
 use Rattle.rank_query.specs.declared.season.Season.TheVariants.{AllYear, Months, Dates}
 use Rattle.rank_query.specs.Asked.{Asked}
@@ -57,11 +59,17 @@ period_words None = []
 period_words (Some p) =
     Exactly (codes "from") ∷ Exactly (date_text p.0) ∷ Exactly (codes "to") ∷ Exactly (date_text p.1) ∷ []
 
+-- the words of a group; none if each candidate is ranked
+abbrev pub per_words : Per → List QueryWord
+per_words Each = []
+per_words Station = Exactly (codes "per") ∷ Exactly (codes "station") ∷ []
+per_words Year = Exactly (codes "per") ∷ Exactly (codes "year") ∷ []
+
 -- the words of a query
 abbrev pub query_words : Asked → List QueryWord
 query_words q =
     Exactly (codes "top") ∷ Count q.k ∷ score_words q.score ++ region_words q.region ++ season_words q.season
-    ++ period_words q.period
+    ++ period_words q.period ++ per_words q.per
 
 -- the canonical text of a word: numbers without leading zeros, all decimals, and two points between months
 abbrev pub word_text : QueryWord → List ℕ

@@ -9,10 +9,12 @@ use Rattle.rank_query.specs.declared.season.Season.{Season}
 use Rattle.rank_query.specs.declared.season.Season.TheVariants.{AllYear, Months, Dates}
 use Rattle.rank_query.specs.declared.fault.QueryFault.{QueryFault}
 use Rattle.rank_query.specs.declared.fault.QueryFault.TheVariants.{QueryTooLong, UnexpectedWord, EmptyPeriod}
+use Rattle.rank_query.specs.declared.per.Per.{Per}
+use Rattle.rank_query.specs.declared.per.Per.TheVariants.{Each}
 use Rattle.rank_query.specs.Asked.{Asked, is_temperature, is_fall}
 use Rattle.rank_query.specs.Words.{Word, numbered_words}
 use Rattle.rank_query.specs.Readers.{◌>>=◌, Read, next_word, keyword, one_word, made_into, by_word}
-use Rattle.rank_query.specs.WordValues.{number, element, heat, months, dates, degrees, code, date}
+use Rattle.rank_query.specs.WordValues.{number, element, heat, months, dates, degrees, code, date, group}
 
 -- no score: another word is there, or none
 unfoldable pub no_score_at : List Word → Read Score
@@ -132,6 +134,14 @@ always_at ws = Ok (None, ws)
 unfoldable pub period_at : List Word → Read (Option (ℤ × ℤ))
 period_at ws = by_word ((codes "from", between_at) ∷ []) always_at ws
 
+-- each candidate, without a word
+abbrev pub each_at : List Word → Read Per
+each_at ws = Ok (Each, ws)
+
+-- a group, after its first word, and without one each candidate
+unfoldable pub per_at : List Word → Read Per
+per_at ws = by_word ((codes "per", one_word group) ∷ []) each_at ws
+
 -- the query, if no word is left
 abbrev pub nothing_more : List Word → Asked → Result Asked QueryFault
 nothing_more [] q = Ok q
@@ -146,8 +156,15 @@ read_words ws = do
   region ← region_at score.1
   season ← season_at region.1
   period ← period_at season.1
-  nothing_more period.1
-      (record { k = k.0; score = score.0; region = region.0; season = season.0; period = period.0 })
+  per ← per_at period.1
+  nothing_more per.1 (record {
+    k = k.0;
+    score = score.0;
+    region = region.0;
+    season = season.0;
+    period = period.0;
+    per = per.0;
+  })
 
 -- the query of a text of at most 256 bytes
 unfoldable pub read_query : List ℕ → Result Asked QueryFault

@@ -11,6 +11,8 @@ use Rattle.ghcn_files.specs.Elements.{element_of}
 use Rattle.ghcn_files.specs.StationLines.{is_number_within, number_of}
 use Rattle.rank_query.specs.declared.fault.QueryFault.{QueryFault}
 use Rattle.rank_query.specs.declared.fault.QueryFault.TheVariants.{UnexpectedWord, OutOfLimits, BadDate, BadBox}
+use Rattle.rank_query.specs.declared.per.Per.{Per}
+use Rattle.rank_query.specs.declared.per.Per.TheVariants.{Station, Year}
 use Rattle.rank_query.specs.Asked.{is_code, is_heat}
 use Rattle.rank_query.specs.Words.{Word}
 use Rattle.rank_query.specs.Readers.{◌>>=◌, or_fault}
@@ -92,3 +94,14 @@ two_days word =
 -- the first and the last day of a season, as days of the year 2000
 unfoldable pub dates : Word → Result (ℤ × ℤ) QueryFault
 dates w = or_fault (BadDate w.0) (two_days w.1)
+
+-- the group that a word names: a station, or a year of one
+abbrev pub group_of : List ℕ → Option Per
+group_of word =
+    if same_bytes word (codes "station") then Some Station
+    else if same_bytes word (codes "year") then Some Year
+    else None
+
+-- what the best alone is ranked of
+unfoldable pub group : Word → Result Per QueryFault
+group w = or_fault (UnexpectedWord w.0) (group_of w.1)

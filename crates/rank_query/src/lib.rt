@@ -7,6 +7,7 @@
 mod fault;
 mod laws;
 mod parse;
+mod per;
 mod query;
 mod region;
 mod score;
@@ -17,6 +18,7 @@ mod words;
 
 pub use fault::QueryFault;
 pub use laws::queries_have_texts;
+pub use per::Per;
 pub use query::Query;
 pub use region::Region;
 pub use score::Score;

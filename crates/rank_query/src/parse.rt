@@ -11,10 +11,10 @@ ghost use Rattle.rank_query.specs.Reading as reading;
 ghost use Rattle.rank_query.specs.Words.{words_of};
 
 use crate::values::{
-    code, date, dates, degrees, element, fall, heat, keyword, months, needed, number, temperature,
+    code, date, dates, degrees, element, fall, group, heat, keyword, months, needed, number, temperature,
 };
 use crate::words::Words;
-use crate::{Query, QueryFault, Region, Score, Season};
+use crate::{Per, Query, QueryFault, Region, Score, Season};
 use ghcn_fields::Day;
 use ghcn_files::StationId;
 
@@ -74,6 +74,7 @@ fn query_of(words: &mut Words) -> Result<Query, QueryFault>
     let region = region(words)?;
     let season = season(words)?;
     let period = period(words)?;
+    let per = per(words)?;
     match words.next() {
         Some((at, _)) => Err(QueryFault::UnexpectedWord(at)),
         None => Ok(Query {
@@ -82,6 +83,7 @@ fn query_of(words: &mut Words) -> Result<Query, QueryFault>
             region,
             season,
             period,
+            per,
         }),
     }
 }
@@ -204,4 +206,14 @@ fn days(words: &mut Words) -> Result<(Day, Day), QueryFault>
         return Err(QueryFault::EmptyPeriod);
     }
     Ok((first, last))
+}
+
+#[tactic(auto, unfolding(crate::specs::Reading::per_at))]
+fn per(words: &mut Words) -> Result<Per, QueryFault>
+    ensures { Gives (λ g. (g, words.new)) result (reading.per_at words.old) }
+{
+    if words.take_if(b"per") {
+        return group(words);
+    }
+    Ok(Per::Each)
 }

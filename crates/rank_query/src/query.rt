@@ -5,12 +5,12 @@ ghost use Rattle.ghcn_fields.specs.Days.{is_day};
 ghost use Rattle.rank_query.specs.Admits as admits;
 ghost use Rattle.rank_query.specs.Asked.{score_element, season_months, season_days, IsAsked};
 
-use crate::{Region, Score, Season};
+use crate::{Per, Region, Score, Season};
 use ghcn_fields::Day;
 use ghcn_files::{Element, Station};
 use std::marker::Model;
 
-/// What is asked: the k best of a score, in a region, a season and a period.
+/// What is asked: the k best of a score, in a region, a season and a period, or the best of each group alone.
 #[derive(Clone, Copy, Debug)]
 pub struct Query {
     pub(crate) k: u64,
@@ -18,6 +18,7 @@ pub struct Query {
     pub(crate) region: Region,
     pub(crate) season: Season,
     pub(crate) period: Option<(Day, Day)>,
+    pub(crate) per: Per,
 }
 
 impl Model for Query {
@@ -31,6 +32,7 @@ impl Model for Query {
       region = q.region;
       season = q.season;
       period = q.period;
+      per = q.per;
     } };
 
     ghost invariant = { λ q. IsAsked (record {
@@ -39,6 +41,7 @@ impl Model for Query {
       region = q.region;
       season = q.season;
       period = q.period;
+      per = q.per;
     }) };
 
     ghost inverse = { λ q. record {
@@ -47,6 +50,7 @@ impl Model for Query {
       region = q.region;
       season = q.season;
       period = q.period;
+      per = q.per;
     } };
 }
 
@@ -104,6 +108,13 @@ impl Query {
         ensures { result ≡ self.now.period }
     {
         self.period
+    }
+
+    /// What the best alone is ranked of.
+    pub fn per(&self) -> Per
+        ensures { result ≡ self.now.per }
+    {
+        self.per
     }
 
     /// The element that the score is about.

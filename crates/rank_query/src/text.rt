@@ -7,9 +7,9 @@ ghost use Rattle.ghcn_fields.specs.NumberTexts.{four_places, four_places_of, ten
 ghost use Rattle.ghcn_files.specs.Ids.{is_visible};
 ghost use Rattle.rank_query.specs.Asked.{is_region};
 ghost use Rattle.rank_query.specs.Printed.{spaced};
-ghost use Rattle.rank_query.specs.QueryTexts.{query_text, score_words, region_words, season_words, period_words};
+ghost use Rattle.rank_query.specs.QueryTexts.{query_text, score_words, region_words, season_words, period_words, per_words};
 
-use crate::{Query, Region, Score, Season};
+use crate::{Per, Query, Region, Score, Season};
 use ghcn_fields::{Day, Memory, write_date};
 use std::alloc::Global;
 use std::{fmt, str};
@@ -33,7 +33,8 @@ impl fmt::Display for Query {
         write_score(f, self.score)?;
         write_region(f, &self.region)?;
         write_season(f, self.season)?;
-        write_period(f, self.period)
+        write_period(f, self.period)?;
+        write_per(f, self.per)
     }
 }
 
@@ -158,6 +159,16 @@ fn write_period<W: fmt::Write>(f: &mut fmt::Formatter<W>, period: Option<(Day, D
     write_visible(f, &write_date(first))?;
     f.write_str(" to ")?;
     write_visible(f, &write_date(last))
+}
+
+fn write_per<W: fmt::Write>(f: &mut fmt::Formatter<W>, per: Per) -> fmt::Result
+    ensures { WritesOnOk W.write_str_gives f.old result (spaced (per_words per)) f.new }
+{
+    match per {
+        Per::Each => Ok(()),
+        Per::Station => f.write_str(" per station"),
+        Per::Year => f.write_str(" per year"),
+    }
 }
 
 fn write_visible<W: fmt::Write>(f: &mut fmt::Formatter<W>, bytes: &[u8]) -> fmt::Result

@@ -10,8 +10,8 @@ ghost use Rattle.rank_query.specs.Readers.{Gives, one_word};
 ghost use Rattle.rank_query.specs.WordValues as values;
 ghost use Rattle.rank_query.specs.WordValues.{is_month};
 
-use crate::QueryFault;
 use crate::words::{Words, says};
+use crate::{Per, QueryFault};
 use ghcn_fields::{Day, Field, read_date, scaled_field};
 use ghcn_files::{Element, are_visible};
 use memchr::memchr;
@@ -278,4 +278,17 @@ pub(crate) fn date(words: &mut Words) -> Result<Day, QueryFault>
 {
     let (at, word) = needed(words)?;
     read_date(word).ok_or(QueryFault::BadDate(at))
+}
+
+/// What the next word says that the best alone is ranked of.
+#[tactic(auto, unfolding(crate::specs::WordValues::group))]
+pub(crate) fn group(words: &mut Words) -> Result<Per, QueryFault>
+    ensures { Gives (λ g. (g, words.new)) result (one_word values.group words.old) }
+{
+    let (at, word) = needed(words)?;
+    match word {
+        b"station" => Ok(Per::Station),
+        b"year" => Ok(Per::Year),
+        _ => Err(QueryFault::UnexpectedWord(at)),
+    }
 }

@@ -16,10 +16,11 @@ use Rattle.ghcn_series.proofs.ListFacts.{all-filter}
 use Rattle.rank_query.specs.declared.score.Score.{Score}
 use Rattle.rank_query.specs.declared.score.Score.TheVariants.{Highest, Lowest, Sum, Dry, Wet, Hot, Cold}
 use Rattle.rank_query.specs.Asked.{Asked, IsAsked, is_score}
+use Rattle.rank_query.specs.Admits.{admits_day}
 use Rattle.rank_scores.specs.Runs.{run_from, run_len}
 use Rattle.rank_scores.specs.Candidates.{Shape, Windows, Spells, shape, plus, window_total, test_of}
 use Rattle.rank_scores.specs.declared.spell.Spell.TheVariants as spells
-use Rattle.rank_scores.specs.Candidates.{begun, candidate, candidates_among, candidates}
+use Rattle.rank_scores.specs.Candidates.{begun, candidate, contenders_among, contenders, candidates, admitted}
 use Rattle.rank_sched.proofs.Lists.{both_true, each-weaker}
 
 -- ---- values
@@ -121,13 +122,13 @@ module _ (days : List DayValue) (valued : AllByRecursion IsValued days) where
 
   -- those of all spells
   spells_right : (id : StationId) (test : ℤ → Bool)
-      → AllByRecursion (λ c. IsScore c.score) (candidates_among id (Spells test) days)
+      → AllByRecursion (λ c. IsScore c.score) (contenders_among id (Spells test) days)
   spells_right id test = each_begun id (Spells test) days days
       (each-weaker IsValued (BeginsRight (Spells test) days) days (spell_right test) valued)
 
   -- the candidates among these days, whatever the query asks for
   by_score : (id : StationId) (sc : Score) → is_score sc ≡ true
-      → AllByRecursion (λ c. IsScore c.score) (candidates_among id (shape sc) days)
+      → AllByRecursion (λ c. IsScore c.score) (contenders_among id (shape sc) days)
   by_score id (Highest e) right = grind (arith, each_begun, each-weaker)
   by_score id (Lowest e) right = grind (arith, each_begun, each-weaker)
   by_score id (Sum n e) right =
@@ -143,4 +144,7 @@ module _ (days : List DayValue) (valued : AllByRecursion IsValued days) where
 -- the score of each candidate of a series can be a floor
 pub candidates_ranged : (q : Asked) (s : Usable) → IsAsked q → IsSeries s
     → AllByRecursion (λ c. IsScore c.score) (candidates q s)
-candidates_ranged q s asked right = grind (arith, ints, by_score, all-filter, all_valued s.element s.days right.values)
+candidates_ranged q s asked right =
+    let valued : AllByRecursion IsValued (admitted q s) = all-filter IsValued (λ x. admits_day q x.0) s.days
+    (all_valued s.element s.days right.values) in
+    all-filter (λ c. IsScore c.score) _ (contenders q s) (by_score (admitted q s) valued s.id q.score asked.score)

@@ -20,7 +20,8 @@ use Rattle.ghcn_series.proofs.ListFacts.{all-filter}
 use Rattle.rank_query.specs.Asked.{Asked, score_element}
 use Rattle.rank_query.specs.Admits.{admits_station}
 use Rattle.rank_scores.specs.declared.candidate.Candidate.{Candidate}
-use Rattle.rank_scores.specs.Candidates.{shape, admitted, candidates, candidates_among}
+use Rattle.rank_scores.specs.Candidates.{shape, admitted, candidates, contenders_among}
+use Rattle.rank_scores.specs.Groups.{leaders}
 use Rattle.rank_scores.specs.Stretches.{admitted_among}
 use Rattle.rank_scores.specs.Morsels.{admitted_series, all_candidates, has_admitted, id_comes_first, morsels}
 use Rattle.rank_scores.specs.Cut.{IsSameFor, series_first}
@@ -52,7 +53,7 @@ module _ (q : Asked) where
 
   -- the candidates of what it sees
   abbrev pub candidates_seen : Seen → List Candidate
-  candidates_seen x = candidates_among x.0 (shape q.score) x.1
+  candidates_seen x = leaders q.per (contenders_among x.0 (shape q.score) x.1)
 
   -- what it sees of a station, from some facts
   abbrev pub seen_in : List Fact → Station → Seen

@@ -19,17 +19,32 @@ use Rattle.rank_query.specs.declared.score.Score.TheVariants.{Highest, Lowest, S
 use Rattle.rank_query.specs.Asked.{is_score, Asked, IsAsked}
 use Rattle.ghcn_files.specs.declared.station.StationId.{StationId}
 use Rattle.rank_scores.specs.Runs.{run_from, run_len, begins_run, calendar_len, IsRun}
-use Rattle.rank_scores.specs.Candidates.{Shape, Days, Windows, Spells, shape, IsCandidate}
-use Rattle.rank_scores.specs.Candidates.{begun, plus, window_total, is_such, candidate, candidates, admitted}
-use Rattle.rank_scores.specs.Candidates.{IsCandidateOf, AreTheCandidates, RiseByFirstDay}
+use Rattle.rank_scores.specs.Candidates.{Shape, Days, Windows, Spells, shape, IsContender}
+use Rattle.rank_scores.specs.Candidates.{begun, plus, window_total, is_such, candidate, candidates, contenders}
+use Rattle.rank_scores.specs.Candidates.{admitted, IsContenderOf, AreTheContenders}
+use Rattle.rank_scores.specs.Candidates.{AreTheCandidates, RiseByFirstDay}
 use Rattle.rank_scores.proofs.Totals.{days-total, total-days}
 use Rattle.rank_scores.proofs.Rising.{Rise, admitted-rise, values_stand, firsts_rise, from_each, all-made}
+use Rattle.rank_scores.proofs.Rising.{each-map, all-filter}
 use Rattle.rank_scores.proofs.Runs.{AreDays, counted, run-found, run-more, such-has, such-none, such-is_day, none_past}
 use Rattle.rank_scores.proofs.Runs.{day-bounds, days-few, admitted-days}
 use Rattle.rank_scores.specs.Order.{begin_alike, AreApart}
 use Rattle.rank_scores.specs.declared.candidate.Candidate.{Candidate}
 use Rattle.rank_scores.specs.Morsels.{IsAbove, NoneIsAbove}
-use Rattle.std.proofs.Common.{rules}
+use Rattle.std.proofs.Common.{rules, cond, ◌&&◌, filter}
+use Rattle.std.specs.List.{IsDistinct}
+use Rattle.std.specs.List.Sorted.{IsStrictlySortedBy}
+use Rattle.std.specs.declared.cmp.Ordering.TheVariants.{Less}
+use Rattle.std.proofs.lemmas.Bool.{cases_Bool}
+use Rattle.ghcn_files.proofs.Ordered.{each-mapped}
+use Rattle.ghcn_series.proofs.Members.{for_each, contains-in, in-contains, any_in, in_any, kept_in, in_kept}
+use Rattle.rank_query.specs.declared.per.Per.{Per}
+use Rattle.rank_query.specs.declared.per.Per.TheVariants.{Each}
+use Rattle.rank_scores.specs.Groups.{are_rivals, is_outdone, leaders}
+use Rattle.rank_scores.specs.Order.{precedes}
+use Rattle.rank_scores.proofs.Leaders.{any-none, filter-all, led_by, leaders_apart}
+use Rattle.rank_scores.proofs.LeadingFolds.{rivals-turned, rivals-joined, precedes-on, precedes-unlike}
+use Rattle.rank_scores.proofs.LeadingFolds.{precedes-decided}
 
 -- ---- what begins on a day is what is a candidate from that day on
 
@@ -97,21 +112,21 @@ window-begins days (suc n) first last score some ends total = search (rules, ari
 -- ---- both ways
 
 -- a day is ranked by its value
-day-begins : (days : List DayValue) (f : ℤ → ℤ) (first last score : ℤ) → IsCandidate (Days f) days first last score
+day-begins : (days : List DayValue) (f : ℤ → ℤ) (first last score : ℤ) → IsContender (Days f) days first last score
     → Begins (Days f) days first last score
 day-begins days f first last score is = (is.1, is.2, rw (is.0, is.3))
 
 -- each candidate of what can be asked for begins on its first day, which has a value
-pub begins-from_IsCandidate : (days : List DayValue) → Rise days → AreDays days → (sc : Score) (first last score : ℤ)
-    → is_score sc ≡ true → IsCandidate (shape sc) days first last score → Begins (shape sc) days first last score
-begins-from_IsCandidate days rise cal (Highest e) first last score h is = day-begins days (λ v. v) first last score is
-begins-from_IsCandidate days rise cal (Lowest e) first last score h is = day-begins days neg_ℤ first last score is
-begins-from_IsCandidate days rise cal (Sum n e) first last score h is =
+pub begins-from_IsContender : (days : List DayValue) → Rise days → AreDays days → (sc : Score) (first last score : ℤ)
+    → is_score sc ≡ true → IsContender (shape sc) days first last score → Begins (shape sc) days first last score
+begins-from_IsContender days rise cal (Highest e) first last score h is = day-begins days (λ v. v) first last score is
+begins-from_IsContender days rise cal (Lowest e) first last score h is = day-begins days neg_ℤ first last score is
+begins-from_IsContender days rise cal (Sum n e) first last score h is =
     search (rules, arith, leb-true, and_parts, window-begins, days-total)
-begins-from_IsCandidate days rise cal Dry first last score h is = search (rules, arith, spell-begins)
-begins-from_IsCandidate days rise cal Wet first last score h is = search (rules, arith, spell-begins)
-begins-from_IsCandidate days rise cal (Hot t) first last score h is = search (rules, arith, spell-begins)
-begins-from_IsCandidate days rise cal (Cold t) first last score h is = search (rules, arith, spell-begins)
+begins-from_IsContender days rise cal Dry first last score h is = search (rules, arith, spell-begins)
+begins-from_IsContender days rise cal Wet first last score h is = search (rules, arith, spell-begins)
+begins-from_IsContender days rise cal (Hot t) first last score h is = search (rules, arith, spell-begins)
+begins-from_IsContender days rise cal (Cold t) first last score h is = search (rules, arith, spell-begins)
 
 -- what a window that begins on a day is made of
 window-made : (o : Option ℤ) (last : ℤ) (p : ℤ × ℤ) → option_map (λ (total : ℤ). (last, total)) o ≡ Some p
@@ -119,15 +134,15 @@ window-made : (o : Option ℤ) (last : ℤ) (p : ℤ × ℤ) → option_map (λ 
 window-made o last p e = (grind arith, grind arith)
 
 -- what begins on a day that has its value is a candidate
-pub begun-IsCandidate : (days : List DayValue) → Rise days → AreDays days → (sh : Shape) (x : DayValue) (p : ℤ × ℤ)
-    → value_on days x.0 ≡ Some x.1 → begun sh days x ≡ Some p → IsCandidate sh days x.0 p.0 p.1
-begun-IsCandidate days rise cal (Days f) x p has e = grind (arith, ints)
-begun-IsCandidate days rise cal (Windows n) x p has e =
+pub begun-IsContender : (days : List DayValue) → Rise days → AreDays days → (sh : Shape) (x : DayValue) (p : ℤ × ℤ)
+    → value_on days x.0 ≡ Some x.1 → begun sh days x ≡ Some p → IsContender sh days x.0 p.0 p.1
+begun-IsContender days rise cal (Days f) x p has e = grind (arith, ints)
+begun-IsContender days rise cal (Windows n) x p has e =
     let parts = window-made (window_total days n x.0) (x.0 +ℤ pos n -ℤ pos 1) p e in
     let ends : p.0 +ℤ pos 1 ≡ x.0 +ℤ pos n = omega (arith, ints, parts.1) in
     let are = total-days days rise n x.0 p.0 p.1 ends parts.0 in
     record { ends = ends; whole = are.0; sum = are.1 }
-begun-IsCandidate days rise cal (Spells test) x p has e = grind (arith, ints, cond_some, run-is)
+begun-IsContender days rise cal (Spells test) x p has e = grind (arith, ints, cond_some, run-is)
 
 -- ---- the candidates of a series
 
@@ -139,6 +154,20 @@ apart-from_rise cs h = IsDistinct-from_apart begin_alike cs (λ i j d lt within.
     ∙ apart_from_distinct int_eq (map (λ c. c.first) cs) i j d.first
     (IsDistinct-from_sorted int_cmp (map (λ c. c.first) cs) h) lt
     (omega (arith, length-map cs (λ (c : Candidate). c.first)))))
+
+-- those that pass a test rise as before
+rise-kept : (p : Candidate → Bool) (cs : List Candidate) → RiseByFirstDay cs → RiseByFirstDay (filter p cs)
+unfolding IsStrictlySortedBy
+rise-kept p [] h = tt
+rise-kept p (c ∷ cs) h = elim (p c) as (λ b. RiseByFirstDay (cond b (c ∷ filter p cs) (filter p cs))) [
+  | true ↦ (
+    each-map (λ d. d.first) (λ z. int_cmp c.first z ≡ Less) (filter p cs)
+        (all-filter (λ d. int_cmp c.first d.first ≡ Less) p cs
+        (each-mapped (λ d. d.first) (λ z. int_cmp c.first z ≡ Less) cs h.0)),
+    rise-kept p cs h.1,
+  )
+  | false ↦ rise-kept p cs h.1
+]
 
 -- what a candidate is made of
 pub made : (id : StationId) (day : ℤ) (o : Option (ℤ × ℤ)) (c : Candidate)
@@ -175,47 +204,125 @@ begun_on q s x = option_map (candidate s.id x.0) (begun (shape q.score) (admitte
 of_all : (P : Candidate → Type 0) (cs : List Candidate) (c : Candidate) → AllByRecursion P cs → Contains cs c → P c
 of_all P cs c h = All-contains P cs c (All-from_recursion P cs h)
 
+-- among the leaders are those contenders that no rival precedes
+leads-is : (per : Per) (all : List Candidate) (c : Candidate) → Contains (leaders per all) c
+    ↔ (Contains all c × ((d : Candidate) → Contains all d → are_rivals per d c ≡ true → precedes d c ≡ false))
+leads-is per all c = (
+  λ has.
+      let kept = kept_in (λ x. not (is_outdone per all x)) all c (contains-in (leaders per all) c has) in (
+        in-contains all c kept.0,
+        λ d there rivals. elim (cases_Bool (precedes d c)) [
+          | inl before ↦
+              let out = in_any (λ d. are_rivals per d c && precedes d c) all d (contains-in all d there)
+              (and_from (are_rivals per d c) (precedes d c) rivals before) in
+              absurd cc
+          | inr fails ↦ fails
+        ],
+      ),
+  λ is.
+      let none : is_outdone per all c ≡ false = elim (cases_Bool (is_outdone per all c)) [
+        | inl some ↦
+            let one = any_in (λ d. are_rivals per d c && precedes d c) all some in
+            let parts = and_parts (are_rivals per one.0 c) (precedes one.0 c) one.2 in
+            let not_so = is.1 one.0 (in-contains all one.0 one.1) parts.0 in
+            absurd cc
+        | inr fails ↦ fails
+      ] in
+      in-contains (leaders per all) c (in_kept (λ x. not (is_outdone per all x)) all c (contains-in all c is.0)
+      (ap not none)),
+)
+
 module _ (q : Asked) (s : Usable) (series : IsSeries s) where
-  -- the candidates rise by first day
+  -- the contenders rise by first day
+  pub contenders_rise : RiseByFirstDay (contenders q s)
+  contenders_rise = grind (arith, ints, firsts_rise, made, admitted-rise q s series)
+
+  -- no two of them begin on one day
+  pub contenders_apart : AreApart (contenders q s)
+  contenders_apart = apart-from_rise (contenders q s) contenders_rise
+
+  -- the candidates rise too
   pub rise : RiseByFirstDay (candidates q s)
-  rise = grind (arith, ints, firsts_rise, made, admitted-rise q s series)
+  rise = rise-kept (λ c. not (is_outdone q.per (contenders q s) c)) (contenders q s) contenders_rise
 
   -- no two of them begin on one day
   pub apart : AreApart (candidates q s)
   apart = apart-from_rise (candidates q s) rise
 
-  -- each that is listed is a candidate
-  all_listed : AllByRecursion (IsCandidateOf q s) (candidates q s)
+  -- each that is listed is a contender
+  all_listed : AllByRecursion (IsContenderOf q s) (contenders q s)
   all_listed =
-      all-made (IsCandidateOf q s) (begun_on q s) (admitted q s)
+      all-made (IsContenderOf q s) (begun_on q s) (admitted q s)
       (from_each (λ x. value_on (admitted q s) x.0 ≡ Some x.1)
-      (λ x. (c : Candidate) → begun_on q s x ≡ Some c → IsCandidateOf q s c) (admitted q s)
+      (λ x. (c : Candidate) → begun_on q s x ≡ Some c → IsContenderOf q s c) (admitted q s)
       (λ x stands c e.
       let is = made s.id x.0 (begun (shape q.score) (admitted q s) x) c e in (
         is.0,
-        subst (λ (z : ℤ). IsCandidate (shape q.score) (admitted q s) z c.last c.score) (sym is.1)
-            (begun-IsCandidate (admitted q s) (admitted-rise q s series) (admitted-days q s.days)
+        subst (λ (z : ℤ). IsContender (shape q.score) (admitted q s) z c.last c.score) (sym is.1)
+            (begun-IsContender (admitted q s) (admitted-rise q s series) (admitted-days q s.days)
             (shape q.score) x (c.last, c.score) stands is.2),
       ))
       (values_stand (admitted q s) (admitted-rise q s series)))
 
-  -- each candidate is listed
-  is-listed : IsAsked q → (c : Candidate) → IsCandidateOf q s c → Contains (candidates q s) c
+  -- each contender is listed
+  is-listed : IsAsked q → (c : Candidate) → IsContenderOf q s c → Contains (contenders q s) c
   is-listed asked c is =
-      let begins = begins-from_IsCandidate (admitted q s) (admitted-rise q s series) (admitted-days q s.days)
+      let begins = begins-from_IsContender (admitted q s) (admitted-rise q s series) (admitted-days q s.days)
       q.score c.first c.last c.score asked.score is.1 in
       let made_here : begun_on q s (c.first, begins.0) ≡ Some c =
       ap (option_map (candidate s.id c.first)) begins.2
       ∙ ap (λ (i : StationId). Some (candidate i c.first (c.last, c.score))) (sym is.0) in
       made_stands (begun_on q s) c.first begins.0 c made_here (admitted q s) begins.1
 
-  -- the candidates are exactly those with the property
+  -- the contenders are exactly those with the property
+  pub contenders_exactly : IsAsked q → AreTheContenders q s (contenders q s)
+  contenders_exactly asked =
+      λ c. (of_all (IsContenderOf q s) (contenders q s) c all_listed, is-listed asked c)
+
+  -- and so are the candidates
   pub exactly : IsAsked q → AreTheCandidates q s (candidates q s)
-  exactly asked = λ c. (of_all (IsCandidateOf q s) (candidates q s) c all_listed, is-listed asked c)
+  exactly asked = λ c.
+      let contends = contenders_exactly asked in
+      let leads = leads-is q.per (contenders q s) c in (
+        λ has. let is = leads.0 has in ((contends c).0 is.0, λ d of_d. is.1 d ((contends d).1 of_d)),
+        λ is. leads.1 ((contends c).1 is.0, λ d there. is.1 d ((contends d).0 there)),
+      )
 
   -- no listed candidate is above a number if and only if none is that has the property
   pub bounds : IsAsked q → (bound : ℤ) → IsAbove q s bound ↔ NoneIsAbove q s bound
   bounds asked bound = (
-    λ h c is. of_all (λ d. d.score ≤ℤ bound) (candidates q s) c h (is-listed asked c is),
-    λ h. from_each (IsCandidateOf q s) (λ d. d.score ≤ℤ bound) (candidates q s) h all_listed,
+    λ h c is. of_all (λ d. d.score ≤ℤ bound) (candidates q s) c h ((exactly asked c).1 is),
+    λ h. for_each (λ d. d.score ≤ℤ bound) (candidates q s)
+        (λ c has. h c ((exactly asked c).0 (in-contains (candidates q s) c has))),
   )
+
+  -- no two candidates are rivals
+  pub none_rivals : IsDistinct (are_rivals q.per) (candidates q s)
+  none_rivals = leaders_apart (are_rivals q.per) precedes (rivals-turned q.per) (rivals-joined q.per) precedes-on
+      precedes-unlike begin_alike precedes-decided (contenders q s) contenders_apart
+
+  -- each contender is a candidate, or one precedes it
+  pub each_led : (c : Candidate) → Contains (contenders q s) c
+      → Contains (candidates q s) c ⊎ ((d : Candidate) × Contains (candidates q s) d
+      × (are_rivals q.per d c ≡ true) × (precedes d c ≡ true))
+  each_led c has =
+      elim (led_by (are_rivals q.per) precedes (rivals-turned q.per) (rivals-joined q.per) precedes-on precedes-unlike
+      (contenders q s) c (contains-in (contenders q s) c has)) [
+        | inl own ↦ inl (in-contains (candidates q s) c own)
+        | inr other ↦
+            let both = and_parts (are_rivals q.per other.0 c) (precedes other.0 c) other.2 in
+            inr (other.0, in-contains (candidates q s) other.0 other.1, both.0, both.1)
+      ]
+
+-- without groups none has a rival
+each_alone : (per : Per) → per ≡ Each → (all : List Candidate) → leaders per all ≡ all
+each_alone per is all = ap (λ (p : Per). leaders p all) is
+    ∙ filter-all (λ c. not (is_outdone Each all c)) all (λ c. ap not (any-none (λ d. false) all (nothing all)))
+  where
+    nothing : (xs : List Candidate) → AllByRecursion (λ d. ◌≡◌ {A = Bool} false false) xs
+    nothing [] = tt
+    nothing (x ∷ xs) = (refl, nothing xs)
+
+-- so each contender is a candidate
+pub each_stays : (q : Asked) (s : Usable) → q.per ≡ Each → candidates q s ≡ contenders q s
+each_stays q s is = each_alone q.per is (contenders q s)

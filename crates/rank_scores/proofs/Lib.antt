@@ -6,10 +6,15 @@ pub mod SpellDays
 pub mod Runs
 pub mod StretchDays
 pub mod Rising
+pub mod Leaders
+pub mod GroupDays
+pub mod LeadingFolds
 pub mod Exactly
 pub mod Examples
+pub mod GroupExamples
 pub mod QueryCandidates
 pub mod QueryMorsels
+pub mod LedContenders
 pub mod CutDays
 pub mod CutSeries
 pub mod CutParts

@@ -11,7 +11,7 @@ use Rattle.std.proofs.lemmas.Bool.{cases_Bool}
 use Rattle.std.proofs.lemmas.Int.{ints}
 use Rattle.ghcn_files.specs.declared.station.StationId.{StationId}
 use Rattle.ghcn_series.specs.Series.{DayValue}
-use Rattle.rank_scores.specs.Candidates.{Days, candidate, candidates_among}
+use Rattle.rank_scores.specs.Candidates.{Days, candidate, contenders_among}
 use Rattle.rank_scores.specs.Extremes.{score_by}
 use Rattle.rank_scores.specs.declared.extreme.Extreme.TheVariants.{Highest, Lowest}
 use Rattle.rank_scores.proofs.Rising.{from_each}
@@ -42,14 +42,14 @@ lowest-low floor limit days is none =
 
 -- there are as many candidates as days
 pub as-many : (id : StationId) (f : ℤ → ℤ) (days : List DayValue)
-    → length (candidates_among id (Days f) days) ≡ length days
+    → length (contenders_among id (Days f) days) ≡ length days
 as-many id f [] = refl
 as-many id f (x ∷ xs) = ap suc (as-many id f xs)
 
 -- their scores are those of the days
 pub all-low : (id : StationId) (f : ℤ → ℤ) (floor : ℤ) (days : List DayValue)
     → AllByRecursion (λ x. f x.1 <ℤ floor) days
-    → AllByRecursion (λ c. c.score <ℤ floor) (candidates_among id (Days f) days)
+    → AllByRecursion (λ c. c.score <ℤ floor) (contenders_among id (Days f) days)
 all-low id f floor [] low = tt
 all-low id f floor (x ∷ xs) low = (low.0, all-low id f floor xs low.1)
 
@@ -60,8 +60,8 @@ not-false false e = absurd cc
 
 -- once the candidates of a part of some days are taken, those of the rest are left
 pub takes-part : {S : Type 0} (taken : S → Candidate → S) (sink after : S) (id : StationId) (f : ℤ → ℤ)
-    (all part rest : List DayValue) → all ≡ part ++ rest → after ≡ fold taken sink (candidates_among id (Days f) part)
-    → fold taken after (candidates_among id (Days f) rest) ≡ fold taken sink (candidates_among id (Days f) all)
+    (all part rest : List DayValue) → all ≡ part ++ rest → after ≡ fold taken sink (contenders_among id (Days f) part)
+    → fold taken after (contenders_among id (Days f) rest) ≡ fold taken sink (contenders_among id (Days f) all)
 takes-part taken sink after id f all part rest parts is =
     let of_day : DayValue → Option Candidate = λ x. option_map (candidate id x.0) (Some (x.0, f x.1)) in
     rw (is, parts) (sym (ap (fold taken sink) (filter_map-append of_day part rest)

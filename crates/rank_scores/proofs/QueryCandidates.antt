@@ -21,7 +21,7 @@ use Rattle.ghcn_series.proofs.Members.{found_in, of_one}
 use Rattle.rank_query.specs.Asked.{Asked, score_element}
 use Rattle.rank_query.specs.Admits.{admits_station}
 use Rattle.rank_scores.specs.declared.candidate.Candidate.{Candidate}
-use Rattle.rank_scores.specs.Candidates.{candidates}
+use Rattle.rank_scores.specs.Candidates.{candidates, contenders}
 use Rattle.rank_scores.specs.Order.{best, AreApart}
 use Rattle.rank_scores.specs.Morsels.{admitted_series, has_admitted, morsels}
 use Rattle.rank_scores.specs.QueryCandidates.{CandidatesAreApart, CandidatesAreOfListed, BestAreOfListed}
@@ -50,9 +50,13 @@ best-holds P k all h = grind (arith, ints, all-made, each, found-holds)
 
 -- ---- the candidates of one series
 
--- the candidates of a series have its ID
+-- the contenders of a series have its ID
+pub contenders-own : (q : Asked) (s : Usable) → AllByRecursion (λ d. d.id ≡ s.id) (contenders q s)
+contenders-own q s = grind (arith, ints, all-made, begun_on q s, each, begun_on, made)
+
+-- and so have its candidates
 pub candidates-own : (q : Asked) (s : Usable) → AllByRecursion (λ d. d.id ≡ s.id) (candidates q s)
-candidates-own q s = grind (arith, ints, all-made, begun_on q s, each, begun_on, made)
+candidates-own q s = all-filter (λ d. d.id ≡ s.id) _ (contenders q s) (contenders-own q s)
 
 -- what holds of an ID holds of the candidates of the series that have it
 each_candidate : (P : StationId → Type 0) (q : Asked) (ss : List Usable) →

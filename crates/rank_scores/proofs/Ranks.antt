@@ -27,7 +27,7 @@ pub rank_cmp_total : IsTotalOrder rank_cmp
 rank_cmp_total = search (rules, arith, then_total, on_total, back_total, int_cmp_total, nat_list_cmp_total)
 
 -- of two candidates at most one precedes the other
-asym : (a b : Candidate) → precedes a b ≡ true → precedes b a ≡ false
+pub asym : (a b : Candidate) → precedes a b ≡ true → precedes b a ≡ false
 asym a b h = (ranks_by rank_cmp_total (λ (c : Candidate). c)).one_way a b h
 
 -- each precedes all that come after it

@@ -18,7 +18,7 @@ use Rattle.ghcn_series.specs.Series.{DayValue, Usable, IsSeries}
 use Rattle.rank_query.specs.Asked.{Asked}
 use Rattle.rank_scores.specs.declared.candidate.Candidate.{Candidate}
 use Rattle.rank_scores.specs.Runs.{begins_run}
-use Rattle.rank_scores.specs.Candidates.{Spells, begun, candidate, candidates_among, admitted, is_such}
+use Rattle.rank_scores.specs.Candidates.{Spells, begun, candidate, contenders_among, admitted, is_such}
 use Rattle.rank_scores.specs.Spells.{goes_on, open_spell, spell_from, spell_list}
 use Rattle.rank_scores.proofs.Rising.{Rise, admitted-rise, from_each, value_on-other, value_on-here, value_on-later}
 use Rattle.rank_scores.proofs.Rising.{value_on-before, all-filter}
@@ -157,7 +157,7 @@ module _ (id : StationId) (test : ℤ → Bool) (days : List DayValue) (cal : Ar
 
 -- what is offered of a series is its spells
 pub offered-all : (id : StationId) (test : ℤ → Bool) (q : Asked) (s : Usable) → IsSeries s
-    → offered id test None (admitted q s) ≡ candidates_among id (Spells test) (admitted q s)
+    → offered id test None (admitted q s) ≡ contenders_among id (Spells test) (admitted q s)
 offered-all id test q s series =
     let days : List DayValue = admitted q s in
     let cal = admitted-days q s.days in
@@ -257,7 +257,7 @@ offered-anew id run first last (x ∷ xs) rest some in_row on =
 
 -- what is offered of a series as days of the kind come is its spells
 pub offered-spells : (id : StationId) (test : ℤ → Bool) (q : Asked) (s : Usable) → IsSeries s
-    → offered_of_kind id None (filter (λ x. test x.1) (admitted q s)) ≡ candidates_among id (Spells test) (admitted q s)
+    → offered_of_kind id None (filter (λ x. test x.1) (admitted q s)) ≡ contenders_among id (Spells test) (admitted q s)
 offered-spells id test q s series =
     sym (offered-kept id test None (admitted q s) (admitted-rise q s series) tt) ∙ offered-all id test q s series
 

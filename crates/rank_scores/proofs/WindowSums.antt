@@ -14,7 +14,7 @@ use Rattle.ghcn_series.specs.Series.{DayValue, Usable, IsSeries}
 use Rattle.rank_query.specs.Asked.{Asked}
 use Rattle.rank_scores.specs.declared.candidate.Candidate.{Candidate}
 use Rattle.rank_scores.specs.declared.window.Window.{Window}
-use Rattle.rank_scores.specs.Candidates.{Windows, admitted, candidate, begun, candidates_among}
+use Rattle.rank_scores.specs.Candidates.{Windows, admitted, candidate, begun, contenders_among}
 use Rattle.rank_scores.specs.Windows.{begun_anew_unless, next_place, with_value, first_value, without_first}
 use Rattle.ghcn_fields.specs.Days.{is_day}
 use Rattle.rank_scores.proofs.Runs.{AreDays, admitted-days}
@@ -27,7 +27,7 @@ use Rattle.std.proofs.Common.{rules}
 
 -- the windows of some days
 abbrev pub windows : StationId → ℕ → List DayValue → List Candidate
-windows id n days = candidates_among id (Windows n) days
+windows id n days = contenders_among id (Windows n) days
 
 -- the window of n days that begins on a day, if it has a total
 abbrev window_on : StationId → ℕ → ℤ → Option ℤ → Option Candidate

@@ -1,5 +1,5 @@
 -- The candidates of a series under a query.
-use Rattle.std.specs.Prelude.{◌≡◌, ◌↔◌, ℕ, zero, suc, Bool, false, ◌&&◌, if◌then◌else◌, List, [], ◌∷◌, length, filter}
+use Rattle.std.specs.Prelude.{◌≡◌, ◌↔◌, ℕ, zero, suc, Bool, true, false, ◌&&◌, if◌then◌else◌, List, [], ◌∷◌, length, filter}
 use Rattle.std.specs.Prelude.{map, Option, None, Some, ℤ, pos, neg_ℤ, ◌+ℤ◌, ◌-ℤ◌, int_le, int_lt}
 use Rattle.std.specs.List.{filter_map, Contains}
 use Rattle.std.specs.List.Sorted.{IsStrictlySortedBy}
@@ -14,6 +14,8 @@ use Rattle.rank_query.specs.Admits.{admits_day}
 use Rattle.rank_scores.specs.declared.candidate.Candidate.{Candidate}
 use Rattle.rank_scores.specs.declared.spell.Spell.{Spell}
 use Rattle.rank_scores.specs.declared.spell.Spell.TheVariants as spells
+use Rattle.rank_scores.specs.Order.{precedes}
+use Rattle.rank_scores.specs.Groups.{are_rivals, leaders}
 use Rattle.rank_scores.specs.Runs.{run_len, begins_run, IsRun}
 
 -- the test that the values of a spell's days pass: less than one millimetre, at least one, at least that many tenths of
@@ -74,14 +76,14 @@ pub record IsWindow (days : List DayValue) (n : ℕ) (first last score : ℤ) : 
 abbrev pub is_such : (ℤ → Bool) → List DayValue → ℤ → Bool
 is_such test days a = option_map_or test (value_on days a) false
 
--- if these are the admitted usable days: from this first to this last day there is a candidate with this score
-abbrev pub IsCandidate : Shape → List DayValue → ℤ → ℤ → ℤ → Type 0
-IsCandidate (Days f) days first last score = (last ≡ first) × (v : ℤ) × (value_on days first ≡ Some v) × (score ≡ f v)
-IsCandidate (Windows n) days first last score = IsWindow days n first last score
-IsCandidate (Spells test) days first last score =
+-- if these are the admitted usable days: from this first to this last day there is a contender with this score
+abbrev pub IsContender : Shape → List DayValue → ℤ → ℤ → ℤ → Type 0
+IsContender (Days f) days first last score = (last ≡ first) × (v : ℤ) × (value_on days first ≡ Some v) × (score ≡ f v)
+IsContender (Windows n) days first last score = IsWindow days n first last score
+IsContender (Spells test) days first last score =
     (len : ℕ) × (score ≡ pos len) × IsRun (is_such test days) first last len
 
--- the last day and the score of the candidate that begins on one of the days, if one does
+-- the last day and the score of the contender that begins on one of the days, if one does
 abbrev pub begun : Shape → List DayValue → DayValue → Option (ℤ × ℤ)
 begun (Days f) days x = Some (x.0, f x.1)
 begun (Windows n) days x = option_map (λ total. (x.0 +ℤ pos n -ℤ pos 1, total)) (window_total days n x.0)
@@ -90,21 +92,37 @@ begun (Spells test) days x =
     then Some (x.0 +ℤ pos (run_len (is_such test days) x.0) -ℤ pos 1, pos (run_len (is_such test days) x.0))
     else None
 
--- the candidate of a station that begins on a day, by its last day and its score
+-- the contender of a station that begins on a day, by its last day and its score
 abbrev pub candidate : StationId → ℤ → ℤ × ℤ → Candidate
 candidate id first e = record { id = id; first = first; last = e.0; score = e.1 }
 
--- the candidates of a station, if these are its admitted usable days, by increasing first day
-abbrev pub candidates_among : StationId → Shape → List DayValue → List Candidate
-candidates_among id sh days = filter_map (λ x. option_map (candidate id x.0) (begun sh days x)) days
+-- the contenders of a station, if these are its admitted usable days, by increasing first day
+abbrev pub contenders_among : StationId → Shape → List DayValue → List Candidate
+contenders_among id sh days = filter_map (λ x. option_map (candidate id x.0) (begun sh days x)) days
 
--- the candidates of a series, its station taken as admitted
+-- the contenders of a series, its station taken as admitted
+abbrev pub contenders : Asked → Usable → List Candidate
+contenders q s = contenders_among s.id (shape q.score) (admitted q s)
+
+-- the candidates of a series, its station taken as admitted: contenders that no rival precedes
 abbrev pub candidates : Asked → Usable → List Candidate
-candidates q s = candidates_among s.id (shape q.score) (admitted q s)
+candidates q s = leaders q.per (contenders q s)
 
--- c belongs to the station of the series, and is a candidate from its first to its last day with its score
+-- c belongs to the station of the series, and is a contender from its first to its last day with its score
+abbrev pub IsContenderOf : Asked → Usable → Candidate → Type 0
+IsContenderOf q s c = (c.id ≡ s.id) × IsContender (shape q.score) (admitted q s) c.first c.last c.score
+
+-- no contender of the series that is a rival of c precedes it
+abbrev pub IsUnrivalled : Asked → Usable → Candidate → Type 0
+IsUnrivalled q s c = (d : Candidate) → IsContenderOf q s d → are_rivals q.per d c ≡ true → precedes d c ≡ false
+
+-- a candidate is a contender that no rival precedes
 abbrev pub IsCandidateOf : Asked → Usable → Candidate → Type 0
-IsCandidateOf q s c = (c.id ≡ s.id) × IsCandidate (shape q.score) (admitted q s) c.first c.last c.score
+IsCandidateOf q s c = IsContenderOf q s c × IsUnrivalled q s c
+
+-- the list has the contenders of the series, and nothing else
+abbrev pub AreTheContenders : Asked → Usable → List Candidate → Type 0
+AreTheContenders q s list = (c : Candidate) → Contains list c ↔ IsContenderOf q s c
 
 -- the list has the candidates of the series, and nothing else
 abbrev pub AreTheCandidates : Asked → Usable → List Candidate → Type 0

@@ -1,4 +1,6 @@
 pub mod Runs
+pub mod Groups
+pub mod Leading
 pub mod Candidates
 pub mod Spells
 pub mod Stretches

@@ -1,10 +1,18 @@
 -- What is true of the candidates of every series, as statements for the contract of a public function.
-use Rattle.std.specs.Prelude.{◌↔◌, ℤ}
+use Rattle.std.specs.Prelude.{◌≡◌, ◌↔◌, true, ◌⊎◌, ℤ}
+use Rattle.std.specs.List.{Contains, IsDistinct}
 use Rattle.ghcn_series.specs.Series.{Usable, IsSeries}
+use Rattle.rank_query.specs.declared.per.Per.TheVariants.{Each}
 use Rattle.rank_query.specs.Asked.{Asked, IsAsked}
-use Rattle.rank_scores.specs.Candidates.{candidates, AreTheCandidates, RiseByFirstDay}
-use Rattle.rank_scores.specs.Order.{AreApart}
+use Rattle.rank_scores.specs.declared.candidate.Candidate.{Candidate}
+use Rattle.rank_scores.specs.Candidates.{contenders, candidates, AreTheContenders, AreTheCandidates, RiseByFirstDay}
+use Rattle.rank_scores.specs.Groups.{are_rivals}
+use Rattle.rank_scores.specs.Order.{precedes, AreApart}
 use Rattle.rank_scores.specs.Morsels.{IsAbove, NoneIsAbove}
+
+-- the contenders that are listed are those with the property, and no others
+abbrev pub ListsTheContenders : Type 0
+ListsTheContenders = (q : Asked) (s : Usable) → IsAsked q → IsSeries s → AreTheContenders q s (contenders q s)
 
 -- the candidates that are listed are those with the property, and no others
 abbrev pub ListsTheCandidates : Type 0
@@ -22,3 +30,18 @@ ListsNoneTwice = (q : Asked) (s : Usable) → IsSeries s → AreApart (candidate
 abbrev pub BoundsEachCandidate : Type 0
 BoundsEachCandidate =
     (q : Asked) (s : Usable) → IsAsked q → IsSeries s → (bound : ℤ) → IsAbove q s bound ↔ NoneIsAbove q s bound
+
+-- without groups each contender is a candidate
+abbrev pub EachStays : Type 0
+EachStays = (q : Asked) (s : Usable) → q.per ≡ Each → candidates q s ≡ contenders q s
+
+-- no two candidates are rivals
+abbrev pub NoneAreRivals : Type 0
+NoneAreRivals = (q : Asked) (s : Usable) → IsSeries s → IsDistinct (are_rivals q.per) (candidates q s)
+
+-- each contender is a candidate, or a candidate that is its rival precedes it
+abbrev pub EachIsLed : Type 0
+EachIsLed =
+    (q : Asked) (s : Usable) → IsSeries s → (c : Candidate) → Contains (contenders q s) c
+    → Contains (candidates q s) c ⊎ ((d : Candidate) × Contains (candidates q s) d
+    × (are_rivals q.per d c ≡ true) × (precedes d c ≡ true))

@@ -35,7 +35,7 @@ pub trait FloorSink: Sink {
 #[inline(always)]
 pub(crate) fn is_passed_over<S: FloorSink>(part: &BlockDays, extreme: Extreme, sink: &mut S) -> bool
     ensures passed { (id : StationId) → result ≡ true →
-        sink.new ≡ fold S.taken sink.old (meaning.candidates_among id (meaning.Days (score_by extreme)) part.now) }
+        sink.new ≡ fold S.taken sink.old (meaning.contenders_among id (meaning.Days (score_by extreme)) part.now) }
     ensures kept { result ≡ false → sink.new ≡ sink.old }
 {
     let Some(floor) = sink.floor() else {

@@ -8,11 +8,18 @@ ghost use Rattle.rank_scores.specs.SeriesCandidates as series;
 
 /// The list of a series' candidates has exactly its candidates, by increasing first day, and no two
 /// that begin on one day. What no listed candidate is above, none of the series is above.
+///
+/// If the query doesn't ask for the best of groups, each contender is a candidate. Of each group at most one is, and each
+/// other contender comes after one of its group.
 pub fn candidates_of_series()
+    ensures contenders { series.ListsTheContenders }
     ensures exactly { series.ListsTheCandidates }
     ensures rise { series.ListsByFirstDay }
     ensures apart { series.ListsNoneTwice }
     ensures bounds { series.BoundsEachCandidate }
+    ensures each { series.EachStays }
+    ensures rivals { series.NoneAreRivals }
+    ensures led { series.EachIsLed }
 {}
 
 /// All candidates of a query belong to listed stations, as do the best of them, and no two belong

@@ -10,6 +10,7 @@ mod candidate;
 mod extreme;
 mod floor;
 mod laws;
+mod leading;
 mod morsel;
 mod scans;
 mod sink;

@@ -2,24 +2,52 @@
 
 ghost use Rattle.std.specs.Prelude.{◌≡◌};
 ghost use Rattle.std.specs.List.{fold};
+ghost use Rattle.ghcn_series.specs.Series.{IsSeries};
 ghost use Rattle.rank_scores.specs.Candidates as meaning;
 ghost use Rattle.rank_scores.specs.Extremes.{score_by};
+ghost use Rattle.rank_scores.specs.Leading.{held_with};
 
 use crate::admitted::Admitted;
 use crate::extreme::Extreme;
 use crate::floor::{FloorSink, is_passed_over};
+use crate::leading::Leading;
 use crate::spell::{Spell, scan_spells};
 use crate::window::scan_windows;
 use crate::{Candidate, Sink};
 use ghcn_files::StationId;
 use ghcn_series::{BlockDays, Series};
-use rank_query::{Query, Score};
+use rank_query::{Per, Query, Score};
 
 /// Offers each candidate of the series once, by increasing first day.
 ///
 /// The station is taken as admitted, and the series as one of the query's element.
 pub fn scan<S: Sink>(series: &Series, query: &Query, sink: &mut S)
     ensures { sink.new ≡ fold S.taken sink.old (meaning.candidates query.now series.now) }
+{
+    match query.per() {
+        Per::Each => scan_contenders(series, query, sink),
+        Per::Station | Per::Year => scan_groups(series, query, sink),
+    }
+}
+
+/// Offers the candidates of the series by increasing first day, as `scan` does.
+///
+/// If no day of a part reaches the sink's floor, the sink is given the number of these days alone. A part has admitted
+/// days of one block of 32 days. If the best of groups are asked for, not each of these days is a candidate, and all
+/// candidates are offered.
+pub fn scan_to_floor<S: FloorSink>(series: &Series, query: &Query, sink: &mut S)
+    ensures { sink.new ≡ fold S.taken sink.old (meaning.candidates query.now series.now) }
+{
+    match query.per() {
+        Per::Each => scan_contenders_to_floor(series, query, sink),
+        Per::Station | Per::Year => scan_groups(series, query, sink),
+    }
+}
+
+/// Offers each contender of the series once, by increasing first day.
+fn scan_contenders<S: Sink>(series: &Series, query: &Query, sink: &mut S)
+    ensures offered { sink.new ≡ fold S.taken sink.old (meaning.contenders query.now series.now) }
+    ensures series { IsSeries series.now }
 {
     let id = series.id();
     match query.score() {
@@ -33,27 +61,50 @@ pub fn scan<S: Sink>(series: &Series, query: &Query, sink: &mut S)
     }
 }
 
-/// Offers the candidates of the series by increasing first day, as `scan` does.
-///
-/// If no day of a part reaches the sink's floor, the sink is given the number of these days alone. A part has admitted
-/// days of one block of 32 days.
-pub fn scan_to_floor<S: FloorSink>(series: &Series, query: &Query, sink: &mut S)
-    ensures { sink.new ≡ fold S.taken sink.old (meaning.candidates query.now series.now) }
+/// Offers each contender of the series, but the days of parts that don't reach the sink's floor by their number.
+fn scan_contenders_to_floor<S: FloorSink>(series: &Series, query: &Query, sink: &mut S)
+    ensures { sink.new ≡ fold S.taken sink.old (meaning.contenders query.now series.now) }
 {
     let id = series.id();
     match query.score() {
         Score::Highest(_) => scan_blocks(id, series, query, Extreme::Highest, sink),
         Score::Lowest(_) => scan_blocks(id, series, query, Extreme::Lowest, sink),
-        Score::Sum(..) | Score::Dry | Score::Wet | Score::Hot(_) | Score::Cold(_) => scan(
-            series, query, sink,
-        ),
+        Score::Sum(..) | Score::Dry | Score::Wet | Score::Hot(_) | Score::Cold(_) =>
+            scan_contenders(series, query, sink),
     }
+}
+
+/// Offers the best contender of each group.
+#[inline(never)]
+fn scan_groups<S: Sink>(series: &Series, query: &Query, sink: &mut S)
+    ensures { sink.new ≡ fold S.taken sink.old (meaning.candidates query.now series.now) }
+{
+    let mut leading = Leading::of(query.per(), sink);
+    scan_to_leading(series, query, &mut leading);
+    let Leading {
+        per: _,
+        group,
+        sink,
+    } = leading;
+    if let Some(open) = group {
+        sink.offer(open.best);
+    }
+}
+
+/// Offers each contender of the series to what holds the best of the open group.
+fn scan_to_leading<S: Sink>(series: &Series, query: &Query, leading: &mut Leading<S>)
+    ensures same_sink { leading.new.sink.ghost_name ≡ leading.old.sink.ghost_name }
+    ensures held { (leading.new.group, leading.new.sink.now) ≡ fold (held_with leading.old.per S.taken)
+        (leading.old.group, leading.old.sink.now) (meaning.contenders query.now series.now) }
+    ensures series { IsSeries series.now }
+{
+    scan_contenders(series, query, leading);
 }
 
 /// Offers each admitted day, by the number that ranks it.
 fn scan_days<S: Sink>(id: StationId, series: &Series, query: &Query, extreme: Extreme, sink: &mut S)
     ensures { sink.new ≡ fold S.taken sink.old
-        (meaning.candidates_among id (meaning.Days (score_by extreme)) (meaning.admitted query.now series.now)) }
+        (meaning.contenders_among id (meaning.Days (score_by extreme)) (meaning.admitted query.now series.now)) }
 {
     let mut admitted = Admitted::of(series, query);
     while let Some(part) = admitted.next_part() {
@@ -70,7 +121,7 @@ fn scan_blocks<S: FloorSink>(
     sink: &mut S,
 )
     ensures { sink.new ≡ fold S.taken sink.old
-        (meaning.candidates_among id (meaning.Days (score_by extreme)) (meaning.admitted query.now series.now)) }
+        (meaning.contenders_among id (meaning.Days (score_by extreme)) (meaning.admitted query.now series.now)) }
 {
     let mut admitted = Admitted::of(series, query);
     while let Some(part) = admitted.next_part() {
@@ -84,7 +135,7 @@ fn scan_blocks<S: FloorSink>(
 #[inline(always)]
 fn offer_days<S: Sink>(id: StationId, part: BlockDays, extreme: Extreme, sink: &mut S)
     ensures { sink.new ≡ fold S.taken sink.old
-        (meaning.candidates_among id (meaning.Days (score_by extreme)) part.entry) }
+        (meaning.contenders_among id (meaning.Days (score_by extreme)) part.entry) }
 {
     for (day, value) in part {
         sink.offer(Candidate {

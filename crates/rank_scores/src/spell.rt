@@ -74,7 +74,7 @@ pub(crate) fn scan_spells<S: Sink>(
 )
     requires { IsTrue (can_be_asked spell) }
     ensures { sink.new ≡ fold S.taken sink.old
-        (meaning.candidates_among id (meaning.Spells (test_of spell)) (meaning.admitted query.now series.now)) }
+        (meaning.contenders_among id (meaning.Spells (test_of spell)) (meaning.admitted query.now series.now)) }
 {
     let mut run = Run::none();
     let mut admitted = Admitted::of(series, query);

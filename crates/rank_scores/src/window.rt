@@ -100,7 +100,7 @@ pub(crate) fn scan_windows<S: Sink>(
     requires some { 0 < n }
     requires few { n ≤ 366 }
     ensures { sink.new ≡ fold S.taken sink.old
-        (meaning.candidates_among id (meaning.Windows n) (meaning.admitted query.now series.now)) }
+        (meaning.contenders_among id (meaning.Windows n) (meaning.admitted query.now series.now)) }
 {
     let mut window = Window::empty();
     let mut ring = [0; PLACES];

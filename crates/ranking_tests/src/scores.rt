@@ -124,7 +124,7 @@ type Row = (&'static [Stretch], &'static str, &'static [(i32, i32, i64)]);
 // Day 2932896 is the last of the calendar, and alone in its block.
 
 #[rattlefmt::skip]
-const SCANS: [Row; 27] = [
+const SCANS: [Row; 32] = [
     // Windows over a block's edge, and spells.
     (&[(30, 1, "    1   "), (31, 1, "    2   "), (32, 1, "    3   "), (33, 1, "    4   ")], "top 9 sum 3 PRCP",
         &[(30, 32, 6), (31, 33, 9)]),
@@ -168,6 +168,16 @@ const SCANS: [Row; 27] = [
     (&[(30, 2, "   -5   "), (32, 2, "   -4   "), (34, 3, "-9998   ")], "top 9 cold -0.5", &[(30, 31, 2), (34, 36, 3)]),
     (&[(30, 2, " 1000   "), (32, 1, " 1001   "), (33, 1, "-9999   "), (34, 1, " -999   ")], "top 9 cold 100",
         &[(30, 31, 2), (34, 34, 1)]),
+    // The best of a station and of years: day 18261 is 2019-12-31.
+    (&[(18_260, 1, "   10   "), (18_261, 1, "   30   "), (18_262, 1, "   30   "), (18_263, 1, "   20   ")],
+        "top 9 highest PRCP per station", &[(18_261, 18_261, 30)]),
+    (&[(18_260, 1, "   10   "), (18_261, 1, "   30   "), (18_262, 2, "   20   "), (18_264, 1, "   10   ")],
+        "top 9 highest PRCP per year", &[(18_261, 18_261, 30), (18_262, 18_262, 20)]),
+    (&[(18_260, 4, "   10   "), (18_265, 2, "   10   ")], "top 9 wet per year",
+        &[(18_260, 18_263, 4), (18_265, 18_266, 2)]),
+    (&TURN_OF_THE_YEAR, "top 9 sum 3 PRCP per year", &[(18_259, 18_261, 90), (18_262, 18_264, 18)]),
+    (&[(-1, 1, "   10   "), (2_932_896, 1, "   10   ")], "top 9 lowest TMAX per year",
+        &[(-1, -1, -10), (2_932_896, 2_932_896, -10)]),
 ];
 
 /// What a sink that keeps the candidate of this place has after a scan of these days.

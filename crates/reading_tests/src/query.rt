@@ -6,7 +6,7 @@ mod faults;
 
 use admits::{admits_at, admits_number};
 use ghcn_files::{Element, StationId};
-use rank_query::{Query, Region, Score};
+use rank_query::{Per, Query, Region, Score};
 
 /// How many a query asks for, and its season.
 fn count_and_season(text: &str) -> Option<(u64, Option<(u8, u8)>)> {
@@ -68,6 +68,18 @@ fn seasons_of_queries(rt: HostRuntime) {
     for (text, months, days) in cases {
         assert_eq!(rt; season_of(text), Some((months, days)), "{text}");
     }
+}
+
+/// What the best alone is ranked of, in a query.
+fn group_of(text: &str) -> Option<Per> {
+    Some(Query::parse(text).ok()?.per())
+}
+
+#[test]
+fn groups_of_a_query(rt: HostRuntime) {
+    assert_eq!(rt; group_of("top 1 wet"), Some(Per::Each));
+    assert_eq!(rt; group_of("top 1 wet per station"), Some(Per::Station));
+    assert_eq!(rt; group_of("top 1 wet months 1..2 per year"), Some(Per::Year));
 }
 
 #[test]

@@ -306,7 +306,7 @@ fn helps_of_commands(rt: HostRuntime) -> Result<(), Fail> {
         ),
         (
             "rank",
-            "\n  top K SCORE [REGION] [SEASON] [PERIOD]    K is from 1 to 1000\n",
+            "\n  top K SCORE [REGION] [SEASON] [PERIOD] [GROUP]    K is from 1 to 1000\n",
         ),
         ("rank", "\n           sum N FALL "),
         ("rank", "--query 'top 5 sum 3 PRCP country GM' GM*.dly\n"),

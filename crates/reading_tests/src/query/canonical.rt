@@ -22,6 +22,11 @@ fn canonical_texts(rt: HostRuntime) {
         ("top 1 hot -100", "top 1 hot -100.0"),
         ("top 3  cold -010", "top 3 cold -10.0"),
         ("top 1 dry months 012..02", "top 1 dry months 12..2"),
+        ("top 09 wet  per year", "top 9 wet per year"),
+        (
+            "top 1 wet months 1..2 from 2020-07-01 to 2020-07-01 per  station",
+            "top 1 wet months 1..2 from 2020-07-01 to 2020-07-01 per station",
+        ),
         (
             "top 1 dry  days 12-15..01-15 ",
             "top 1 dry days 12-15..01-15",

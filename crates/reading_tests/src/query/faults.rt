@@ -212,6 +212,24 @@ fn first_fault_of_a_period(rt: HostRuntime) {
     }
 }
 
+#[test]
+fn first_fault_of_a_group(rt: HostRuntime) {
+    let cases = [
+        ("top 1 dry per station", None),
+        ("top 1 dry country ZZ months 1..2 per year", None),
+        ("top 1 dry per", Some(QueryEnds)),
+        ("top 1 dry per day", Some(UnexpectedWord(5))),
+        ("top 1 dry per years", Some(UnexpectedWord(5))),
+        ("top 1 dry per year per station", Some(UnexpectedWord(6))),
+        ("top 1 dry per year months 1..2", Some(UnexpectedWord(6))),
+        ("top 1 dry year", Some(UnexpectedWord(4))),
+        ("top 1 dry station per", Some(UnexpectedWord(5))),
+    ];
+    for (text, fault) in cases {
+        assert_eq!(rt; Query::parse(text).err(), fault, "at {text}");
+    }
+}
+
 /// The error of a query that has a word that many times between its front and its back.
 fn fault_of_long(
     alloc: Global,

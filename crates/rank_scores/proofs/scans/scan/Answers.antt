@@ -1,31 +1,11 @@
-use Rattle.std.proofs.Common.{ap, ◌∙◌, rules, FitsSigned, to_z-of_z, w32}
+use Rattle.std.proofs.Common.{ap, sym, ◌∙◌, List}
 use Rattle.std.specs.List.{fold}
-use Rattle.rank_query.specs.declared.score.Score.{Score}
-use Rattle.rank_scores.specs.Candidates.{shape, admitted, candidates_among}
+use Rattle.rank_scores.specs.declared.candidate.Candidate.{Candidate}
+use Rattle.rank_scores.proofs.Exactly.{each_stays}
 use Rattle.rank_scores.proofs.scans.scan.Goals as goal
 
--- single days are ranked by their value
-pub returns-in-Highest : goal.returns-in-Highest
-returns-in-Highest g c =
-    let days = admitted c.args.query.now c.args.series.now in
-    c.scan_days.ensures ∙ rw c.id-id.ensures.id
-    (ap (λ (sc : Score). fold g.S.Sink.taken c.args.sink.now
-    (candidates_among c.args.series.now.id (shape sc) days)) c.in-Highest.ensures.score)
-
--- hot spells are days of at least that many degrees
-pub returns-in-Hot : goal.returns-in-Hot
-returns-in-Hot g c =
-    let fits : FitsSigned w32 c.in-Hot.least = search rules in
-    let days = admitted c.args.query.now c.args.series.now in
-    c.scan_spells-in-Hot.ensures ∙ rw (c.id-id.ensures.id, to_z-of_z fits)
-    (ap (λ (sc : Score). fold g.S.Sink.taken c.args.sink.now
-    (candidates_among c.args.series.now.id (shape sc) days)) c.in-Hot.ensures.score)
-
--- cold spells are days of at most that many degrees
-pub returns-in-Cold : goal.returns-in-Cold
-returns-in-Cold g c =
-    let fits : FitsSigned w32 c.in-Cold.most = search rules in
-    let days = admitted c.args.query.now c.args.series.now in
-    c.scan_spells-in-Cold.ensures ∙ rw (c.id-id.ensures.id, to_z-of_z fits)
-    (ap (λ (sc : Score). fold g.S.Sink.taken c.args.sink.now
-    (candidates_among c.args.series.now.id (shape sc) days)) c.in-Cold.ensures.score)
+-- without groups each contender is a candidate
+pub returns-in-Each : goal.returns-in-Each
+returns-in-Each g c =
+    c.scan_contenders.ensures.offered ∙ ap (λ (cs : List Candidate). fold g.S.Sink.taken c.args.sink.now cs)
+    (sym (each_stays c.args.query.now c.args.series.now (sym c.per.ensures ∙ c.in-Each.is)))

@@ -1,6 +1,6 @@
 use Rattle.std.proofs.Common.{ap, ◌∙◌}
 use Rattle.std.specs.List.{fold}
-use Rattle.rank_scores.specs.Candidates.{Days, candidates_among}
+use Rattle.rank_scores.specs.Candidates.{Days, contenders_among}
 use Rattle.rank_scores.specs.Extremes.{score_by}
 use Rattle.rank_scores.proofs.LowDays.{takes-part}
 use Rattle.rank_scores.proofs.scans.scan_blocks.Goals as goal
@@ -13,7 +13,7 @@ loop-part-preserved-then-not-is_passed_over g c =
     c.loop-part.admitted c.in-Some.part c.next_part.new.self
     c.in-Some.ensures.some
     (c.offer_days.ensures
-    ∙ ap (λ s. fold g.S.Sink.taken s (candidates_among c.args.id (Days (score_by c.args.extreme)) c.in-Some.part)) kept)
+    ∙ ap (λ s. fold g.S.Sink.taken s (contenders_among c.args.id (Days (score_by c.args.extreme)) c.in-Some.part)) kept)
     ∙ c.loop-part.invariant
 
 -- or given by their number

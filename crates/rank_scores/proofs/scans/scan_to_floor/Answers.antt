@@ -1,13 +1,11 @@
-use Rattle.std.proofs.Common.{ap, ◌∙◌}
+use Rattle.std.proofs.Common.{ap, sym, ◌∙◌, List}
 use Rattle.std.specs.List.{fold}
-use Rattle.rank_query.specs.declared.score.Score.{Score}
-use Rattle.rank_scores.specs.Candidates.{shape, admitted, candidates_among}
+use Rattle.rank_scores.specs.declared.candidate.Candidate.{Candidate}
+use Rattle.rank_scores.proofs.Exactly.{each_stays}
 use Rattle.rank_scores.proofs.scans.scan_to_floor.Goals as goal
 
--- single days are ranked by their value
-pub returns-in-Highest : goal.returns-in-Highest
-returns-in-Highest g c =
-    let days = admitted c.args.query.now c.args.series.now in
-    c.scan_blocks.ensures ∙ rw c.id-id.ensures.id
-    (ap (λ (sc : Score). fold g.S.Sink.taken c.args.sink.now
-    (candidates_among c.args.series.now.id (shape sc) days)) c.in-Highest.ensures.score)
+-- without groups each contender is a candidate
+pub returns-in-Each : goal.returns-in-Each
+returns-in-Each g c =
+    c.scan_contenders_to_floor.ensures ∙ ap (λ (cs : List Candidate). fold g.S.Sink.taken c.args.sink.now cs)
+    (sym (each_stays c.args.query.now c.args.series.now (sym c.per.ensures ∙ c.in-Each.is)))

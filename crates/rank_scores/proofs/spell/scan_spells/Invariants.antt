@@ -1,7 +1,7 @@
 use Rattle.std.proofs.Common.{◌≡◌, ◌++◌, length}
 use Rattle.std.specs.Prelude.{filter}
 use Rattle.std.specs.List.{fold}
-use Rattle.rank_scores.specs.Candidates.{Spells, admitted, candidates_among}
+use Rattle.rank_scores.specs.Candidates.{Spells, admitted, contenders_among}
 use Rattle.rank_scores.specs.Candidates.{test_of}
 use Rattle.rank_scores.specs.Spells.{open_spell}
 use Rattle.rank_scores.proofs.SpellDays.{offered_of_kind}
@@ -12,7 +12,7 @@ abbrev pub invariant-loop-part : goal.invariant-loop-part
 invariant-loop-part g l =
     fold g.S.Sink.taken l.sink (offered_of_kind l.id (open_spell l.run.is_open l.run.first l.run.last)
     (filter (λ x. test_of l.spell x.1) l.admitted))
-    ≡ fold g.S.Sink.taken l.fn.sink (candidates_among l.id (Spells (test_of l.spell)) (admitted l.query l.series))
+    ≡ fold g.S.Sink.taken l.fn.sink (contenders_among l.id (Spells (test_of l.spell)) (admitted l.query l.series))
 
 -- each part takes a day at least
 abbrev pub decreases-loop-part : goal.decreases-loop-part
@@ -23,7 +23,7 @@ abbrev pub invariant-loop-first : goal.invariant-loop-first
 invariant-loop-first g l =
     fold g.S.Sink.taken l.sink (offered_of_kind l.id (open_spell l.run.is_open l.run.first l.run.last)
     (l.part ++ filter (λ x. test_of l.spell x.1) l.admitted))
-    ≡ fold g.S.Sink.taken l.fn.sink (candidates_among l.id (Spells (test_of l.spell)) (admitted l.query l.series))
+    ≡ fold g.S.Sink.taken l.fn.sink (contenders_among l.id (Spells (test_of l.spell)) (admitted l.query l.series))
 
 -- each run takes a day at least
 abbrev pub decreases-loop-first : goal.decreases-loop-first

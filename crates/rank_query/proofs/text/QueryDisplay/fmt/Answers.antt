@@ -6,4 +6,4 @@ use Rattle.rank_query.proofs.text.QueryDisplay.fmt.Goals as goal
 pub returns-clause-writes : goal.returns-clause-writes
 returns-clause-writes g c = λ plain ok.
     has_written_of_eq _ _ _ _ _ (printed-is c.args.self.now.k c.args.self.now.score c.args.self.now.region
-    c.args.self.now.season c.args.self.now.period) (grind (arith, common_steps))
+    c.args.self.now.season c.args.self.now.period c.args.self.now.per) (grind (arith, common_steps))

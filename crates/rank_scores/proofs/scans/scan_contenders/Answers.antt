@@ -1,0 +1,31 @@
+use Rattle.std.proofs.Common.{ap, ◌∙◌, rules, FitsSigned, to_z-of_z, w32}
+use Rattle.std.specs.List.{fold}
+use Rattle.rank_query.specs.declared.score.Score.{Score}
+use Rattle.rank_scores.specs.Candidates.{shape, admitted, contenders_among}
+use Rattle.rank_scores.proofs.scans.scan_contenders.Goals as goal
+
+-- single days are ranked by their value
+pub returns-in-Highest-clause-offered : goal.returns-in-Highest-clause-offered
+returns-in-Highest-clause-offered g c =
+    let days = admitted c.args.query.now c.args.series.now in
+    c.scan_days.ensures ∙ rw c.id-id.ensures.id
+    (ap (λ (sc : Score). fold g.S.Sink.taken c.args.sink.now
+    (contenders_among c.args.series.now.id (shape sc) days)) c.in-Highest.ensures.score)
+
+-- hot spells are days of at least that many degrees
+pub returns-in-Hot-clause-offered : goal.returns-in-Hot-clause-offered
+returns-in-Hot-clause-offered g c =
+    let fits : FitsSigned w32 c.in-Hot.least = search rules in
+    let days = admitted c.args.query.now c.args.series.now in
+    c.scan_spells-in-Hot.ensures ∙ rw (c.id-id.ensures.id, to_z-of_z fits)
+    (ap (λ (sc : Score). fold g.S.Sink.taken c.args.sink.now
+    (contenders_among c.args.series.now.id (shape sc) days)) c.in-Hot.ensures.score)
+
+-- cold spells are days of at most that many degrees
+pub returns-in-Cold-clause-offered : goal.returns-in-Cold-clause-offered
+returns-in-Cold-clause-offered g c =
+    let fits : FitsSigned w32 c.in-Cold.most = search rules in
+    let days = admitted c.args.query.now c.args.series.now in
+    c.scan_spells-in-Cold.ensures ∙ rw (c.id-id.ensures.id, to_z-of_z fits)
+    (ap (λ (sc : Score). fold g.S.Sink.taken c.args.sink.now
+    (contenders_among c.args.series.now.id (shape sc) days)) c.in-Cold.ensures.score)

@@ -1,0 +1,27 @@
+-- Groups of contenders, of each of which the best alone is a candidate.
+use Rattle.std.specs.Prelude.{Bool, true, false, not, ◌&&◌, ◌==◌, List, filter, ℤ}
+use Rattle.std.specs.List.{list_any}
+use Rattle.ghcn_fields.specs.Dates.{civil}
+use Rattle.ghcn_files.specs.Ids.{same_id}
+use Rattle.rank_query.specs.declared.per.Per.{Per}
+use Rattle.rank_query.specs.declared.per.Per.TheVariants.{Each, Station, Year}
+use Rattle.rank_scores.specs.declared.candidate.Candidate.{Candidate}
+use Rattle.rank_scores.specs.Order.{precedes}
+
+-- contenders of one station that begin on these days are of one group
+abbrev pub same_group : Per → ℤ → ℤ → Bool
+same_group Each a b = false
+same_group Station a b = true
+same_group Year a b = (civil a).0 == (civil b).0
+
+-- of two such contenders at most one is a candidate
+abbrev pub are_rivals : Per → Candidate → Candidate → Bool
+are_rivals per a b = same_group per a.first b.first && same_id a.id b.id
+
+-- a rival precedes the contender
+abbrev pub is_outdone : Per → List Candidate → Candidate → Bool
+is_outdone per all c = list_any (λ d. are_rivals per d c && precedes d c) all
+
+-- the contenders that no rival precedes
+abbrev pub leaders : Per → List Candidate → List Candidate
+leaders per all = filter (λ c. not (is_outdone per all c)) all
