@@ -11,7 +11,8 @@ ghost use Rattle.rank_query.specs.Reading as reading;
 ghost use Rattle.rank_query.specs.Words.{words_of};
 
 use crate::values::{
-    code, date, dates, degrees, element, fall, group, heat, keyword, months, needed, number, temperature,
+    code, date, dates, degrees, element, fall, group, heat, keyword, months, needed, number,
+    temperature,
 };
 use crate::words::Words;
 use crate::{Per, Query, QueryFault, Region, Score, Season};

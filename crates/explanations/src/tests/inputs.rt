@@ -80,7 +80,7 @@ const OTHERS: [(Fault, &str); 13] = [
     ),
     (
         Fault::QueryEnds,
-        "top 3 lowest PRCP: one of box country state station months from has to follow",
+        "top 3 lowest PRCP: one of box country state station months days from per has to follow",
     ),
     (
         Fault::OutOfLimits(2),

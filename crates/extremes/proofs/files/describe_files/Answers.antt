@@ -1,4 +1,4 @@
-use Rattle.std.proofs.Common.{ℕ, true, List, [], Global, String, map, sym, subst}
+use Rattle.std.proofs.Common.{ℕ, true, List, Global, String, map, sym, subst}
 use Rattle.std.specs.Prelude.{string_bytes}
 use Rattle.rank_input.specs.Feeding.{AreAllOf, AreOpened, FeedsFiles, IsTried, StopsAt}
 use Rattle.rank_input.proofs.Openings.{stops-first, stops-later}
