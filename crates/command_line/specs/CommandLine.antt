@@ -54,6 +54,10 @@ whole_number = Signed (negsuc 9223372036854775807) (pos 9223372036854775807)
 abbrev pub whole_count : ValueParser
 whole_count = Unsigned 0 18446744073709551615
 
+-- the values that are numbers of threads that may read
+abbrev pub few_readers : ValueParser
+few_readers = Unsigned 1 64
+
 -- what comes after them under a name, as many as there are
 abbrev pub many_of : Text → Rule
 many_of name = record (new_rule name) {
@@ -84,14 +88,15 @@ merge_app = with_rule (with_rule (with_rule (new_app (codes "merge"))
     (required (option_of (codes "query"))))
     (option_of (codes "certificate"))) (many_of (codes "papers"))
 
--- `check` with its options, all of which must be given, its flag and files
+-- `check` with its options, of which all but the number of workers must be given, its flag and files
 abbrev pub check_app : App
-check_app = and_files (with_rule (with_rule (with_rule (with_rule (with_rule (new_app (codes "check"))
+check_app = and_files (with_rule (with_rule (with_rule (with_rule (with_rule (with_rule (new_app (codes "check"))
     (required (option_of (codes "stations"))))
     (required (option_of (codes "query"))))
     (required (option_of (codes "report"))))
     (required (option_of (codes "certificate"))))
     (flag_of (codes "part")))
+    (parsed few_readers (option_of (codes "workers"))))
 
 -- `describe` with its option, which must be given, and files
 abbrev pub describe_app : App
@@ -204,6 +209,7 @@ IsCheck rows (Check asked) = (string_bytes asked.stations ≡ unwrap_or (first_o
     × (string_bytes asked.report ≡ unwrap_or (first_of (codes "report") rows) [])
     × (string_bytes asked.certificate ≡ unwrap_or (first_of (codes "certificate") rows) [])
     × IsFlag (one_of (codes "part") rows) asked.part
+    × AreWorkers (one_of (codes "workers") rows) asked.workers
     × AreFiles rows asked.files
 
 -- the same for a subcommand that describes files

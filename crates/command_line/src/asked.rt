@@ -18,7 +18,7 @@ pub enum Command {
 pub struct RankArguments {
     pub stations: String,
     pub query: String,
-    /// How many workers look for records; 1 to 64 may run.
+    /// How many threads may read the files, and then look for records; 1 to 64 may run.
     pub workers: u64,
     /// A score, in the raw unit of the data, that the k-th best record should reach.
     pub guess: Option<i64>,
@@ -46,6 +46,8 @@ pub struct CheckArguments {
     pub certificate: String,
     /// Whether the files are a part of those that the report and the certificate cover.
     pub part: bool,
+    /// How many threads may read the files, 1 to 64.
+    pub workers: u64,
     pub files: NamedFiles,
 }
 

@@ -4,7 +4,7 @@ ghost use Rattle.std.specs.Prelude.{◌≡◌, ◌≢◌, IfOk, IfErr, IfSome, I
 ghost use Rattle.clap.specs.Words.{app_of, first_of, one_of, kind_of, found_of, rows_of, rule_of, subcommand_rows_of};
 ghost use Rattle.clap.specs.declared.builder.Command.TheViews.{out-Command as fields_of};
 ghost use Rattle.command_line.specs.CommandLine.{extremes_app, rank_app, merge_app, check_app, describe_app};
-ghost use Rattle.command_line.specs.CommandLine.{option_of, flag_of, required, many_of, is_global, and_files};
+ghost use Rattle.command_line.specs.CommandLine.{option_of, flag_of, required, parsed, many_of, is_global, and_files, few_readers};
 ghost use Rattle.command_line.specs.CommandLine.{all_words, AreRightWords, FitTogether, AreInPairs, HasListIfNull};
 ghost use Rattle.command_line.specs.CommandLine.{IsCommandOf, IsName, IsCommand, IsRank, IsMerge, IsCheck, IsDescribe};
 ghost use Rattle.command_line.specs.CommandLine.{AreFiles, IsFlag, paths_of};
@@ -19,15 +19,19 @@ use crate::asked::{
 use crate::help::{
     CERTIFICATE_HELP, CHECK_HELP, DESCRIBE_HELP, FILES_HELP, GUESS_HELP, HELP, LIST_HELP,
     MERGE_HELP, MERGE_USAGE, MERGED_CERTIFICATE_HELP, NULL_HELP, NULL_WITHOUT_LIST, ODD_PAPERS,
-    PAPERS_HELP, PART_HELP, PROGRESS_HELP, QUERY_HELP, RANK_HELP, STATIONS_HELP, USAGE, VERSION,
-    WORKERS_HELP,
+    PAPERS_HELP, PART_HELP, PROGRESS_HELP, QUERY_HELP, RANK_HELP, READERS_HELP, STATIONS_HELP,
+    USAGE, VERSION, WORKERS_HELP,
 };
+use clap::builder::ValueParser;
 use clap::error::ErrorKind;
 use clap::{Arg, ArgAction, ArgMatches, Error, value_parser};
 use std::alloc::{AllocError, Global};
 
 /// How many workers there are if the arguments don't say.
 const WORKERS: u64 = 4;
+
+/// The most threads that read.
+const MOST_READERS: u64 = 64;
 
 /// The command that the arguments ask for: the sample if there are none.
 pub fn command(alloc: Global, words: Vec<String>) -> Result<Command, CommandFault>
@@ -179,7 +183,8 @@ fn check_words<'a>(alloc: Global) -> Result<clap::Command<'a>, AllocError>
         .arg(needed(alloc, "query", "QUERY", QUERY_HELP))?
         .arg(needed(alloc, "report", "FILE", "The report"))?
         .arg(needed(alloc, "certificate", "FILE", "The certificate"))?
-        .arg(flag(alloc, "part", PART_HELP))?;
+        .arg(flag(alloc, "part", PART_HELP))?
+        .arg(readers(alloc))?;
     with_files(alloc, check)
 }
 
@@ -229,6 +234,14 @@ fn needed<'a>(alloc: Global, name: &'a str, value: &'a str, help: &'a str) -> Ar
     ensures local { is_global result ≡ false }
 {
     option(alloc, name, value, help).required(true)
+}
+
+/// The option of how many threads may read.
+fn readers<'a>(alloc: Global) -> Arg<'a>
+    ensures rule { rule_of result ≡ parsed few_readers (option_of (codes "workers")) }
+    ensures local { is_global result ≡ false }
+{
+    option(alloc, "workers", "N", READERS_HELP).value_parser(ValueParser::unsigned(1, MOST_READERS))
 }
 
 /// A flag, which may be given once.
@@ -301,6 +314,7 @@ fn check_of(alloc: Global, matches: &ArgMatches) -> Result<Command, CommandFault
         report: text(alloc, matches, "report")?,
         certificate: text(alloc, matches, "certificate")?,
         part: is_given(matches, "part"),
+        workers: matches.get_one("workers").unwrap_or(WORKERS),
         files,
     }))
 }

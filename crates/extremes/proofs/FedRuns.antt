@@ -11,8 +11,6 @@ use Rattle.rank_input.specs.declared.fault.Fault.TheVariants.{Memory}
 use Rattle.ghcn_files.specs.declared.element.Keep.{Keep}
 use Rattle.ghcn_description.specs.declared.describer.RowDescriber.{RowDescriber}
 use Rattle.ghcn_description.specs.Describing.{HasDescribedByRows}
-use Rattle.ghcn_series.specs.declared.rows.RowReader.{RowReader}
-use Rattle.ghcn_series.specs.Gathered.{HasReadByRows}
 use Rattle.rank_input.specs.declared.intake.Intake.{Intake}
 use Rattle.rank_input.specs.declared.question.Question.{Question}
 use Rattle.extremes.specs.declared.papers.Papers.{Papers}
@@ -22,10 +20,10 @@ use Rattle.rank_input.specs.Takes as takes
 use Rattle.rank_input.specs.Takes.{file_input, RefusesTaken}
 use Rattle.rank_input.specs.Taken.{given, HasTaken, AreWarningsOf, RefusesInput}
 use Rattle.rank_input.specs.Feeding.{AreAllOf, AreFilesOf, AreOpened, FeedsFiles, Opening}
+use Rattle.rank_input.specs.Shares.{AsksWhole}
 use Rattle.rank_input.proofs.Openings.{opened-for, opened-both}
 use Rattle.ghcn_fields.specs.Refusals.{IsRefusal}
 use Rattle.rank_input.proofs.Feedings.{input-files}
-use Rattle.rank_input.proofs.Questions.{with_intake, files_given}
 use Rattle.extremes.specs.Runs.{AnswersInput, CrewsInput, RanksInput, JudgesInputAs}
 use Rattle.extremes.specs.Runs.{bytes_named, IsRanked, IsRankedAlone, RanksFiles, IsJudgement, JudgesFiles}
 use Rattle.extremes.specs.Runs.{ranking_paths, judging_paths}
@@ -81,26 +79,23 @@ words-input t workers guess fault is = record {
   is = λ i taken. words_refuse workers guess i.query i.stations (files_of i.files) fault is;
 }
 
--- the ranking of a question whose intake was fed all files that are named
-pub ranks-files : (bytes_of : Known) (opens : Opening) (r : Ranking) (t : Question) (fed_to : Intake RowReader) (query list stations : List ℕ)
+-- the ranking of a question that was given all files that are named
+pub ranks-files : (bytes_of : Known) (opens : Opening) (r : Ranking) (t : Question) (query list stations : List ℕ)
     (answer : Result Papers Fault) (warnings : Warnings) → query ≡ string_bytes r.query
-    → list ≡ string_bytes r.stations → AreAllOf (bytes_of list) stations → HasTaken t (given query stations [])
-    → FeedsFiles HasReadByRows t.files fed_to (map (bytes_named bytes_of) r.files.items)
-    → RanksInput (with_intake t fed_to) r.workers r.guess answer
-    → IfOk answer (λ papers. AreWarningsOf (with_intake t fed_to) warnings) → opens list true
-    → AreOpened opens (map string_bytes r.files.items) → RanksFiles bytes_of opens r answer warnings
-ranks-files bytes_of opens r t fed_to query list stations answer warnings same_query same_list whole taken fed ranks told first others =
-    let all = files_given t fed_to _ query stations fed taken in
+    → list ≡ string_bytes r.stations → AreAllOf (bytes_of list) stations
+    → AsksWhole bytes_of opens query stations r.files.items t → RanksInput t r.workers r.guess answer
+    → IfOk answer (λ papers. AreWarningsOf t warnings) → opens list true → RanksFiles bytes_of opens r answer warnings
+ranks-files bytes_of opens r t query list stations answer warnings same_query same_list whole asks ranks told first =
     record {
       opened = opened-for is_memory opens (ranking_paths r) answer
-          (subst (λ (l : List ℕ). opens l true) same_list first, others);
+          (subst (λ (l : List ℕ). opens l true) same_list first, asks.opened);
       stations = stations;
       whole = subst (λ (l : List ℕ). AreAllOf (bytes_of l) stations) same_list whole;
-      files = fed.files;
-      all = fed.all;
-      ranked = subst (λ (q : List ℕ). IsRanked r.workers r.guess q stations fed.files answer) same_query
-          (ranks.is (given query stations fed.files) all);
-      told = IfOk-weaker answer _ _ (λ papers are. are.is (given query stations fed.files) all) told;
+      files = asks.files;
+      all = asks.all;
+      ranked = subst (λ (q : List ℕ). IsRanked r.workers r.guess q stations asks.files answer) same_query
+          (ranks.is (given query stations asks.files) asks.taken);
+      told = IfOk-weaker answer _ _ (λ papers are. are.is (given query stations asks.files) asks.taken) told;
     }
 
 -- what is said for a question, or its error, is said for its texts
@@ -114,34 +109,30 @@ judged-is part t query stations files report certificate (Ok judged) taken ok to
 judged-is part t query stations files report certificate (Err fault) taken ok told err =
     err.is (given query stations files) taken
 
--- the judgement of a report and a certificate for a question whose intake was fed all files that are named
-pub judges-files : (bytes_of : Known) (opens : Opening) (j : Judging) (t : Question) (fed_to : Intake RowReader) (query list stations report certificate : List ℕ)
-    (answer : Result (Judgement × Warnings) Fault) → query ≡ string_bytes j.query
-    → list ≡ string_bytes j.stations → AreAllOf (bytes_of list) stations
+-- the judgement of a report and a certificate for a question that was given all files that are named
+pub judges-files : (bytes_of : Known) (opens : Opening) (j : Judging) (t : Question)
+    (query list stations report certificate : List ℕ) (answer : Result (Judgement × Warnings) Fault)
+    → query ≡ string_bytes j.query → list ≡ string_bytes j.stations → AreAllOf (bytes_of list) stations
     → AreBothOf (known_part bytes_of j.papers) (report, certificate)
-    → HasTaken t (given query stations [])
-    → FeedsFiles HasReadByRows t.files fed_to (map (bytes_named bytes_of) j.files.items)
-    → IfOk answer (λ judged. JudgesInputAs j.part (with_intake t fed_to) report certificate judged.0)
-    → IfOk answer (λ judged. AreWarningsOf (with_intake t fed_to) judged.1)
-    → IfErr answer (RefusesInput (with_intake t fed_to)) → opens list true
-    → AreOpened opens (part_paths j.papers) → AreOpened opens (map string_bytes j.files.items)
-    → JudgesFiles bytes_of opens j answer
-judges-files bytes_of opens j t fed_to query list stations report certificate answer same_query same_list whole papers taken
-    fed ok told err first both others =
-    let given_all = files_given t fed_to _ query stations fed taken in
+    → AsksWhole bytes_of opens query stations j.files.items t
+    → IfOk answer (λ judged. JudgesInputAs j.part t report certificate judged.0)
+    → IfOk answer (λ judged. AreWarningsOf t judged.1) → IfErr answer (RefusesInput t) → opens list true
+    → AreOpened opens (part_paths j.papers) → JudgesFiles bytes_of opens j answer
+judges-files bytes_of opens j t query list stations report certificate answer same_query same_list whole papers asks ok
+    told err first both =
     record {
       opened = opened-for is_memory opens (judging_paths j) answer (
         subst (λ (l : List ℕ). opens l true) same_list first,
-        opened-both opens (part_paths j.papers) (map string_bytes j.files.items) both others,
+        opened-both opens (part_paths j.papers) (map string_bytes j.files.items) both asks.opened,
       );
       stations = stations;
       whole = subst (λ (l : List ℕ). AreAllOf (bytes_of l) stations) same_list whole;
       papers = (report, certificate);
       papers_whole = papers;
-      files = fed.files;
-      all = fed.all;
-      judged = subst (λ (q : List ℕ). IsJudgement j.part q stations fed.files report certificate answer) same_query
-          (judged-is j.part (with_intake t fed_to) query stations fed.files report certificate answer given_all ok told err);
+      files = asks.files;
+      all = asks.all;
+      judged = subst (λ (q : List ℕ). IsJudgement j.part q stations asks.files report certificate answer) same_query
+          (judged-is j.part t query stations asks.files report certificate answer asks.taken ok told err);
     }
 
 -- what a describer returns, or its error, is that of its files

@@ -152,6 +152,7 @@ IsJudgingRun bytes_of opens names_of line s asked ending =
       stations = asked.stations;
       files = paths;
       query = asked.query;
+      workers = asked.workers;
       papers = record { report = asked.report; certificate = asked.certificate };
       part = asked.part;
     }) asked.files) ending

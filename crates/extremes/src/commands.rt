@@ -36,7 +36,7 @@ use std::time::Clock;
 /// to the file of a path, if one is named.
 pub(crate) fn run_ranking<
     R: Threads + Wait + AllocGlobal + Clock + Eprint + Sync,
-    A: Archive,
+    A: Archive<File: Send> + Sync,
     M: Messages,
     T: Target,
     W: Write,
@@ -92,7 +92,7 @@ pub(crate) fn run_ranking<
 /// if one is named.
 fn rank_named<
     R: Threads + Wait + AllocGlobal + Clock + Eprint + Sync,
-    A: Archive,
+    A: Archive<File: Send> + Sync,
     M: Messages,
     T: Target,
     W: Write,
@@ -180,8 +180,8 @@ pub(crate) fn run_merging<A: Archive, M: Messages, T: Target, W: Write>(
 /// Names the files that a check asks for, checks the report and the certificate against them, and
 /// prints the verdict.
 pub(crate) fn run_judging<
-    R: AllocGlobal + Clock + Eprint + Sync,
-    A: Archive,
+    R: Threads + AllocGlobal + Clock + Eprint + Sync,
+    A: Archive<File: Send> + Sync,
     M: Messages,
     W: Write,
 >(
@@ -202,6 +202,7 @@ pub(crate) fn run_judging<
         report,
         certificate,
         part,
+        workers,
         files: named,
     } = asked;
     let files = match daily_files(rt.alloc(), archive, &named) {
@@ -216,6 +217,7 @@ pub(crate) fn run_judging<
         stations,
         files,
         query,
+        workers,
         papers,
         part,
     };
@@ -223,7 +225,12 @@ pub(crate) fn run_judging<
 }
 
 /// Checks a report and a certificate against files that are named, and prints the verdict.
-fn judge_named<R: AllocGlobal + Clock + Eprint + Sync, A: Archive, M: Messages, W: Write>(
+fn judge_named<
+    R: Threads + AllocGlobal + Clock + Eprint + Sync,
+    A: Archive<File: Send> + Sync,
+    M: Messages,
+    W: Write,
+>(
     rt: &R,
     archive: &A,
     judging: &Judging,

@@ -45,6 +45,8 @@ pub(crate) struct Judging {
     pub(crate) stations: String,
     pub(crate) files: Vec<String>,
     pub(crate) query: String,
+    /// How many threads may read the files.
+    pub(crate) workers: u64,
     pub(crate) papers: Part,
     /// Whether the files are a part of those that the report and the certificate cover.
     pub(crate) part: bool,
@@ -59,7 +61,7 @@ pub(crate) struct Describing {
 
 /// Reads the station list and then the daily files in order, and ranks them, or returns the path of
 /// the first file that can't be read.
-pub(crate) fn rank_files<'p, R: Threads + Wait + AllocGlobal + Sync, A: Archive>(
+pub(crate) fn rank_files<'p, R: Threads + Wait + AllocGlobal + Sync, A: Archive<File: Send> + Sync>(
     rt: &R,
     archive: &A,
     ranking: &'p Ranking,
@@ -75,8 +77,15 @@ pub(crate) fn rank_files<'p, R: Threads + Wait + AllocGlobal + Sync, A: Archive>
     let Ok(mut room) = piece_room(alloc) else {
         return Ok(rank::without_data(Fault::Memory(Memory)));
     };
-    let mut question = Question::new(alloc, &ranking.query, &stations);
-    feed_files(archive, &mut question.files, &ranking.files, &mut room)?;
+    let question = Question::of_paths(
+        rt,
+        archive,
+        &ranking.query,
+        &stations,
+        &ranking.files,
+        ranking.workers,
+        &mut room,
+    )?;
     Ok(rank_fed(rt, question, ranking.workers, ranking.guess))
 }
 
@@ -166,14 +175,15 @@ fn read_part<'p, A: Archive>(
 /// Reads the station list, the report, the certificate and then the daily files in order. Then it checks the
 /// report and the certificate, as those of a whole if the files are a part of one, and returns the foreign
 /// files and the odd lines too. Or it returns the path of the first file that can't be read.
-pub(crate) fn judge_files<'p, A: Archive>(
-    alloc: Global,
+pub(crate) fn judge_files<'p, R: Threads + AllocGlobal + Sync, A: Archive<File: Send> + Sync>(
+    rt: &R,
     archive: &A,
     judging: &'p Judging,
 ) -> Result<Result<(Judgement, Warnings), Fault>, &'p str>
     ensures judges { IfOk result (JudgesFiles (A.bytes_of archive.now) (A.opens archive.now) judging.now) }
     ensures stopped { IfErr result (λ path. StopsAt (A.opens archive.now) (judging_paths judging.now) path.now) }
 {
+    let alloc = rt.alloc();
     let Ok(stations) = read_whole(alloc, archive, &judging.stations) else {
         return Err(&judging.stations);
     };
@@ -181,8 +191,15 @@ pub(crate) fn judge_files<'p, A: Archive>(
     let Ok(mut room) = piece_room(alloc) else {
         return Ok(Err(Fault::Memory(Memory)));
     };
-    let mut question = Question::new(alloc, &judging.query, &stations);
-    feed_files(archive, &mut question.files, &judging.files, &mut room)?;
+    let question = Question::of_paths(
+        rt,
+        archive,
+        &judging.query,
+        &stations,
+        &judging.files,
+        judging.workers,
+        &mut room,
+    )?;
     Ok(judge_as(
         alloc,
         question,

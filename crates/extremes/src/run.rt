@@ -31,10 +31,17 @@ use std::{env, io};
 
 /// Runs the command that the process's arguments ask for. If people read standard error, as on a
 /// terminal, words for them follow its lines.
-pub fn run<R: Files + Env + Print + Eprint + Threads + Wait + AllocGlobal + Clock + Sync>(
-    rt: &R,
-    is_read: bool,
-) -> Ending {
+pub fn run<
+    R: Files<File: Send, Dir: Send>
+        + Env
+        + Print
+        + Eprint
+        + Threads
+        + Wait
+        + AllocGlobal
+        + Clock
+        + Sync,
+>(rt: &R, is_read: bool) -> Ending {
     let (_input, _output, _errors) = (placeholder(rt), placeholder(rt), placeholder(rt));
     let mut messages = SystemMessages(rt);
     let words = match words_after_name(rt) {
@@ -68,7 +75,7 @@ pub fn run<R: Files + Env + Print + Eprint + Threads + Wait + AllocGlobal + Cloc
 /// Runs a command, and then prints words for people, if they read standard error.
 fn run_for_people<
     R: Threads + Wait + AllocGlobal + Clock + Eprint + Sync,
-    A: Archive,
+    A: Archive<File: Send> + Sync,
     M: Messages,
     T: Target,
     W: Write,
@@ -112,7 +119,7 @@ fn print_words<M: Messages>(messages: &mut M, words: &str)
 /// goes to a target, and the other lines go to standard error.
 pub(crate) fn run_command<
     R: Threads + Wait + AllocGlobal + Clock + Eprint + Sync,
-    A: Archive,
+    A: Archive<File: Send> + Sync,
     M: Messages,
     T: Target,
     W: Write,

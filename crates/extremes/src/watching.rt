@@ -17,12 +17,11 @@ use std::thread::Threads;
 use std::time::Clock;
 
 /// Ranks files, or returns the path of the first that can't be read.
-pub(crate) fn rank_watched<'p, R: Threads + Wait + AllocGlobal + Clock + Eprint + Sync, A: Archive>(
-    rt: &R,
-    archive: &A,
-    ranking: &'p Ranking,
-    shows: bool,
-) -> Result<Ranked, &'p str>
+pub(crate) fn rank_watched<
+    'p,
+    R: Threads + Wait + AllocGlobal + Clock + Eprint + Sync,
+    A: Archive<File: Send> + Sync,
+>(rt: &R, archive: &A, ranking: &'p Ranking, shows: bool) -> Result<Ranked, &'p str>
     ensures ranks { IfOk result (λ ranked.
         RanksFiles (A.bytes_of archive.now) (A.opens archive.now) ranking.now ranked.answer ranked.warnings) }
     ensures stopped { IfErr result (λ path. StopsAt (A.opens archive.now) (ranking_paths ranking.now) path.now) }
@@ -39,7 +38,11 @@ pub(crate) fn rank_watched<'p, R: Threads + Wait + AllocGlobal + Clock + Eprint 
 }
 
 /// Checks a report and a certificate, or returns the path of the first file that can't be read.
-pub(crate) fn judge_watched<'p, R: AllocGlobal + Clock + Eprint + Sync, A: Archive>(
+pub(crate) fn judge_watched<
+    'p,
+    R: Threads + AllocGlobal + Clock + Eprint + Sync,
+    A: Archive<File: Send> + Sync,
+>(
     rt: &R,
     archive: &A,
     judging: &'p Judging,
@@ -59,7 +62,7 @@ pub(crate) fn judge_watched<'p, R: AllocGlobal + Clock + Eprint + Sync, A: Archi
         archive,
         watch: &watch,
     };
-    let judged = judge_files(rt.alloc(), &watched, judging);
+    let judged = judge_files(rt, &watched, judging);
     watch.end();
     judged
 }

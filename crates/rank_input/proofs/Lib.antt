@@ -8,3 +8,4 @@ pub mod Questions
 pub mod Openings
 pub mod Naming
 pub mod NamingFolders
+pub mod TakenShares

@@ -5,3 +5,4 @@ pub mod Feeding
 pub mod FaultTexts
 pub mod Named
 pub mod NamingStops
+pub mod Shares

@@ -9,6 +9,7 @@ mod intake;
 mod limits;
 mod named;
 mod question;
+mod shares;
 
 pub use archive::{Archive, Place, System, feed, feed_files, piece_room, read_whole};
 pub use fault::Fault;
@@ -16,3 +17,4 @@ pub use intake::Intake;
 pub use limits::{check_words, workers_for};
 pub use named::{NotNamed, list_path, name_files};
 pub use question::{Question, TakenInput};
+pub use shares::{Daily, take_files};

@@ -1,15 +1,22 @@
 //! What a run is asked, beside the files that it is asked of.
 
-ghost use Rattle.std.specs.Prelude.{[], IfOk, IfErr, map};
+ghost use Rattle.std.specs.Prelude.{◌≡◌, [], IfOk, IfErr, map, string_bytes};
+ghost use Rattle.ghcn_files.specs.Elements.{only};
+ghost use Rattle.rank_query.specs.Asked.{score_element};
+ghost use Rattle.rank_input.specs.Feeding.{StopsAt};
+ghost use Rattle.rank_input.specs.Shares.{AsksWhole};
 ghost use Rattle.rank_input.specs.Taken.{given, HasTaken, HasTakenSome};
 ghost use Rattle.rank_input.specs.Taken.{AreWarningsOf, HoldsInput, RefusesInput, ReportsQuery};
 
+use crate::archive::{Archive, feed_files};
 use crate::fault::Fault;
 use crate::intake::Intake;
+use crate::shares::{Daily, take_files};
 use ghcn_files::Keep;
 use ghcn_series::{Data, RowReader, Warnings};
 use rank_query::Query;
 use std::alloc::Global;
+use std::thread::Threads;
 
 /// What a run is asked, and what was read of all that it was given.
 #[derive(Drop)]
@@ -38,10 +45,10 @@ impl Question {
     {
         match Query::parse(query) {
             Ok(query) => {
-                let keep = Keep::nothing().with(query.element());
+                let files = Intake::new(alloc, stations, needed(&query));
                 Question {
                     query: Ok(query),
-                    files: Intake::new(alloc, stations, keep),
+                    files,
                 }
             }
             Err(fault) => Question {
@@ -64,6 +71,48 @@ impl Question {
         question
     }
 
+    /// Takes what is asked, the station list and the daily files of some paths in their order, or returns the path of
+    /// the first that can't be read. At most that many readers read them at once.
+    pub fn of_paths<'p, R: Threads + AllocGlobal + Sync, A: Archive<File: Send> + Sync>(
+        rt: &R,
+        archive: &A,
+        query: &str,
+        stations: &[u8],
+        paths: &'p [String],
+        readers: u64,
+        buffer: &mut [u8],
+    ) -> Result<Self, &'p str>
+        ensures asked { IfOk result (AsksWhole (A.bytes_of archive.now) (A.opens archive.now)
+            query.now stations.now paths.now) }
+        ensures going { IfOk result HasTakenSome }
+        ensures stopped { IfErr result (λ path.
+            StopsAt (A.opens archive.now) (map string_bytes paths.now) path.now) }
+    {
+        match Query::parse(query) {
+            Ok(query) => {
+                let keep = needed(&query);
+                let daily = Daily {
+                    stations,
+                    keep,
+                    paths,
+                };
+                let files = take_files(rt, rt.alloc(), archive, daily, readers, buffer)?;
+                Ok(Question {
+                    query: Ok(query),
+                    files,
+                })
+            }
+            Err(fault) => {
+                let mut files = Intake::closed();
+                feed_files(archive, &mut files, paths, buffer)?;
+                Ok(Question {
+                    query: Err(Fault::from(fault)),
+                    files,
+                })
+            }
+        }
+    }
+
     /// The query, what it needs of the data of all that was given, the foreign files and the odd lines; or the first
     /// error in the order: query, stations, number of daily files, files and lines in order. The
     /// current file is ended if it has a byte.
@@ -83,4 +132,11 @@ impl Question {
             warnings,
         })
     }
+}
+
+/// The elements whose values a query needs: its own.
+fn needed(query: &Query) -> Keep
+    ensures { result ≡ only (score_element query.now.score) }
+{
+    Keep::nothing().with(query.element())
 }

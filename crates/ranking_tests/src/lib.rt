@@ -20,3 +20,5 @@ mod runs;
 mod sched;
 #[cfg(test)]
 mod scores;
+#[cfg(test)]
+mod shares;

@@ -9,7 +9,7 @@ use std::io;
 use std::test::Fail;
 
 /// Paths, and a text for each.
-type Texts = &'static [(&'static str, &'static [u8])];
+pub(crate) type Texts = &'static [(&'static str, &'static [u8])];
 
 /// Files with their bytes, and folders with the names in them, each ended by a NUL.
 #[derive(Drop)]
@@ -62,7 +62,7 @@ impl Archive for InMemory {
 }
 
 /// The text of a path, if it has one.
-fn beside(texts: Texts, path: &str) -> Option<&'static [u8]>
+pub(crate) fn beside(texts: Texts, path: &str) -> Option<&'static [u8]>
     ensures { option_map (λ t. t.now) result ≡ beside texts.now path.now }
 {
     texts.iter().find(|text| text.0 == path).map(|text| text.1)

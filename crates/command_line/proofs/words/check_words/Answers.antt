@@ -12,13 +12,14 @@ pub returns : goal.returns
 returns c =
     let made : app_of c.after_help.result ≡ new_app (codes "check")
     = ap app_of_fields c.after_help.ensures ∙ ap app_of_fields c.about.ensures ∙ c.new.ensures.app in
-    let options = c.in_ok-check.ensures.shape c.flag.ensures.local
+    let options = c.in_ok-check.ensures.shape c.readers.ensures.local
+    ∙ ap₂ with_rule (c.in_ok-arg-5.ensures.shape c.flag.ensures.local
     ∙ ap₂ with_rule (c.in_ok-arg-4.ensures.shape c.needed-4.ensures.local
     ∙ ap₂ with_rule (c.in_ok-arg-3.ensures.shape c.needed-3.ensures.local
     ∙ ap₂ with_rule (c.in_ok-arg-2.ensures.shape c.needed-2.ensures.local
     ∙ ap₂ with_rule (c.in_ok-arg.ensures.shape c.needed.ensures.local
     ∙ ap₂ with_rule made c.needed.ensures.rule) c.needed-2.ensures.rule) c.needed-3.ensures.rule)
-    c.needed-4.ensures.rule) c.flag.ensures.rule in
+    c.needed-4.ensures.rule) c.flag.ensures.rule) c.readers.ensures.rule in
     record {
       app = IfOk-weaker c.with_files.result _ _ (λ r h. h ∙ ap and_files options) c.with_files.ensures.app;
       local = c.with_files.ensures.local;
@@ -30,8 +31,9 @@ with_files-requires c =
     let plain : (fields_of c.after_help.result).has_globals ≡ false
     = ap (λ f. f.has_globals) c.after_help.ensures ∙ ap (λ f. f.has_globals) c.about.ensures ∙ c.new.ensures.local in
     c.in_ok-check.ensures.globals
+    ∙ ap₂ either (c.in_ok-arg-5.ensures.globals
     ∙ ap₂ either (c.in_ok-arg-4.ensures.globals
     ∙ ap₂ either (c.in_ok-arg-3.ensures.globals ∙ ap₂ either (c.in_ok-arg-2.ensures.globals
     ∙ ap₂ either (c.in_ok-arg.ensures.globals
     ∙ ap₂ either plain c.needed.ensures.local) c.needed-2.ensures.local) c.needed-3.ensures.local)
-    c.needed-4.ensures.local) c.flag.ensures.local
+    c.needed-4.ensures.local) c.flag.ensures.local) c.readers.ensures.local

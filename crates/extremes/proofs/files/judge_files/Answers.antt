@@ -1,11 +1,11 @@
 use Rattle.std.proofs.Common.{ℕ, true, List, Global, String, map, sym, subst}
 use Rattle.std.specs.Prelude.{string_bytes}
-use Rattle.rank_input.specs.Feeding.{AreAllOf, AreOpened, FeedsFiles, IsTried, StopsAt}
+use Rattle.rank_input.specs.Feeding.{AreAllOf, IsTried, StopsAt}
+use Rattle.rank_input.specs.Shares.{AsksWhole}
 use Rattle.rank_input.proofs.Openings.{stops-first, stops-later, stops-before, stops-behind}
 use Rattle.std.proofs.lemmas.Result.{err_from_is_err_and}
 use Rattle.extremes.specs.Merges.{part_paths}
 use Rattle.extremes.specs.Runs.{judging_paths}
-use Rattle.ghcn_series.specs.Gathered.{HasReadByRows}
 use Rattle.extremes.proofs.FedRuns.{judges-files, judges-memory}
 use Rattle.extremes.proofs.files.judge_files.Goals as goal
 
@@ -15,30 +15,23 @@ returns-in_default-piece_room-clause-judges g c =
     judges-memory (g.A.Archive.bytes_of c.args.archive.now) (g.A.Archive.opens c.args.archive.now) c.args.judging.now c.deref.result.now
     c.in-Ok.stations.items _ _ c.deref.ensures c.in-Ok.ensures.whole c.in_ok-papers.ensures.read
 
--- the intake was given something
-pub feed_files-requires : goal.feed_files-requires
-feed_files-requires g c = c.new-question.ensures.going
-
--- what was fed is checked
+-- what was asked and taken is checked
 pub returns-clause-judges : goal.returns-clause-judges
 returns-clause-judges g c =
     let bytes_of = g.A.Archive.bytes_of c.args.archive.now in
-    judges-files bytes_of (g.A.Archive.opens c.args.archive.now) c.args.judging.now c.new-question.result c.feed_files.new.intake c.deref-2.result.now
-    c.deref.result.now c.deref-3.result.now c.deref-5.result.now c.deref-6.result.now c.judge_as.result
-    c.deref-2.ensures c.deref.ensures
+    let opens = g.A.Archive.opens c.args.archive.now in
+    judges-files bytes_of opens c.args.judging.now c.in_ok-question.question c.deref-2.result.now c.deref.result.now
+    c.deref-3.result.now c.deref-5.result.now c.deref-6.result.now c.judge_as.result c.deref-2.ensures c.deref.ensures
     (subst (AreAllOf (bytes_of c.deref.result.now)) (sym c.deref-3.ensures.value) c.in-Ok.ensures.whole) (
       subst (AreAllOf (bytes_of (string_bytes c.args.judging.now.papers.report))) (sym c.deref-5.ensures.value)
           c.in_ok-papers.ensures.read.0,
       subst (AreAllOf (bytes_of (string_bytes c.args.judging.now.papers.certificate))) (sym c.deref-6.ensures.value)
           c.in_ok-papers.ensures.read.1,
     )
-    c.new-question.ensures.taken (subst (λ (fs : List (String Global)).
-    FeedsFiles HasReadByRows c.new-question.result.files c.feed_files.new.intake
-    (map (λ f. bytes_of (string_bytes f)) fs)) c.deref-4.ensures.value c.in_ok-feed_files.ensures.fed)
+    (subst (λ (fs : List (String Global)). AsksWhole bytes_of opens c.deref-2.result.now c.deref-3.result.now fs
+    c.in_ok-question.question) c.deref-4.ensures.value c.in_ok-question.ensures.asked)
     c.judge_as.ensures.ok c.judge_as.ensures.warnings c.judge_as.ensures.err c.in-Ok.ensures.opened
     c.in_ok-papers.ensures.opened
-    (subst (λ (fs : List (String Global)). AreOpened (g.A.Archive.opens c.args.archive.now) (map string_bytes fs))
-    c.deref-4.ensures.value c.in_ok-feed_files.ensures.opened)
 
 -- the station list can't be read
 pub returns-in_default-clause-stopped : goal.returns-in_default-clause-stopped
@@ -59,15 +52,15 @@ returns-in_err-papers-clause-stopped g c =
     (stops-before opens _ (part_paths j.papers) (map string_bytes j.files.items) c.in_err-papers.ensures.stopped))
 
 -- or a daily file can't be
-pub returns-in_err-feed_files-clause-stopped : goal.returns-in_err-feed_files-clause-stopped
-returns-in_err-feed_files-clause-stopped g c =
+pub returns-in_err-question-clause-stopped : goal.returns-in_err-question-clause-stopped
+returns-in_err-question-clause-stopped g c =
     let opens = g.A.Archive.opens c.args.archive.now in
     let j = c.args.judging.now in
-    let p = err_from_is_err_and c.from_residual-in_err-feed_files.result
-    c.from_residual-in_err-feed_files.ensures.1 in
+    let p = err_from_is_err_and c.from_residual-in_err-question.result
+    c.from_residual-in_err-question.ensures.1 in
     rw (p.1, p.2) (stops-later opens (string_bytes j.stations) _ _
     (subst (λ (l : List ℕ). opens l true) c.deref.ensures c.in-Ok.ensures.opened)
     (stops-behind opens _ (part_paths j.papers) (map string_bytes j.files.items) c.in_ok-papers.ensures.opened
-    (subst (λ (fs : List (String Global)). StopsAt opens (map string_bytes fs) c.in_err-feed_files.field-0.0.now)
+    (subst (λ (fs : List (String Global)). StopsAt opens (map string_bytes fs) c.in_err-question.field-0.0.now)
     c.deref-4.ensures.value
-    c.in_err-feed_files.ensures.stopped)))
+    c.in_err-question.ensures.stopped)))

@@ -1,10 +1,10 @@
 use Rattle.std.proofs.Common.{ℕ, true, List, Global, String, map, sym, subst}
 use Rattle.std.specs.Prelude.{string_bytes}
-use Rattle.rank_input.specs.Feeding.{AreAllOf, AreOpened, FeedsFiles, IsTried, StopsAt}
+use Rattle.rank_input.specs.Feeding.{AreAllOf, IsTried, StopsAt}
+use Rattle.rank_input.specs.Shares.{AsksWhole}
 use Rattle.rank_input.proofs.Openings.{stops-first, stops-later}
 use Rattle.std.proofs.lemmas.Result.{err_from_is_err_and}
 use Rattle.extremes.specs.Runs.{ranking_paths}
-use Rattle.ghcn_series.specs.Gathered.{HasReadByRows}
 use Rattle.extremes.proofs.FedRuns.{ranks-files, ranks-memory}
 use Rattle.extremes.proofs.files.rank_files.Goals as goal
 
@@ -15,24 +15,17 @@ returns-in_default-piece_room-clause-ranks g c =
     c.deref.result.now
     c.in-Ok.stations.items _ c.deref.ensures c.in-Ok.ensures.whole c.without_data.result.warnings)
 
--- the intake was given something
-pub feed_files-requires : goal.feed_files-requires
-feed_files-requires g c = c.new-question.ensures.going
-
--- what was fed is ranked
+-- what was asked and taken is ranked
 pub returns-clause-ranks : goal.returns-clause-ranks
 returns-clause-ranks g c =
     let bytes_of = g.A.Archive.bytes_of c.args.archive.now in
-    ranks-files bytes_of (g.A.Archive.opens c.args.archive.now) c.args.ranking.now c.new-question.result c.feed_files.new.intake c.deref-2.result.now
-    c.deref.result.now c.deref-3.result.now c.rank_fed.result.answer c.rank_fed.result.warnings c.deref-2.ensures
-    c.deref.ensures
+    let opens = g.A.Archive.opens c.args.archive.now in
+    ranks-files bytes_of opens c.args.ranking.now c.in_ok-question.question c.deref-2.result.now c.deref.result.now
+    c.deref-3.result.now c.rank_fed.result.answer c.rank_fed.result.warnings c.deref-2.ensures c.deref.ensures
     (subst (AreAllOf (bytes_of c.deref.result.now)) (sym c.deref-3.ensures.value) c.in-Ok.ensures.whole)
-    c.new-question.ensures.taken
-    (subst (λ (fs : List (String Global)). FeedsFiles HasReadByRows c.new-question.result.files c.feed_files.new.intake
-    (map (λ f. bytes_of (string_bytes f)) fs)) c.deref-4.ensures.value c.in_ok-feed_files.ensures.fed)
+    (subst (λ (fs : List (String Global)). AsksWhole bytes_of opens c.deref-2.result.now c.deref-3.result.now fs
+    c.in_ok-question.question) c.deref-4.ensures.value c.in_ok-question.ensures.asked)
     c.rank_fed.ensures.ranks c.rank_fed.ensures.warnings c.in-Ok.ensures.opened
-    (subst (λ (fs : List (String Global)). AreOpened (g.A.Archive.opens c.args.archive.now) (map string_bytes fs))
-    c.deref-4.ensures.value c.in_ok-feed_files.ensures.opened)
 
 -- the station list can't be read
 pub returns-in_default-clause-stopped : goal.returns-in_default-clause-stopped
@@ -43,12 +36,12 @@ returns-in_default-clause-stopped g c =
     (subst (λ (p : List ℕ). IsTried opens p) c.deref.ensures c.read_whole.ensures.tried))
 
 -- or a daily file can't be
-pub returns-in_err-feed_files-clause-stopped : goal.returns-in_err-feed_files-clause-stopped
-returns-in_err-feed_files-clause-stopped g c =
+pub returns-in_err-question-clause-stopped : goal.returns-in_err-question-clause-stopped
+returns-in_err-question-clause-stopped g c =
     let opens = g.A.Archive.opens c.args.archive.now in
     let p = err_from_is_err_and c.from_residual.result c.from_residual.ensures.1 in
     rw (p.1, p.2) (stops-later opens (string_bytes c.args.ranking.now.stations) _ _
     (subst (λ (l : List ℕ). opens l true) c.deref.ensures c.in-Ok.ensures.opened)
-    (subst (λ (fs : List (String Global)). StopsAt opens (map string_bytes fs) c.in_err-feed_files.field-0.0.now)
+    (subst (λ (fs : List (String Global)). StopsAt opens (map string_bytes fs) c.in_err-question.field-0.0.now)
     c.deref-4.ensures.value
-    c.in_err-feed_files.ensures.stopped))
+    c.in_err-question.ensures.stopped))

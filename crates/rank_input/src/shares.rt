@@ -1,0 +1,204 @@
+//! Daily files that are read in shares, side by side.
+
+ghost use Rattle.std.specs.Prelude.{◌≡◌, ◌<◌, ◌≤◌, length, IfOk, IfErr, IfSome, map, string_bytes};
+ghost use denote.Param.Send.{IsSync};
+ghost use Rattle.rank_input.specs.Feeding.{StopsAt};
+ghost use Rattle.rank_input.specs.Shares.{TakesWhole};
+
+use crate::archive::{Archive, Place, feed_files, piece_room};
+use crate::intake::Intake;
+use ghcn_files::Keep;
+use ghcn_series::{JoinLines, LineReader};
+use std::alloc::Global;
+use std::thread::{Threads, join};
+
+/// So many bytes of daily files are worth a thread that reads them, if the station list, which each share reads too,
+/// has no more.
+const WORTH_A_SHARE: u64 = 1 << 23;
+
+/// The most shares.
+const MOST_SHARES: u64 = 64;
+
+/// Daily files, named by their paths, and what they are read for.
+#[derive(Clone, Copy)]
+pub struct Daily<'s, 'p> {
+    /// The whole station list.
+    pub stations: &'s [u8],
+    /// The elements whose values are kept.
+    pub keep: Keep,
+    pub paths: &'p [String],
+}
+
+/// Takes the station list and all daily files in their order, or returns the path of the first that can't be read.
+///
+/// If it is worth it, at most that many readers read a share of the files each, all at once: one in the caller's
+/// thread and each other one in a thread of its own. A file may then be opened twice.
+pub fn take_files<
+    's,
+    'p,
+    R: Threads + Sync,
+    A: Archive<File: Send> + Sync,
+    L: JoinLines<Done: Send> + Send,
+>(
+    rt: &R,
+    alloc: Global,
+    archive: &A,
+    daily: Daily<'s, 'p>,
+    readers: u64,
+    buffer: &mut [u8],
+) -> Result<Intake<L>, &'p str>
+    ensures taken { IfOk result (TakesWhole L.has_read (A.bytes_of archive.now) (A.opens archive.now)
+        daily.entry.keep daily.entry.stations.now daily.entry.paths.now) }
+    ensures stopped { IfErr result (λ path.
+        StopsAt (A.opens archive.now) (map string_bytes daily.entry.paths.now) path.now) }
+{
+    match take_shares(rt, alloc, archive, daily, readers) {
+        Some(intake) => Ok(intake),
+        None => take_in_order(alloc, archive, daily, buffer),
+    }
+}
+
+/// Takes them one after the other.
+fn take_in_order<'s, 'p, A: Archive, L: LineReader>(
+    alloc: Global,
+    archive: &A,
+    daily: Daily<'s, 'p>,
+    buffer: &mut [u8],
+) -> Result<Intake<L>, &'p str>
+    ensures taken { IfOk result (TakesWhole L.has_read (A.bytes_of archive.now) (A.opens archive.now)
+        daily.entry.keep daily.entry.stations.now daily.entry.paths.now) }
+    ensures stopped { IfErr result (λ path.
+        StopsAt (A.opens archive.now) (map string_bytes daily.entry.paths.now) path.now) }
+{
+    let mut intake = Intake::new(alloc, daily.stations, daily.keep);
+    feed_files(archive, &mut intake, daily.paths, buffer)?;
+    Ok(intake)
+}
+
+/// Takes them in shares. Nothing if one share is as good, and if the files have to be taken one after the other:
+/// one of them isn't a regular file, can't be read or has an error, there are too many of them, or two shares have
+/// months of one station.
+fn take_shares<R: Threads + Sync, A: Archive<File: Send> + Sync, L: JoinLines<Done: Send> + Send>(
+    rt: &R,
+    alloc: Global,
+    archive: &A,
+    daily: Daily<'_, '_>,
+    readers: u64,
+) -> Option<Intake<L>>
+    ensures { IfSome result (TakesWhole L.has_read (A.bytes_of archive.now) (A.opens archive.now)
+        daily.entry.keep daily.entry.stations.now daily.entry.paths.now) }
+{
+    if readers < 2 {
+        return None;
+    }
+    let sizes = sizes_of(alloc, archive, daily.paths)?;
+    let size = sum_of(&sizes);
+    let worth = WORTH_A_SHARE.max(daily.stations.len() as u64);
+    let files = daily.paths.len() as u64;
+    let shares = readers.min(MOST_SHARES).min(files).min(size / worth);
+    if shares < 2 {
+        return None;
+    }
+    take_parts(rt, alloc, archive, daily, &sizes, size, shares)
+}
+
+/// How many bytes the files of some paths seem to have, if all are regular files.
+fn sizes_of<A: Archive>(alloc: Global, archive: &A, paths: &[String]) -> Option<Vec<u64>>
+    ensures { IfSome result (λ sizes. length sizes.items ≡ length paths.now) }
+{
+    let mut sizes = Vec::with_capacity(alloc, paths.len()).ok()?;
+    for path in paths {
+        match archive.look(path) {
+            Place::File(size) => sizes.push(size).ok()?,
+            _ => return None,
+        }
+    }
+    Some(sizes)
+}
+
+/// The sum of some sizes, or 2^64 - 1 if it is more.
+fn sum_of(sizes: &[u64]) -> u64 {
+    let mut sum: u64 = 0;
+    for size in sizes {
+        sum = sum.saturating_add(*size);
+    }
+    sum
+}
+
+/// Takes the files in so many shares. The last share has a thread of its own; the caller takes the others in the same
+/// way, and the first itself. If a thread can't be started, the caller takes its share.
+fn take_parts<R: Threads + Sync, A: Archive<File: Send> + Sync, L: JoinLines<Done: Send> + Send>(
+    rt: &R,
+    alloc: Global,
+    archive: &A,
+    daily: Daily<'_, '_>,
+    sizes: &[u64],
+    size: u64,
+    shares: u64,
+) -> Option<Intake<L>>
+    requires some { 0 < shares }
+    requires sizes { length sizes.now ≡ length daily.paths.now }
+    ensures { IfSome result (TakesWhole L.has_read (A.bytes_of archive.now) (A.opens archive.now)
+        daily.entry.keep daily.entry.stations.now daily.entry.paths.now) }
+{
+    let before = shares - 1;
+    if before == 0 {
+        return take_part(alloc, archive, daily);
+    }
+    let (from, share) = cut(sizes, size / shares);
+    let (paths_before, own_paths) = daily.paths.split_at(from);
+    let (sizes_before, _) = sizes.split_at(from);
+    let daily_before = Daily {
+        paths: paths_before,
+        ..daily
+    };
+    let own = Daily {
+        paths: own_paths,
+        ..daily
+    };
+    let rest = size.saturating_sub(share);
+    let (last, first) = join(
+        rt,
+        move ||
+            requires { IsSync A.row }
+            ensures { IfSome result (TakesWhole L.has_read (A.bytes_of archive.entry.now) (A.opens archive.entry.now)
+                own.entry.keep own.entry.stations.now own.entry.paths.now) }
+        { take_part(alloc, archive, own) },
+        move ||
+            requires { IsSync R.row × IsSync A.row × (0 < before)
+                × (length sizes_before.now ≡ length daily_before.paths.now) }
+            ensures { IfSome result (TakesWhole L.has_read (A.bytes_of archive.entry.now) (A.opens archive.entry.now)
+                daily_before.entry.keep daily_before.entry.stations.now daily_before.entry.paths.now) }
+        { take_parts(rt, alloc, archive, daily_before, sizes_before, rest, before) },
+    );
+    first?.join(last?)
+}
+
+/// Takes the files of a share one after the other.
+fn take_part<A: Archive, L: LineReader>(
+    alloc: Global,
+    archive: &A,
+    daily: Daily<'_, '_>,
+) -> Option<Intake<L>>
+    ensures { IfSome result (TakesWhole L.has_read (A.bytes_of archive.now) (A.opens archive.now)
+        daily.entry.keep daily.entry.stations.now daily.entry.paths.now) }
+{
+    let mut room = piece_room(alloc).ok()?;
+    take_in_order(alloc, archive, daily, &mut room).ok()
+}
+
+/// Where the last of some files begin that have a share of the bytes, as nearly as whole files allow, and how many
+/// bytes these have.
+fn cut(sizes: &[u64], share: u64) -> (usize, u64)
+    ensures { result.0 ≤ length sizes.now }
+{
+    let mut cut: u64 = 0;
+    for at in (0..sizes.len()).rev() {
+        let more = sizes[at];
+        if cut.saturating_add(more / 2) >= share {
+            return (at + 1, cut);
+        }
+        cut = cut.saturating_add(more);
+    }
+    (0, cut)
+}

@@ -1,0 +1,243 @@
+//! Daily files that are read in shares, over an archive in memory whose files claim to be large.
+
+ghost use Rattle.std.specs.Prelude.{◌≡◌, option_map};
+
+use crate::days::{A, B};
+use crate::names::{Texts, beside};
+use ghcn_fields::Day;
+use ghcn_files::{Element, StationId};
+use ghcn_series::Data;
+use rank_input::{Archive, Place, Question, piece_room};
+use std::alloc::Global;
+use std::fmt::Write;
+use std::io;
+use std::sync::atomic::{AtomicU64, Ordering};
+use std::test::Fail;
+use std::thread::Threads;
+
+const STATIONS: &[u8] = b"\
+ZZA00000001  10.0000   20.0000  100.0    ALPHA\n\
+ZZA00000002  10.0000   21.0000  100.0    BETA\n";
+
+const ALPHA_IN_JULY: &[u8] = b"\
+ZZA00000001202007TMAX  310   \
+-9999   -9999   -9999   -9999   -9999   -9999   -9999   -9999   -9999   -9999   \
+-9999   -9999   -9999   -9999   -9999   -9999   -9999   -9999   -9999   -9999   \
+-9999   -9999   -9999   -9999   -9999   -9999   -9999   -9999   -9999   -9999   \n";
+
+const ALPHA_IN_AUGUST: &[u8] = b"\
+ZZA00000001202008TMAX  200   \
+-9999   -9999   -9999   -9999   -9999   -9999   -9999   -9999   -9999   -9999   \
+-9999   -9999   -9999   -9999   -9999   -9999   -9999   -9999   -9999   -9999   \
+-9999   -9999   -9999   -9999   -9999   -9999   -9999   -9999   -9999   -9999   \n";
+
+const BETA_IN_JULY: &[u8] = b"\
+ZZA00000002202007TMAX  320   \
+-9999   -9999   -9999   -9999   -9999   -9999   -9999   -9999   -9999   -9999   \
+-9999   -9999   -9999   -9999   -9999   -9999   -9999   -9999   -9999   -9999   \
+-9999   -9999   -9999   -9999   -9999   -9999   -9999   -9999   -9999   -9999   \n";
+
+const UNLISTED: &[u8] = b"\
+ZZA00000009202007TMAX  990   \
+-9999   -9999   -9999   -9999   -9999   -9999   -9999   -9999   -9999   -9999   \
+-9999   -9999   -9999   -9999   -9999   -9999   -9999   -9999   -9999   -9999   \
+-9999   -9999   -9999   -9999   -9999   -9999   -9999   -9999   -9999   -9999   \n";
+
+const FILES: Texts = &[
+    ("alpha", ALPHA_IN_JULY),
+    ("alpha again", ALPHA_IN_AUGUST),
+    ("beta", BETA_IN_JULY),
+    ("unlisted", UNLISTED),
+    ("short", b"\nZZA\n"),
+    ("odd", b"ZZA00000001202007TAVG\nZZA00000001202007----\n"),
+    ("empty", b""),
+];
+
+/// Files that claim to be large enough for a share each.
+#[derive(Drop)]
+struct Large {
+    /// How many files were opened, and after how many none can be.
+    opened: AtomicU64,
+    most: u64,
+}
+
+impl Archive for Large {
+    ghost use Rattle.std.specs.Prelude.{None, ⊤};
+
+    type File = &'static [u8];
+
+    ghost bytes_of = { λ _ _. None };
+
+    ghost opens = { λ _ _ _. ⊤ };
+
+    ghost names_of = { λ _ _. None };
+
+    fn open(&self, path: &str) -> io::Result<&'static [u8]> {
+        let before = self.opened.fetch_add(1, Ordering::SeqCst);
+        match beside(FILES, path) {
+            Some(bytes) if before < self.most => Ok(bytes),
+            _ => Err(io::Error::from(io::ErrorKind::NotFound)),
+        }
+    }
+
+    fn look(&self, _path: &str) -> Place {
+        Place::File(1 << 24)
+    }
+
+    fn names(&self, _alloc: Global, _folder: &str) -> io::Result<Vec<u8>> {
+        Err(io::Error::from(io::ErrorKind::NotFound))
+    }
+}
+
+/// The highest temperatures of a station on the first days of July and August 2020.
+fn push_values(text: &mut String, dataset: &Data, id: &StationId) -> Result<(), Fail> {
+    for number in [18_444, 18_475] {
+        let Some(day) = Day::with_number(number) else {
+            return Ok(());
+        };
+        let value = dataset
+            .series(id, Element::Tmax)
+            .and_then(|series| series.value(day));
+        match value {
+            Some(value) => write!(text, "{value} ")?,
+            None => text.push_str("- ")?,
+        }
+    }
+    Ok(())
+}
+
+/// What files hold for a query, read by at most so many readers, or why they hold nothing; and how many files were
+/// opened.
+fn shown<R: Threads + AllocGlobal + Sync>(
+    rt: &R,
+    query: &str,
+    names: &[&str],
+    readers: u64,
+    most: u64,
+) -> Result<String, Fail> {
+    let alloc = rt.alloc();
+    let mut paths = Vec::new(alloc);
+    for name in names {
+        paths.push(String::from_str(alloc, name)?)?;
+    }
+    let archive = Large {
+        opened: AtomicU64::new(0),
+        most,
+    };
+    let mut room = piece_room(alloc)?;
+    let mut text = String::new(alloc);
+    match Question::of_paths(rt, &archive, query, STATIONS, &paths, readers, &mut room) {
+        Ok(question) => match question.finish() {
+            Ok(taken) => {
+                push_values(&mut text, &taken.dataset, &A)?;
+                push_values(&mut text, &taken.dataset, &B)?;
+                let (foreign, odd) = (taken.warnings.foreign, taken.warnings.odd);
+                write!(text, "unlisted {}", taken.dataset.unlisted())?;
+                write!(text, " foreign {} {:?}", foreign.count, foreign.first)?;
+                write!(text, " odd {} {:?}", odd.count, odd.first)?;
+            }
+            Err(fault) => write!(text, "{fault}")?,
+        },
+        Err(path) => write!(text, "{path} can't be read")?,
+    }
+    write!(text, ", {} opened", archive.opened.load(Ordering::SeqCst))?;
+    Ok(text)
+}
+
+/// Both files of ALPHA, and others.
+const MANY: &[&str] = &[
+    "unlisted",
+    "alpha",
+    "alpha again",
+    "empty",
+    "beta",
+    "odd",
+    "unlisted",
+];
+
+/// Both files of ALPHA, with another between them.
+const APART: &[&str] = &["alpha", "beta", "alpha again"];
+
+#[test]
+fn shares_of_files(rt: HostRuntime) -> Result<(), Fail> {
+    let plain = "unlisted 0 foreign 0 None odd 0 None";
+    let warned = "unlisted 2 foreign 1 Some(5) odd 1 Some(LinePlace { file: 5, line: 2 })";
+    // The names, how many readers there may be, what is shown, and how often a file is opened: twice if the shares
+    // can't be joined.
+    let cases: [(&[&str], u64, &str, &str, u64); 15] = [
+        (&[], 4, "- - - - ", plain, 0),
+        (&["alpha", "beta"], 0, "310 - 320 - ", plain, 2),
+        (&["alpha", "beta"], 1, "310 - 320 - ", plain, 2),
+        (&["alpha", "beta"], 2, "310 - 320 - ", plain, 2),
+        (&["beta", "alpha"], 64, "310 - 320 - ", plain, 2),
+        (MANY, 1, "310 200 320 - ", warned, 7),
+        (MANY, 2, "310 200 320 - ", warned, 7),
+        (MANY, 3, "310 200 320 - ", warned, 7),
+        // Both files of ALPHA are in shares of their own.
+        (MANY, 64, "310 200 320 - ", warned, 14),
+        (APART, 1, "310 200 320 - ", plain, 3),
+        (APART, 3, "310 200 320 - ", plain, 6),
+        (
+            &["alpha", "short"],
+            2,
+            "refused 5 DailyLine file 2 line 2 ",
+            "Short",
+            4,
+        ),
+        (
+            &["short", "beta", "short"],
+            3,
+            "refused 5 DailyLine file 1 line 2 ",
+            "Short",
+            6,
+        ),
+        (
+            &["alpha", "alpha"],
+            2,
+            "refused 5 DailyLine file 2 line 1 ",
+            "DuplicateMonth",
+            4,
+        ),
+        (
+            &["alpha", "none", "beta", "nowhere"],
+            4,
+            "none ",
+            "can't be read",
+            6,
+        ),
+    ];
+    for (names, readers, first, second, opened) in cases {
+        let found = shown(&rt, "top 1 highest TMAX", names, readers, 99)?;
+        let expected = format!(in rt.alloc(); "{first}{second}, {opened} opened")?;
+        assert_eq!(rt; found.as_str(), expected.as_str(), "{names:?} by {readers}");
+    }
+    Ok(())
+}
+
+/// A file that can be opened once only is reported if it has to be read again, and an error of the query comes after
+/// files that can't be read.
+#[test]
+fn files_that_change(rt: HostRuntime) -> Result<(), Fail> {
+    let hottest = "top 1 highest TMAX";
+    let cases: [(&str, &[&str], u64, &str); 4] = [
+        (hottest, APART, 4, "beta can't be read, 5 opened"),
+        (hottest, APART, 3, "alpha can't be read, 4 opened"),
+        (
+            "top 1 highest TMX",
+            APART,
+            99,
+            "refused 8 UnexpectedWord 4, 3 opened",
+        ),
+        (
+            "top 1 highest TMX",
+            &["alpha", "none"],
+            99,
+            "none can't be read, 2 opened",
+        ),
+    ];
+    for (query, names, most, expected) in cases {
+        let found = shown(&rt, query, names, 3, most)?;
+        assert_eq!(rt; found.as_str(), expected, "{query} over {names:?}");
+    }
+    Ok(())
+}
