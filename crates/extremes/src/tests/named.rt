@@ -119,6 +119,7 @@ fn judging(alloc: Global, list: &str) -> Result<Command, AllocError> {
         report: String::from_str(alloc, "report")?,
         certificate: String::from_str(alloc, "certificate")?,
         part: false,
+        workers: 4,
         files: named(alloc, list)?,
     }))
 }

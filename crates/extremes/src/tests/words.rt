@@ -120,6 +120,7 @@ fn commands_to_check(rt: HostRuntime) -> Result<(), Fail> {
         report,
         certificate,
         part,
+        workers,
         files,
     } = asked;
     let texts = [&stations, &query, &report, &certificate];
@@ -128,6 +129,7 @@ fn commands_to_check(rt: HostRuntime) -> Result<(), Fail> {
     }
     assert!(rt; are_words(files.paths.as_slice(), &["a", "b"]));
     assert!(rt; !part);
+    assert_eq!(rt; workers, 4);
     Ok(())
 }
 
@@ -140,11 +142,13 @@ fn commands_to_check_a_part(rt: HostRuntime) -> Result<(), Fail> {
         "--query=q",
         "--report=r",
         "--certificate=c",
+        "--workers=64",
     ];
     let Ok(Command::Check(asked)) = command(rt.alloc(), words_of(rt.alloc(), &of_part)?) else {
         return Err(Fail::from("no command to check a part"));
     };
     assert!(rt; asked.part);
+    assert_eq!(rt; asked.workers, 64);
     Ok(())
 }
 
@@ -252,7 +256,7 @@ fn shown(alloc: Global, words: &[&str]) -> Result<String, Fail> {
 fn texts_of_words(rt: HostRuntime) -> Result<(), Fail> {
     let odd = "error: each report is followed by its certificate, and the last one has none\n";
     let null = "error: --null says how the names of a list end, and --files-from names no list\n";
-    let cases: [(&[&str], &str); 12] = [
+    let cases: [(&[&str], &str); 13] = [
         (&["rank", "--stations=s", "--query=q", "--null", "a"], null),
         (
             &[
@@ -266,6 +270,17 @@ fn texts_of_words(rt: HostRuntime) -> Result<(), Fail> {
             null,
         ),
         (&["describe", "--stations=s", "-0"], null),
+        (
+            &[
+                "check",
+                "--stations=s",
+                "--query=q",
+                "--report=r",
+                "--certificate=c",
+                "--workers=65",
+            ],
+            "65 is not in 1..=64",
+        ),
         (&["merge", "--query=q", "--files-from=l"], "'--files-from'"),
         (&["merge", "--query=q", "-0"], "'-0'"),
         (&["merge", "--query=q", "r"], odd),
