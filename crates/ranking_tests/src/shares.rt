@@ -1,7 +1,5 @@
 //! Daily files that are read in shares, over an archive in memory whose files claim to be large.
 
-ghost use Rattle.std.specs.Prelude.{◌≡◌, option_map};
-
 use crate::days::{A, B};
 use crate::names::{Texts, beside};
 use ghcn_fields::Day;
@@ -56,6 +54,7 @@ const FILES: Texts = &[
 /// Files that claim to be large enough for a share each.
 #[derive(Drop)]
 struct Large {
+    files: Texts,
     /// How many files were opened, and after how many none can be.
     opened: AtomicU64,
     most: u64,
@@ -63,10 +62,11 @@ struct Large {
 
 impl Archive for Large {
     ghost use Rattle.std.specs.Prelude.{None, ⊤};
+    ghost use Rattle.ranking_tests.specs.InMemory.{beside};
 
     type File = &'static [u8];
 
-    ghost bytes_of = { λ _ _. None };
+    ghost bytes_of = { λ a path. beside a.files.now path };
 
     ghost opens = { λ _ _ _. ⊤ };
 
@@ -74,7 +74,7 @@ impl Archive for Large {
 
     fn open(&self, path: &str) -> io::Result<&'static [u8]> {
         let before = self.opened.fetch_add(1, Ordering::SeqCst);
-        match beside(FILES, path) {
+        match beside(self.files, path) {
             Some(bytes) if before < self.most => Ok(bytes),
             _ => Err(io::Error::from(io::ErrorKind::NotFound)),
         }
@@ -121,6 +121,7 @@ fn shown<R: Threads + AllocGlobal + Sync>(
         paths.push(String::from_str(alloc, name)?)?;
     }
     let archive = Large {
+        files: FILES,
         opened: AtomicU64::new(0),
         most,
     };
