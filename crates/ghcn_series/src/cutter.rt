@@ -200,7 +200,9 @@ impl<L: LineReader> Cutter<L> {
         self.ended < MOST_FILES || self.ended == MOST_FILES && !self.begun
     }
 
-    /// Reads more bytes of the current file.
+    /// Reads more bytes of the current file. The loop over lines is a function of its own: what it holds fits the
+    /// processor's registers, as it doesn't if it is built into a caller.
+    #[inline(never)]
     fn read(&mut self, bytes: &[u8]) -> Result<(), DataFault>
         requires few { self.old.ended < 2 ^ 20 }
         requires read { HasReadSome L.has_read self.old.reader }
