@@ -8,6 +8,7 @@ mod element;
 mod fault;
 mod flags;
 mod heads;
+mod kept;
 mod keys;
 mod listing;
 mod missing;

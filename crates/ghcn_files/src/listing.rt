@@ -8,9 +8,9 @@ ghost use Rattle.ghcn_files.specs.Listed.{place_of, listed, is_memory, IsFirstRe
 ghost use Rattle.ghcn_files.specs.KeptStations.{AreKept, Adds, IsRefusedFor};
 ghost use Rattle.ghcn_fields.specs.Refusals.{IsRefusal};
 
+use crate::kept::MOST_STATIONS;
 use crate::keys::key_of_line;
 use crate::station::Numbers;
-use crate::stations::MOST_STATIONS;
 use crate::{Station, StationWhy, StationsFault};
 use ghcn_fields::{Memory, is_blank, lines};
 use std::alloc::Global;

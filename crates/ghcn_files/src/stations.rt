@@ -1,51 +1,35 @@
 //! The listed stations, in the order of the list.
 
-ghost use Rattle.std.specs.Prelude.{◌≡◌, ◌≤◌, ◌<◌, ◌^◌, ◌++◌, ◌∷◌, [], length, slice_get, Ok, IfOk, IfSome, true, false};
-ghost use Rattle.std.specs.Prelude.{OnOk, IfErr};
+ghost use Rattle.std.specs.Prelude.{◌≡◌, length, slice_get, Ok, IfOk, IfErr};
+ghost use Rattle.std.specs.Arc.{arc_value};
 ghost use Rattle.std.specs.List.{find};
 ghost use Rattle.std.specs.Option.{option_copied};
-ghost use Rattle.ghcn_files.specs.StationLines.{id_of, numbers_of, station_of};
 ghost use Rattle.ghcn_files.specs.Listed.{AreListed, is_station_of, place_of, listed};
 ghost use Rattle.ghcn_files.specs.Listed.{is_memory, IsFirstRefusal};
-ghost use Rattle.ghcn_files.specs.KeptStations.{IsAdded, key_with_place};
 ghost use Rattle.ghcn_fields.specs.Refusals.{IsRefusal};
 
-use crate::keys::{key, key_of_line, place_among, put_in_order};
-use crate::listing::Listing;
-use crate::station::Numbers;
+use crate::kept::KeptStations;
 use crate::{Station, StationId, StationsFault};
-use ghcn_fields::{Memory, is_blank, lines};
+use ghcn_fields::Memory;
 use std::alloc::Global;
-use std::collections::BTreeMap;
 use std::marker::Model;
+use std::sync::Arc;
 
-/// The stations of a list, in its order: at most 2^20, and no ID twice.
+/// The stations of a list, in its order: at most 2^20, and no ID twice. Several owners, in any threads, can share them.
 #[derive(Drop)]
 pub struct Stations {
-    list: Vec<Station>,
-    /// The keys of all IDs in their order, each beside its station's place in the list. An ID is searched among them.
-    keys: Vec<(u64, u32, u32)>,
-    /// The place of each ID by its key, if the list was read line by line.
-    places: Option<BTreeMap<(u64, u32), usize>>,
+    kept: Arc<KeptStations, Global>,
 }
 
 impl Model for Stations {
     ghost use Rattle.std.specs.Prelude.{List};
+    ghost use Rattle.std.specs.Arc.{arc_value};
     ghost use Rattle.ghcn_files.specs.declared.station.Station.{Station};
-    ghost use Rattle.ghcn_files.specs.KeptStations.{AreKeptBy};
 
     ghost Value = { List Station };
 
-    ghost view = { λ s. s.list.items };
-
-    ghost invariant = { λ s. AreKeptBy s.list.items s.keys.items s.places };
+    ghost view = { λ s. arc_value s.kept };
 }
-
-/// The most stations that a list may have.
-pub(crate) const MOST_STATIONS: usize = 1 << 20;
-
-/// The columns of a line up to the last one that is read.
-const READ_COLUMNS: usize = 71;
 
 impl Stations {
     /// Reads a station list, whose lines are those of the readme's `ghcnd-stations.txt`. Blank lines
@@ -55,47 +39,19 @@ impl Stations {
         ensures err { IfErr result (λ fault. IsRefusal is_memory fault (listed text.now)) }
         ensures first { IfErr result (λ fault. IsFirstRefusal fault text.now) }
     {
-        match Self::read_at_once(alloc, text) {
-            Ok(Some(stations)) => Ok(stations),
-            Ok(None) => Self::read_by_line(alloc, text),
-            Err(memory) => Err(StationsFault::Memory(memory)),
+        let kept = KeptStations::read(alloc, text)?;
+        match Arc::new(alloc, kept) {
+            Ok(kept) => Ok(Stations { kept }),
+            Err(_) => Err(StationsFault::Memory(Memory)),
         }
     }
 
-    /// Reads a list without an error, or returns nothing if it has one. The keys of all IDs are put in order once,
-    /// at the end of the list.
-    fn read_at_once(alloc: Global, text: &[u8]) -> Result<Option<Self>, Memory>
-        ensures { IfOk result (λ read. IfSome read (λ stations. listed text.now ≡ Ok stations)) }
+    /// The same stations for another owner. Their memory is shared.
+    pub fn share(&self) -> Result<Self, Memory>
+        ensures { IfOk result (λ other. other ≡ self.now) }
     {
-        let mut list = Vec::new(alloc);
-        let mut keys = Vec::new(alloc);
-        for (_, line) in lines(text) {
-            // A blank line has an error by itself, and is found so.
-            if !add(&mut list, &mut keys, line)? && !is_blank(line) {
-                return Ok(None);
-            }
-        }
-        if !put_in_order(&mut keys) {
-            return Ok(None);
-        }
-        Ok(Some(Stations {
-            list,
-            keys,
-            places: None,
-        }))
-    }
-
-    /// Reads a list line by line, so that the first error is found.
-    fn read_by_line(alloc: Global, text: &[u8]) -> Result<Self, StationsFault>
-        ensures ok { IfOk result (λ stations. listed text.now ≡ Ok stations) }
-        ensures err { IfErr result (λ fault. IsRefusal is_memory fault (listed text.now)) }
-        ensures first { IfErr result (λ fault. IsFirstRefusal fault text.now) }
-    {
-        let Listing { list, places } = Listing::read(alloc, text)?;
         Ok(Stations {
-            list,
-            keys: Vec::new(alloc),
-            places: Some(places),
+            kept: Arc::try_clone(&self.kept)?,
         })
     }
 
@@ -104,112 +60,27 @@ impl Stations {
         ensures number { result ≡ length self.now }
         ensures listed { AreListed self.now }
     {
-        self.list.len() as u64
+        self.kept.len()
     }
 
     /// The station at a place in the list, from 0.
     pub fn at(&self, place: u64) -> Option<&Station>
         ensures { option_copied result ≡ slice_get self.now place }
     {
-        self.list.get(place as usize)
+        self.kept.at(place)
     }
 
     /// The station with this ID.
     pub fn get(&self, id: &StationId) -> Option<&Station>
         ensures { option_copied result ≡ find (is_station_of id.now) self.now }
     {
-        self.at(self.place(id)?)
+        self.kept.get(id)
     }
 
     /// The place in the list, from 0, of the station with this ID.
     pub fn place(&self, id: &StationId) -> Option<u64>
         ensures { result ≡ place_of self.now id.now }
     {
-        let place = match &self.places {
-            Some(places) => *places.get(&key(&id.0))?,
-            None => place_among(&self.list, &self.keys, id)?,
-        };
-        Some(place as u64)
+        self.kept.place(id)
     }
-}
-
-/// Adds the station of a line and its key, or returns false if the line has an error by itself or there is no room.
-/// If the line has all columns that are read, the compiler knows so, and no place in it is tested again.
-#[inline(always)]
-fn add(
-    list: &mut Vec<Station>,
-    keys: &mut Vec<(u64, u32, u32)>,
-    line: &[u8],
-) -> Result<bool, Memory>
-    ensures added { IfOk result (λ added. added ≡ true →
-        IsAdded line.now list.old.items keys.old.items list.new.items keys.new.items) }
-    ensures list { IfOk result (λ added. added ≡ false → list.new.items ≡ list.old.items) }
-    ensures keys { IfOk result (λ added. added ≡ false → keys.new.items ≡ keys.old.items) }
-{
-    if line.len() < READ_COLUMNS {
-        return add_short(list, keys, line);
-    }
-    add_line(list, keys, line)
-}
-
-/// The same of a line that lacks some of these columns.
-#[inline(never)]
-fn add_short(
-    list: &mut Vec<Station>,
-    keys: &mut Vec<(u64, u32, u32)>,
-    line: &[u8],
-) -> Result<bool, Memory>
-    ensures added { IfOk result (λ added. added ≡ true →
-        IsAdded line.now list.old.items keys.old.items list.new.items keys.new.items) }
-    ensures list { IfOk result (λ added. added ≡ false → list.new.items ≡ list.old.items) }
-    ensures keys { IfOk result (λ added. added ≡ false → keys.new.items ≡ keys.old.items) }
-{
-    add_line(list, keys, line)
-}
-
-/// The same of any line.
-#[inline(always)]
-fn add_line(
-    list: &mut Vec<Station>,
-    keys: &mut Vec<(u64, u32, u32)>,
-    line: &[u8],
-) -> Result<bool, Memory>
-    ensures added { IfOk result (λ added. added ≡ true →
-        IsAdded line.now list.old.items keys.old.items list.new.items keys.new.items) }
-    ensures list { IfOk result (λ added. added ≡ false → list.new.items ≡ list.old.items) }
-    ensures keys { IfOk result (λ added. added ≡ false → keys.new.items ≡ keys.old.items) }
-{
-    let Ok(numbers) = Numbers::of_line(line) else {
-        return Ok(false);
-    };
-    if list.len() >= MOST_STATIONS {
-        return Ok(false);
-    }
-    push(list, keys, line, numbers)?;
-    Ok(true)
-}
-
-/// Puts the station of a line after the others, and its key after theirs. It is made once there is room for it, and
-/// so in the place in which it is kept.
-#[inline(always)]
-fn push(
-    list: &mut Vec<Station>,
-    keys: &mut Vec<(u64, u32, u32)>,
-    line: &[u8],
-    numbers: Numbers,
-) -> Result<(), Memory>
-    requires numbers { numbers ≡ numbers_of line.now }
-    requires long { 11 ≤ length line.now }
-    requires room { length list.old.items < 2 ^ 20 }
-    ensures list { OnOk result (list.new.items ≡ list.old.items ++ station_of line.now ∷ []) }
-    ensures keys { OnOk result (keys.new.items
-        ≡ keys.old.items ++ key_with_place (id_of line.now) (length list.old.items) ∷ []) }
-{
-    let place = list.len() as u32;
-    list.reserve(1)?;
-    keys.reserve(1)?;
-    list.push_reserved(Station::of_numbers(line, numbers));
-    let (front, back) = key_of_line(line);
-    keys.push_reserved((front, back, place));
-    Ok(())
 }

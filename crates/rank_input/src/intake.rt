@@ -1,7 +1,8 @@
 //! A station list and daily files, taken piece by piece.
 
-ghost use Rattle.std.specs.Prelude.{◌≡◌, ◌+◌, [], IfOk, IfErr, IfSome, IfNone};
+ghost use Rattle.std.specs.Prelude.{◌≡◌, ◌+◌, ℕ, List, [], Ok, IfOk, IfErr, IfSome, IfNone};
 ghost use Rattle.std.specs.Result.{result_transpose};
+ghost use Rattle.ghcn_files.specs.Listed.{listed};
 ghost use Rattle.ghcn_series.specs.Says.{in_64_bits};
 ghost use Rattle.rank_input.specs.Takes.{FileInput, file_input};
 ghost use Rattle.rank_input.specs.Takes.{HasTaken, HasTakenSome, IsRead, TakesBytes, TakesFileEnd};
@@ -34,6 +35,16 @@ impl<L: LineReader> Intake<L> {
         Intake {
             bytes: 0,
             read: open(alloc, stations, keep),
+        }
+    }
+
+    /// Takes the stations of a list that was read. The values of a set of elements are kept.
+    pub(crate) fn over(alloc: Global, stations: Stations, keep: Keep) -> Self
+        ensures { (text : List ℕ) → listed text ≡ Ok stations → HasTaken L.has_read result (file_input keep text []) }
+    {
+        Intake {
+            bytes: 0,
+            read: open_over(alloc, stations, keep),
         }
     }
 
@@ -119,5 +130,16 @@ fn open<L: LineReader>(alloc: Global, stations: &[u8], keep: Keep) -> Result<Cut
     ensures { IsRead L.has_read result (file_input keep stations.now []) }
 {
     let stations = Stations::read(alloc, stations)?;
+    open_over(alloc, stations, keep)
+}
+
+/// Cuts daily files into lines for the stations of a list.
+fn open_over<L: LineReader>(
+    alloc: Global,
+    stations: Stations,
+    keep: Keep,
+) -> Result<Cutter<L>, Fault>
+    ensures { (text : List ℕ) → listed text ≡ Ok stations → IsRead L.has_read result (file_input keep text []) }
+{
     Ok(Cutter::<L>::new(alloc, stations, keep)?)
 }

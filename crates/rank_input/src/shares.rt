@@ -1,19 +1,21 @@
 //! Daily files that are read in shares, side by side.
 
-ghost use Rattle.std.specs.Prelude.{◌≡◌, ◌<◌, ◌≤◌, length, IfOk, IfErr, IfSome, map, string_bytes};
+ghost use Rattle.std.specs.Prelude.{◌≡◌, ◌<◌, ◌≤◌, [], length, Ok, IfOk, IfErr, IfSome, map, string_bytes};
 ghost use denote.Param.Send.{IsSync};
+ghost use Rattle.ghcn_files.specs.Listed.{listed};
 ghost use Rattle.rank_input.specs.Feeding.{StopsAt};
 ghost use Rattle.rank_input.specs.Shares.{TakesWhole};
+ghost use Rattle.rank_input.specs.Takes.{file_input, HasTaken};
 
 use crate::archive::{Archive, Place, feed_files, piece_room};
 use crate::intake::Intake;
-use ghcn_files::Keep;
+use ghcn_files::{Keep, Stations};
 use ghcn_series::{JoinLines, LineReader};
 use std::alloc::Global;
 use std::thread::{Threads, join};
 
-/// So many bytes of daily files are worth a thread that reads them, if the station list, which each share reads too,
-/// has no more.
+/// So many bytes of daily files are worth a thread that reads them, if the station list has no more: each share has room
+/// for what it reads of each station.
 const WORTH_A_SHARE: u64 = 1 << 23;
 
 /// The most shares.
@@ -70,7 +72,23 @@ fn take_in_order<'s, 'p, A: Archive, L: LineReader>(
     ensures stopped { IfErr result (λ path.
         StopsAt (A.opens archive.now) (map string_bytes daily.entry.paths.now) path.now) }
 {
-    let mut intake = Intake::new(alloc, daily.stations, daily.keep);
+    let intake = Intake::new(alloc, daily.stations, daily.keep);
+    fill(archive, intake, daily, buffer)
+}
+
+/// Feeds them one after the other to an intake that was given the station list.
+fn fill<'s, 'p, A: Archive, L: LineReader>(
+    archive: &A,
+    mut intake: Intake<L>,
+    daily: Daily<'s, 'p>,
+    buffer: &mut [u8],
+) -> Result<Intake<L>, &'p str>
+    requires { HasTaken L.has_read intake (file_input daily.keep daily.stations.now []) }
+    ensures taken { IfOk result (TakesWhole L.has_read (A.bytes_of archive.now) (A.opens archive.now)
+        daily.entry.keep daily.entry.stations.now daily.entry.paths.now) }
+    ensures stopped { IfErr result (λ path.
+        StopsAt (A.opens archive.now) (map string_bytes daily.entry.paths.now) path.now) }
+{
     feed_files(archive, &mut intake, daily.paths, buffer)?;
     Ok(intake)
 }
@@ -99,7 +117,8 @@ fn take_shares<R: Threads + Sync, A: Archive<File: Send> + Sync, L: JoinLines<Do
     if shares < 2 {
         return None;
     }
-    take_parts(rt, alloc, archive, daily, &sizes, size, shares)
+    let list = Stations::read(alloc, daily.stations).ok()?;
+    take_parts(rt, alloc, archive, &list, daily, &sizes, size, shares)
 }
 
 /// How many bytes the files of some paths seem to have, if all are regular files.
@@ -125,17 +144,20 @@ fn sum_of(sizes: &[u64]) -> u64 {
     sum
 }
 
-/// Takes the files in so many shares. The last share has a thread of its own; the caller takes the others in the same
-/// way, and the first itself. If a thread can't be started, the caller takes its share.
+/// Takes the files in so many shares, for the stations of the list, which is read once. The last share has a thread of
+/// its own; the caller takes the others in the same way, and the first itself. If a thread can't be started, the caller
+/// takes its share.
 fn take_parts<R: Threads + Sync, A: Archive<File: Send> + Sync, L: JoinLines<Done: Send> + Send>(
     rt: &R,
     alloc: Global,
     archive: &A,
+    list: &Stations,
     daily: Daily<'_, '_>,
     sizes: &[u64],
     size: u64,
     shares: u64,
 ) -> Option<Intake<L>>
+    requires listed { listed daily.stations.now ≡ Ok list.now }
     requires some { 0 < shares }
     requires sizes { length sizes.now ≡ length daily.paths.now }
     ensures { IfSome result (TakesWhole L.has_read (A.bytes_of archive.now) (A.opens archive.now)
@@ -143,7 +165,7 @@ fn take_parts<R: Threads + Sync, A: Archive<File: Send> + Sync, L: JoinLines<Don
 {
     let before = shares - 1;
     if before == 0 {
-        return take_part(alloc, archive, daily);
+        return take_part(alloc, archive, list, daily);
     }
     let (from, share) = cut(sizes, size / shares);
     let (paths_before, own_paths) = daily.paths.split_at(from);
@@ -160,31 +182,49 @@ fn take_parts<R: Threads + Sync, A: Archive<File: Send> + Sync, L: JoinLines<Don
     let (last, first) = join(
         rt,
         move ||
-            requires { IsSync A.row }
+            requires { IsSync A.row × (listed own.stations.now ≡ Ok list.now) }
             ensures { IfSome result (TakesWhole L.has_read (A.bytes_of archive.entry.now) (A.opens archive.entry.now)
                 own.entry.keep own.entry.stations.now own.entry.paths.now) }
-        { take_part(alloc, archive, own) },
+        { take_part(alloc, archive, list, own) },
         move ||
             requires { IsSync R.row × IsSync A.row × (0 < before)
-                × (length sizes_before.now ≡ length daily_before.paths.now) }
+                × (length sizes_before.now ≡ length daily_before.paths.now)
+                × (listed daily_before.stations.now ≡ Ok list.now) }
             ensures { IfSome result (TakesWhole L.has_read (A.bytes_of archive.entry.now) (A.opens archive.entry.now)
                 daily_before.entry.keep daily_before.entry.stations.now daily_before.entry.paths.now) }
-        { take_parts(rt, alloc, archive, daily_before, sizes_before, rest, before) },
+        {
+            take_parts(
+                rt,
+                alloc,
+                archive,
+                list,
+                daily_before,
+                sizes_before,
+                rest,
+                before,
+            )
+        },
     );
     first?.join(last?)
 }
 
-/// Takes the files of a share one after the other.
+/// Takes the files of a share one after the other, for the stations of the list.
 fn take_part<A: Archive, L: LineReader>(
     alloc: Global,
     archive: &A,
+    list: &Stations,
     daily: Daily<'_, '_>,
 ) -> Option<Intake<L>>
+    requires { listed daily.stations.now ≡ Ok list.now }
     ensures { IfSome result (TakesWhole L.has_read (A.bytes_of archive.now) (A.opens archive.now)
         daily.entry.keep daily.entry.stations.now daily.entry.paths.now) }
 {
     let mut room = piece_room(alloc).ok()?;
-    take_in_order(alloc, archive, daily, &mut room).ok()
+    let Ok(stations) = list.share() else {
+        return None;
+    };
+    let intake = Intake::over(alloc, stations, daily.keep);
+    fill(archive, intake, daily, &mut room).ok()
 }
 
 /// Where the last of some files begin that have a share of the bytes, as nearly as whole files allow, and how many

@@ -134,6 +134,20 @@ fn stations_by_id_and_by_place(rt: HostRuntime) {
     assert_eq!(rt; id_of_three(rt.alloc(), 3), Some(None));
 }
 
+/// The places of the second and of a missing ID among the three, of another owner, after the first owner is gone.
+fn places_of_another_owner(alloc: Global) -> Option<(Option<u64>, Option<u64>)> {
+    let another = Stations::read(alloc, THREE).ok()?.share().ok()?;
+    Some((
+        another.place(&StationId(*b"ZZA00000002")),
+        another.place(&StationId(*b"ZZA00000004")),
+    ))
+}
+
+#[test]
+fn shared_stations_outlive_their_first_owner(rt: HostRuntime) {
+    assert_eq!(rt; places_of_another_owner(rt.alloc()), Some((Some(1), None)));
+}
+
 /// A list of stations whose IDs and latitudes have these digits, in this order.
 fn list_of(alloc: Global, digits: &[u8]) -> Result<Vec<u8>, AllocError> {
     let mut text = Vec::new(alloc);

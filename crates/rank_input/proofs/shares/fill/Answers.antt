@@ -1,10 +1,10 @@
 use Rattle.rank_input.proofs.TakenShares.{fed_share}
-use Rattle.rank_input.proofs.shares.take_in_order.Goals as goal
+use Rattle.rank_input.proofs.shares.fill.Goals as goal
 
 -- all files are fed
 pub returns-clause-taken : goal.returns-clause-taken
 returns-clause-taken g c =
     fed_share g.L.LineReader.has_read (g.A.Archive.bytes_of c.args.archive.now)
     (g.A.Archive.opens c.args.archive.now) c.args.daily.keep c.args.daily.stations.now c.args.daily.paths.now
-    c.new-intake.result c.feed_files.new.intake c.new-intake.ensures.taken c.in_ok-feed_files.ensures.fed
+    c.args.intake c.feed_files.new.intake c.requires c.in_ok-feed_files.ensures.fed
     c.in_ok-feed_files.ensures.opened

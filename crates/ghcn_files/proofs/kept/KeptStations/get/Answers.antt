@@ -1,7 +1,7 @@
 use Rattle.std.proofs.Common.{ap, sym, ◌∙◌}
 use Rattle.std.specs.Option.{option_copied}
 use Rattle.ghcn_files.proofs.ById.{found-at_place, none-without_place}
-use Rattle.ghcn_files.proofs.stations.Stations.get.Goals as goal
+use Rattle.ghcn_files.proofs.kept.KeptStations.get.Goals as goal
 
 -- no station has an ID without a place
 pub returns-in_err-place : goal.returns-in_err-place

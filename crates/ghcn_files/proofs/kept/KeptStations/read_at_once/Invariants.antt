@@ -1,7 +1,7 @@
 use Rattle.std.proofs.Common.{length}
 use Rattle.ghcn_fields.specs.Lines.{numbered_lines}
 use Rattle.ghcn_files.proofs.Gathered.{HasGathered}
-use Rattle.ghcn_files.proofs.stations.Stations.read_at_once.Given as goal
+use Rattle.ghcn_files.proofs.kept.KeptStations.read_at_once.Given as goal
 
 -- the stations of the lines so far are held, and their keys
 abbrev pub invariant-loop-line : goal.invariant-loop-line

@@ -5,8 +5,8 @@ use Rattle.ghcn_fields.specs.Lines.{numbered_lines}
 use Rattle.ghcn_files.specs.Listed.{Numbered}
 use Rattle.ghcn_files.proofs.Adding.{shows}
 use Rattle.ghcn_files.proofs.Gathered.{HasGathered, past_blank, past_line, gathered}
-use Rattle.ghcn_files.proofs.stations.Stations.read_at_once.Goals as goal
-use Rattle.ghcn_files.proofs.stations.Stations.read_at_once.Goals.{
+use Rattle.ghcn_files.proofs.kept.KeptStations.read_at_once.Goals as goal
+use Rattle.ghcn_files.proofs.kept.KeptStations.read_at_once.Goals.{
   else-not-branch-via-then-not-branch+else-not-is_blank,
   else-not-branch-via-else-not-branch,
 }
