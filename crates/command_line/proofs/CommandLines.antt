@@ -221,7 +221,7 @@ lists-null name rows Sample (inr (inr (inr is))) other = absurd is.1
 lists-null name rows (Rank asked) (inr (inr (inr is))) other = absurd is.1
 lists-null name rows (Merge asked) (inr (inr (inr is))) other = absurd is.1
 lists-null name rows (Check asked) (inr (inr (inr is))) other = absurd is.1
-lists-null name rows (Describe asked) (inr (inr (inr is))) other = files-listed rows asked.files is.1.1
+lists-null name rows (Describe asked) (inr (inr (inr is))) other = files-listed rows asked.files is.1.2
 
 -- arguments without an error that name a subcommand name the command that is read of it
 pub command-met : (words : List Text) (met : Option (Text × List Row)) (c : Command) → fault_of extremes_app words ≡ []

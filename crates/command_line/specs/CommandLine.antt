@@ -98,10 +98,11 @@ check_app = and_files (with_rule (with_rule (with_rule (with_rule (with_rule (wi
     (flag_of (codes "part")))
     (parsed few_readers (option_of (codes "workers"))))
 
--- `describe` with its option, which must be given, and files
+-- `describe` with its options, of which the station list must be given, and files
 abbrev pub describe_app : App
-describe_app = and_files (with_rule (new_app (codes "describe"))
+describe_app = and_files (with_rule (with_rule (new_app (codes "describe"))
     (required (option_of (codes "stations"))))
+    (parsed few_readers (option_of (codes "workers"))))
 
 -- the program's command line: it has a version and the subcommands `rank`, `merge`, `check` and `describe`, and needs
 -- one of these
@@ -219,6 +220,7 @@ IsDescribe rows (Rank asked) = ⊥
 IsDescribe rows (Merge asked) = ⊥
 IsDescribe rows (Check asked) = ⊥
 IsDescribe rows (Describe asked) = (string_bytes asked.stations ≡ unwrap_or (first_of (codes "stations") rows) [])
+    × AreWorkers (one_of (codes "workers") rows) asked.workers
     × AreFiles rows asked.files
 
 -- it is the name of a subcommand

@@ -55,6 +55,8 @@ pub struct CheckArguments {
 #[derive(Debug, Drop)]
 pub struct DescribeArguments {
     pub stations: String,
+    /// How many threads may read the files, 1 to 64.
+    pub workers: u64,
     pub files: NamedFiles,
 }
 

@@ -196,7 +196,8 @@ fn describe_words<'a>(alloc: Global) -> Result<clap::Command<'a>, AllocError>
     let describe = clap::Command::new(alloc, "describe")
         .about("Counts what daily files hold")
         .after_help(DESCRIBE_HELP)
-        .arg(needed(alloc, "stations", "FILE", STATIONS_HELP))?;
+        .arg(needed(alloc, "stations", "FILE", STATIONS_HELP))?
+        .arg(readers(alloc))?;
     with_files(alloc, describe)
 }
 
@@ -328,6 +329,7 @@ fn describe_of(alloc: Global, matches: &ArgMatches) -> Result<Command, CommandFa
     let files = files_of(alloc, matches)?;
     Ok(Command::Describe(DescribeArguments {
         stations: text(alloc, matches, "stations")?,
+        workers: matches.get_one("workers").unwrap_or(WORKERS),
         files,
     }))
 }

@@ -20,7 +20,7 @@ use Rattle.rank_input.specs.Takes as takes
 use Rattle.rank_input.specs.Takes.{file_input, RefusesTaken}
 use Rattle.rank_input.specs.Taken.{given, HasTaken, AreWarningsOf, RefusesInput}
 use Rattle.rank_input.specs.Feeding.{AreAllOf, AreFilesOf, AreOpened, FeedsFiles, Opening}
-use Rattle.rank_input.specs.Shares.{AsksWhole}
+use Rattle.rank_input.specs.Shares.{AsksWhole, TakesWhole}
 use Rattle.rank_input.proofs.Openings.{opened-for, opened-both}
 use Rattle.ghcn_fields.specs.Refusals.{IsRefusal}
 use Rattle.rank_input.proofs.Feedings.{input-files}
@@ -143,25 +143,21 @@ described-is : (t : Intake RowDescriber) (keep : Keep) (stations : List ℕ) (fi
 described-is t keep stations files (Ok text) taken ok err = ok.is (file_input keep stations files) taken
 described-is t keep stations files (Err fault) taken ok err = err.is (file_input keep stations files) taken
 
--- the description by an intake that was fed all files that are named
-pub describes-files : (bytes_of : Known) (opens : Opening) (d : Describing) (old new : Intake RowDescriber) (keep : Keep) (list stations : List ℕ)
-    (answer : Result DescriptionText Fault) → list ≡ string_bytes d.stations
-    → AreAllOf (bytes_of list) stations → takes.HasTaken HasDescribedByRows old (file_input keep stations [])
-    → FeedsFiles HasDescribedByRows old new (map (bytes_named bytes_of) d.files.items)
-    → IfOk answer (DescribesIntake new) → IfErr answer (RefusesTaken HasDescribedByRows new) → opens list true
-    → AreOpened opens (map string_bytes d.files.items) → DescribesFiles bytes_of opens d answer
-describes-files bytes_of opens d old new keep list stations answer same_list whole taken fed ok err first others =
-    let all : takes.HasTaken HasDescribedByRows new (file_input keep stations fed.files) =
-    subst (takes.HasTaken HasDescribedByRows new) (input-files keep stations [] fed.files)
-    (fed.taken (file_input keep stations []) taken) in
+-- the description by an intake that was given all files that are named
+pub describes-files : (bytes_of : Known) (opens : Opening) (d : Describing) (t : Intake RowDescriber) (keep : Keep)
+    (list stations : List ℕ) (answer : Result DescriptionText Fault) → list ≡ string_bytes d.stations
+    → AreAllOf (bytes_of list) stations → TakesWhole HasDescribedByRows bytes_of opens keep stations d.files.items t
+    → IfOk answer (DescribesIntake t) → IfErr answer (RefusesTaken HasDescribedByRows t) → opens list true
+    → DescribesFiles bytes_of opens d answer
+describes-files bytes_of opens d t keep list stations answer same_list whole takes ok err first =
     record {
       opened = opened-for is_memory opens (describing_paths d) answer
-          (subst (λ (l : List ℕ). opens l true) same_list first, others);
+          (subst (λ (l : List ℕ). opens l true) same_list first, takes.opened);
       stations = stations;
       whole = subst (λ (l : List ℕ). AreAllOf (bytes_of l) stations) same_list whole;
-      files = fed.files;
-      all = fed.all;
-      described = described-is new keep stations fed.files answer all ok err;
+      files = takes.files;
+      all = takes.all;
+      described = described-is t keep stations takes.files answer takes.taken ok err;
     }
 
 -- there are files whose bytes are all of those that are known

@@ -164,6 +164,7 @@ IsDescribingRun bytes_of opens names_of line s asked ending =
     ⊎ RunsOver bytes_of opens names_of asked.files (λ paths. RunsDescribing bytes_of opens line s (record {
       stations = asked.stations;
       files = paths;
+      workers = asked.workers;
     }) asked.files) ending
 
 -- what a run of a command prints and writes, and how it ends: a check and a description write no certificate

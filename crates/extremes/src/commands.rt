@@ -261,8 +261,8 @@ fn judge_named<
 
 /// Names the files that a description asks for, describes them, and prints the description.
 pub(crate) fn run_describing<
-    R: AllocGlobal + Clock + Eprint + Sync,
-    A: Archive,
+    R: Threads + AllocGlobal + Clock + Eprint + Sync,
+    A: Archive<File: Send> + Sync,
     M: Messages,
     W: Write,
 >(
@@ -279,18 +279,28 @@ pub(crate) fn run_describing<
 {
     let DescribeArguments {
         stations,
+        workers,
         files: named,
     } = asked;
     let files = match daily_files(rt.alloc(), archive, &named) {
         Ok(files) => files,
         Err(why) => return unnamed(rt.alloc(), archive, &why, &named, messages, words),
     };
-    let describing = Describing { stations, files };
+    let describing = Describing {
+        stations,
+        files,
+        workers,
+    };
     describe_named(rt, archive, &describing, &named, messages, out, words)
 }
 
 /// Describes files that are named, and prints the description.
-fn describe_named<R: AllocGlobal + Clock + Eprint + Sync, A: Archive, M: Messages, W: Write>(
+fn describe_named<
+    R: Threads + AllocGlobal + Clock + Eprint + Sync,
+    A: Archive<File: Send> + Sync,
+    M: Messages,
+    W: Write,
+>(
     rt: &R,
     archive: &A,
     describing: &Describing,

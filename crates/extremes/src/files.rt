@@ -22,7 +22,8 @@ use ghcn_files::Keep;
 use ghcn_series::Warnings;
 use rank_crew::Open;
 use rank_input::{
-    Archive, Fault, Intake, Question, check_words, feed_files, piece_room, read_whole, workers_for,
+    Archive, Daily, Fault, Intake, Question, check_words, piece_room, read_whole, take_files,
+    workers_for,
 };
 use rank_merge::MergeFault;
 use std::alloc::Global;
@@ -57,6 +58,8 @@ pub(crate) struct Judging {
 pub(crate) struct Describing {
     pub(crate) stations: String,
     pub(crate) files: Vec<String>,
+    /// How many threads may read the files.
+    pub(crate) workers: u64,
 }
 
 /// Reads the station list and then the daily files in order, and ranks them, or returns the path of
@@ -211,21 +214,33 @@ pub(crate) fn judge_files<'p, R: Threads + AllocGlobal + Sync, A: Archive<File: 
 
 /// Reads the station list and then the daily files in order, and describes them, or returns the path
 /// of the first file that can't be read.
-pub(crate) fn describe_files<'p, A: Archive>(
-    alloc: Global,
+pub(crate) fn describe_files<'p, R: Threads + AllocGlobal + Sync, A: Archive<File: Send> + Sync>(
+    rt: &R,
     archive: &A,
     describing: &'p Describing,
 ) -> Result<Result<DescriptionText, Fault>, &'p str>
     ensures describes { IfOk result (DescribesFiles (A.bytes_of archive.now) (A.opens archive.now) describing.now) }
     ensures stopped { IfErr result (λ path. StopsAt (A.opens archive.now) (describing_paths describing.now) path.now) }
 {
+    let alloc = rt.alloc();
     let Ok(stations) = read_whole(alloc, archive, &describing.stations) else {
         return Err(&describing.stations);
     };
     let Ok(mut room) = piece_room(alloc) else {
         return Ok(Err(Fault::Memory(Memory)));
     };
-    let mut intake = Intake::<RowDescriber>::new(alloc, &stations, Keep::nothing());
-    feed_files(archive, &mut intake, &describing.files, &mut room)?;
+    let daily = Daily {
+        stations: &stations,
+        keep: Keep::nothing(),
+        paths: &describing.files,
+    };
+    let intake: Intake<RowDescriber> = take_files(
+        rt,
+        alloc,
+        archive,
+        daily,
+        describing.workers,
+        &mut room,
+    )?;
     Ok(describe_intake(alloc, intake))
 }

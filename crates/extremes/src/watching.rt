@@ -68,7 +68,11 @@ pub(crate) fn judge_watched<
 }
 
 /// Describes files, or returns the path of the first that can't be read.
-pub(crate) fn describe_watched<'p, R: AllocGlobal + Clock + Eprint + Sync, A: Archive>(
+pub(crate) fn describe_watched<
+    'p,
+    R: Threads + AllocGlobal + Clock + Eprint + Sync,
+    A: Archive<File: Send> + Sync,
+>(
     rt: &R,
     archive: &A,
     describing: &'p Describing,
@@ -83,7 +87,7 @@ pub(crate) fn describe_watched<'p, R: AllocGlobal + Clock + Eprint + Sync, A: Ar
         archive,
         watch: &watch,
     };
-    let described = describe_files(rt.alloc(), &watched, describing);
+    let described = describe_files(rt, &watched, describing);
     watch.end();
     described
 }

@@ -3,10 +3,8 @@ use Rattle.std.proofs.Common.{◌≡◌, ℕ, ◌+◌, Bool, true, false, cond, 
 use Rattle.std.specs.Prelude.{◌&&◌, ◌||◌, not}
 use Rattle.std.specs.List.{AllByRecursion, AllZip, count_by, list_any, sum_by}
 use Rattle.std.specs.List.Sorted.{IsStrictlySortedBy}
-use Rattle.std.proofs.lemmas.Bool.Decides.{Decides-eqb}
 use Rattle.std.proofs.lemmas.Cmp.{nat_list_eq_equiv}
 use Rattle.std.proofs.lemmas.List.Sums.{sum_by-cons}
-use Rattle.std.proofs.lemmas.Slice.Eq.{slice_eq-Decides}
 use Rattle.ghcn_fields.specs.Bytes.{same_bytes}
 use Rattle.ghcn_files.specs.declared.element.Element.{Element}
 use Rattle.ghcn_files.specs.declared.station.Station.{Station}
@@ -18,7 +16,7 @@ use Rattle.ghcn_description.specs.Described.{AreCounts, IsCounted, codes_of, has
 use Rattle.ghcn_description.specs.Laws.{DescriptionsAddUp}
 use Rattle.ghcn_description.specs.Lines.{code_on, is_other, lines_of_element, lines_with, other_lines}
 use Rattle.ghcn_description.proofs.AddedLines.{lines-add_up}
-use Rattle.ghcn_description.proofs.OtherCodes.{IsBefore, Rise, none_behind}
+use Rattle.ghcn_description.proofs.OtherCodes.{IsBefore, Rise, none_behind, same_bytes-is}
 
 -- the lines of elements, as they are counted
 of_elements : (stations : List Station) (ls : List FileLine) (cs : List ElementCounts) (es : List Element)
@@ -44,10 +42,6 @@ one_of_three true false false apart = refl
 one_of_three true true false apart = refl
 one_of_three true true true apart = absurd (let no = apart refl in absurd cc)
 
--- codes that are the same by their bytes are the same
-same_code : (a b : List ℕ) → same_bytes a b ≡ true → a ≡ b
-same_code a b e = (slice_eq-Decides Decides-eqb a b (same_bytes a b) refl).0 e
-
 -- lines of other codes that aren't among some
 further : (ks : List (List ℕ)) (ls : List FileLine) → ℕ
 further ks ls = count_by (λ l. is_other l && not (has_code_among ks l)) ls
@@ -59,7 +53,7 @@ unfolding further
 one_code k ks [] before = refl
 one_code k ks (l ∷ ls) before =
     let apart : same_bytes k (code_on l) ≡ true → has_code_among ks l ≡ false = λ is.
-    subst (λ c. list_any (λ d. same_bytes d c) ks ≡ false) (same_code k (code_on l) is) (none_behind ks k before) in
+    subst (λ c. list_any (λ d. same_bytes d c) ks ≡ false) (same_bytes-is k (code_on l) is) (none_behind ks k before) in
     let here : cond {A = ℕ} (is_other l && not (has_code_among ks l)) 1 0
     ≡ cond (is_other l && same_bytes (code_on l) k) 1 0 + cond (is_other l && not (has_code_among (k ∷ ks) l)) 1 0 =
     one_of_three (is_other l) (same_bytes k (code_on l)) (has_code_among ks l) apart

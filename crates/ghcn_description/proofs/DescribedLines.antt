@@ -43,7 +43,7 @@ use Rattle.ghcn_description.proofs.MoreLines.{counts-other, counts-this}
 -- ---- five counts
 
 -- five counts of the elements
-five : (R : ElementCounts → Element → Type 0) (cs : List ElementCounts) → AllZip R cs elements
+pub five : (R : ElementCounts → Element → Type 0) (cs : List ElementCounts) → AllZip R cs elements
     → (a : ElementCounts) × (b : ElementCounts) × (c : ElementCounts) × (d : ElementCounts) × (e : ElementCounts)
     × (cs ≡ a ∷ b ∷ c ∷ d ∷ e ∷ [])
 five R [] h = absurd h
@@ -89,7 +89,7 @@ below-five Tmax = omega arith
 below-five Tmin = omega arith
 
 -- tests that agree return the same for the elements
-five-agree : (g h : Element → Bool) → ((x : Element) → g x ≡ h x) → map g elements ≡ map h elements
+pub five-agree : (g h : Element → Bool) → ((x : Element) → g x ≡ h x) → map g elements ≡ map h elements
 five-agree g h same = rw (same Prcp, same Snow, same Snwd, same Tmax, same Tmin) refl
 
 -- of which elements the station of an ID has a fact, if it is listed
@@ -288,7 +288,7 @@ module _ (stations : List Station) (keep : Keep) (ls : List FileLine) (l : FileL
 
     -- a describer has counted a line of another code
     pub counted-other : (old : Describer) (r : Reader) (others : Others) → HasReadFor r stations nothing after
-        → CountsCode old.others others (code_on l) → HasDescribed old stations keep ls
+        → CountsCode old.others others (code_on l) 1 → HasDescribed old stations keep ls
         → HasDescribed (record {
           reader = r;
           with_days = old.with_days;
@@ -302,7 +302,7 @@ module _ (stations : List Station) (keep : Keep) (ls : List FileLine) (l : FileL
           (λ c e h. same-months stations ls after c e no-month h) of.counts;
       with_days = of.with_days
           ∙ sym (ap (λ ms. map (elements_with (filter (is_usable stations) (flat_map facts_of ms))) stations) no-month);
-      others = adds.holds ls l is-other refl of.others;
+      others = adds.holds ls (l ∷ []) ((is-other, refl), tt) refl of.others;
       unlisted = of.unlisted ∙ sym (ap (count_by (λ x. not (is_listed stations x.id))) no-month);
     }
 

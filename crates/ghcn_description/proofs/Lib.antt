@@ -6,3 +6,6 @@ pub mod ShownText
 pub mod MonthFigures
 pub mod MoreLines
 pub mod DescribedLines
+pub mod LinesOfCodes
+pub mod JoinedCodes
+pub mod JoinedLines

@@ -64,7 +64,7 @@ one-split true false false false false never apart beside = refl
 -- ---- codes that rise
 
 -- a code that comes before another is another one
-apart : (a b : List ℕ) → Precedes a b → same_bytes a b ≡ false
+pub apart : (a b : List ℕ) → Precedes a b → same_bytes a b ≡ false
 apart a b e = sym (is_eq-slice_cmp a b) ∙ ap is_eq e
 
 -- so is the one that comes after
@@ -130,7 +130,7 @@ all-back P (x ∷ xs) ys h = all-back P xs ys h.1
 -- ---- which codes are among some
 
 -- a code isn't among those that come before it
-none_before : (ks : List (List ℕ)) (k : List ℕ) → AllBefore ks k → list_any (λ c. same_bytes c k) ks ≡ false
+pub none_before : (ks : List (List ℕ)) (k : List ℕ) → AllBefore ks k → list_any (λ c. same_bytes c k) ks ≡ false
 none_before [] k h = refl
 none_before (c ∷ ks) k h = rw (apart c k h.0) (none_before ks k h.1)
 
@@ -139,8 +139,34 @@ pub none_behind : (ks : List (List ℕ)) (k : List ℕ) → IsBefore k ks → li
 none_behind [] k h = refl
 none_behind (c ∷ ks) k h = rw (apart-behind c k h.0) (none_behind ks k h.1)
 
+-- codes that are the same by their bytes are the same
+pub same_bytes-is : (a b : List ℕ) → same_bytes a b ≡ true → a ≡ b
+same_bytes-is a b e = (slice_eq-Decides Decides-eqb a b (same_bytes a b) refl).0 e
+
+-- no line has a code that isn't among these, unless as many as are named come before it
+pub no_line : (code : List ℕ) (ks : List (List ℕ)) (xs : List FileLine) → list_any (λ c. same_bytes c code) ks ≡ false
+    → (length ks ≡ most_codes → AllBefore ks code → ⊥) → AllByRecursion (IsBehind ks) xs → lines_with xs code ≡ 0
+no_line code ks [] none not_all all = refl
+no_line code ks (x ∷ xs) none not_all all =
+    let more = no_line code ks xs none not_all all.1 in
+    let sums = sum_by-cons (λ y. cond (is_other y && same_bytes (code_on y) code) 1 0) x xs in
+    let none_here : cond {A = ℕ} (is_other x && same_bytes (code_on x) code) 1 0 ≡ 0 =
+    ap (λ b. cond {A = ℕ} b 1 0) (not_this (is_other x) (same_bytes (code_on x) code) refl refl) in
+    omega (arith, more, sums, none_here)
+  where
+    not_this : (o s : Bool) → is_other x ≡ o → same_bytes (code_on x) code ≡ s
+        → (is_other x && same_bytes (code_on x) code) ≡ false
+    not_this false s e f = rw e refl
+    not_this true false e f = rw (e, f) refl
+    not_this true true e f =
+        let same : code_on x ≡ code = same_bytes-is (code_on x) code f in
+        let test : (is_other x && not (has_code_among ks x)) ≡ true =
+        rw (e, ap (λ k. list_any (λ c. same_bytes c k) ks) same ∙ none) refl in
+        let far = all.0 test in
+        absurd (not_all far.0 (subst (AllBefore ks) same far.1))
+
 -- the codes of two lists together
-codes-append : (xs ys : List CodeCount) → codes_of (xs ++ ys) ≡ codes_of xs ++ codes_of ys
+pub codes-append : (xs ys : List CodeCount) → codes_of (xs ++ ys) ≡ codes_of xs ++ codes_of ys
 codes-append xs ys = map-append (λ c. c.code) xs ys
 
 -- a line's code is counted beside the lines before it
@@ -257,32 +283,6 @@ module _ (ls : List FileLine) (l : FileLine) (other : is_other l ≡ true) where
 
   -- ---- a new code
 
-  -- codes that are the same by their bytes are the same
-  same_bytes-is : (a b : List ℕ) → same_bytes a b ≡ true → a ≡ b
-  same_bytes-is a b e = (slice_eq-Decides Decides-eqb a b (same_bytes a b) refl).0 e
-
-  -- no line has a code that isn't among these, unless as many as are named come before it
-  no_line : (ks : List (List ℕ)) (xs : List FileLine) → has_code_among ks l ≡ false
-      → (length ks ≡ most_codes → AllBefore ks code → ⊥) → AllByRecursion (IsBehind ks) xs → lines_with xs code ≡ 0
-  no_line ks [] none not_all all = refl
-  no_line ks (x ∷ xs) none not_all all =
-      let more = no_line ks xs none not_all all.1 in
-      let sums = sum_by-cons (λ y. cond (is_other y && same_bytes (code_on y) code) 1 0) x xs in
-      let none_here : cond {A = ℕ} (is_other x && same_bytes (code_on x) code) 1 0 ≡ 0 =
-      ap (λ b. cond {A = ℕ} b 1 0) (not_this (is_other x) (same_bytes (code_on x) code) refl refl) in
-      omega (arith, more, sums, none_here)
-    where
-      not_this : (o s : Bool) → is_other x ≡ o → same_bytes (code_on x) code ≡ s
-          → (is_other x && same_bytes (code_on x) code) ≡ false
-      not_this false s e f = rw e refl
-      not_this true false e f = rw (e, f) refl
-      not_this true true e f =
-          let same : code_on x ≡ code = same_bytes-is (code_on x) code f in
-          let test : (is_other x && not (has_code_among ks x)) ≡ true =
-          rw (e, ap (λ k. list_any (λ c. same_bytes c k) ks) same ∙ none) refl in
-          let far = all.0 test in
-          absurd (not_all far.0 (subst (AllBefore ks) same far.1))
-
   -- a line isn't among fewer codes
   fewer : (o a s b : Bool) → (o && not (a || (s || b))) ≡ true → (o && not (a || b)) ≡ true
   fewer false a s b e = absurd cc
@@ -346,7 +346,7 @@ module _ (ls : List FileLine) (l : FileLine) (other : is_other l ≡ true) where
       let none : has_code_among (codes_of xs ++ codes_of ys) l ≡ false =
       list_any-append (λ c. same_bytes c code) (codes_of xs) (codes_of ys)
       ∙ rw (none_before (codes_of xs) code before) (none_behind (codes_of ys) code behind) in
-      let nobody = no_line (codes_of xs
+      let nobody = no_line code (codes_of xs
       ++ codes_of ys) ls none (λ full h. omega (arith, full, many, room)) old_behind in
       let more = rw (other, nat_list_eq_equiv.refl code) at (lines_with-more ls l code) in
       let of_ys = all-back (IsCounted ls) xs ys of.lines in
@@ -498,7 +498,7 @@ module _ (ls : List FileLine) (l : FileLine) (other : is_other l ≡ true) where
       let old_further = subst (λ k. n
       ≡ count_by (λ x. is_other x && not (has_code_among k x)) ls) old_codes of.further_lines in
       let among : has_code_among (cs ++ code ∷ ds) l ≡ true = among-at cs ds code refl in
-      let nobody = no_line ((cs ++ ds) ++ z ∷ []) ls (new-fresh cs ds z many rising before behind ahead)
+      let nobody = no_line code ((cs ++ ds) ++ z ∷ []) ls (new-fresh cs ds z many rising before behind ahead)
       (λ all_full h. not-all cs ds z many rising before behind ahead h) was in
       let more = rw (other, nat_list_eq_equiv.refl code) at (lines_with-more ls l code) in
       let counted = all-front (IsCounted ls) (xs ++ ys) (last ∷ []) of.lines in
@@ -657,14 +657,14 @@ place-is code cs i within parted = record {
 }
 
 -- a list around a place
-split-at : {X : Type 0} (xs : List X) (i : ℕ) (d : X) → i < length xs
+pub split-at : {X : Type 0} (xs : List X) (i : ℕ) (d : X) → i < length xs
     → xs ≡ take i xs ++ get_or xs i d ∷ drop (suc i) xs
 split-at [] i d lt = absurd (omega arith)
 split-at (x ∷ xs) zero d lt = refl
 split-at (x ∷ xs) (suc i) d lt = ap (λ ys. x ∷ ys) (split-at xs i d (omega arith))
 
 -- the same with another element there
-split-set : {X : Type 0} (xs : List X) (i : ℕ) (v : X) → i < length xs → set xs i v ≡ take i xs ++ v ∷ drop (suc i) xs
+pub split-set : {X : Type 0} (xs : List X) (i : ℕ) (v : X) → i < length xs → set xs i v ≡ take i xs ++ v ∷ drop (suc i) xs
 split-set [] i v lt = absurd (omega arith)
 split-set (x ∷ xs) zero v lt = refl
 split-set (x ∷ xs) (suc i) v lt = ap (λ ys. x ∷ ys) (split-set xs i v (omega arith))
@@ -676,7 +676,7 @@ pub found-at : (ls : List FileLine) (l : FileLine) (cs : List CodeCount) (i n : 
     → AreOthers ls cs n → AreOthers (ls ++ l ∷ []) (set cs i new) n
 found-at ls l cs i n there new other lt at ties same more of =
     let is : there.code ≡ code_on l =
-    same_bytes-is ls l other there.code (code_on l) (sym (is_eq-slice_cmp there.code (code_on l)) ∙ ap is_eq ties) in
+    same_bytes-is there.code (code_on l) (sym (is_eq-slice_cmp there.code (code_on l)) ∙ ap is_eq ties) in
     let parts : cs ≡ take i cs ++ there ∷ drop (suc i) cs =
     split-at cs i there lt ∙ ap (λ c. take i cs ++ c ∷ drop (suc i) cs) (sym at) in
     subst (λ ds. AreOthers (ls ++ l ∷ []) ds n) (sym (split-set cs i new lt))

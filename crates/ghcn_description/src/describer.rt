@@ -1,21 +1,21 @@
 //! Counts what is on the lines of daily files.
 
-ghost use Rattle.std.specs.Prelude.{◌≡◌, ◌<◌, [], true, length, IfOk, OnOk};
+ghost use Rattle.std.specs.Prelude.{◌≡◌, ◌<◌, [], true, length, IfOk, IfNone, IfSome, OnOk};
 ghost use Rattle.ghcn_files.specs.declared.element.Keep.{Keep};
 ghost use Rattle.ghcn_files.specs.Elements.{everything};
 ghost use Rattle.ghcn_files.specs.Flags.{flagged_values};
 ghost use Rattle.ghcn_files.specs.Rows.{IsOfLine};
-ghost use Rattle.ghcn_series.specs.LinesRead.{HasReadSome};
+ghost use Rattle.ghcn_series.specs.LinesRead.{HasReadSome, HaveReadAlike, JoinsLines, ReadOneStation};
 ghost use Rattle.ghcn_series.specs.Steps.{IsOfMonth, OfMonth};
 ghost use Rattle.ghcn_description.specs.Describing.{HasDescribed, AddsMonth, CountsAt, Finishes};
 
 use crate::counts::sum;
-use crate::elements::{no_counts, place_of};
+use crate::elements::{join_counts, join_marks, no_counts, place_of};
 use crate::others::{Others, shown_code};
 use crate::{Description, ElementCounts};
 use ghcn_fields::Memory;
 use ghcn_files::{Keep, MonthReader, MonthRow, Stations, flagged_values};
-use ghcn_series::{DailyWhy, DataFault, LineCounts, LineReader, Reader};
+use ghcn_series::{DailyWhy, DataFault, JoinLines, LineCounts, LineReader, Reader};
 use std::alloc::Global;
 
 /// What was counted on the lines that were read so far.
@@ -67,7 +67,7 @@ impl LineReader for RowDescriber {
         match self.months.read(bytes, Keep::everything()) {
             Ok(true) => {}
             Ok(false) => {
-                return match self.describer.others.add(shown_code(bytes)) {
+                return match self.describer.others.add(shown_code(bytes), 1) {
                     Ok(()) => Ok(false),
                     Err(memory) => Err(DataFault::Memory(memory)),
                 };
@@ -91,6 +91,18 @@ impl LineReader for RowDescriber {
     }
 }
 
+impl JoinLines for RowDescriber {
+    fn join(self, next: Self) -> Result<Option<Self>, Memory> {
+        let Some(describer) = self.describer.join(next.describer)? else {
+            return Ok(None);
+        };
+        Ok(Some(RowDescriber {
+            months: self.months,
+            describer,
+        }))
+    }
+}
+
 impl Describer {
     /// Nothing read yet.
     fn new(alloc: Global, stations: Stations) -> Result<Self, Memory>
@@ -108,6 +120,31 @@ impl Describer {
             others: Others::new(alloc),
             unlisted: 0,
         })
+    }
+
+    /// What was counted on the lines of this one and then on those of the next one. Or nothing, if a listed station has
+    /// months in both.
+    fn join(self, next: Self) -> Result<Option<Self>, Memory>
+        requires { HaveReadAlike HasDescribed self next }
+        ensures joined { IfOk result (λ both. IfSome both (JoinsLines HasDescribed self next)) }
+        ensures apart { IfOk result (λ both. IfNone both (ReadOneStation HasDescribed self next)) }
+    {
+        let Some(reader) = self.reader.join(next.reader)? else {
+            return Ok(None);
+        };
+        let mut with_days = self.with_days;
+        join_marks(&mut with_days, &next.with_days);
+        let mut elements = self.elements;
+        join_counts(&mut elements, &next.elements, &with_days)?;
+        let mut others = self.others;
+        others.join(&next.others)?;
+        Ok(Some(Describer {
+            reader,
+            with_days,
+            elements,
+            others,
+            unlisted: sum(self.unlisted, next.unlisted)?,
+        }))
     }
 
     /// What that many files hold, of whose lines these are the counts.

@@ -1,14 +1,15 @@
 //! Counts what listed stations have of an element, month by month.
 
-ghost use Rattle.std.specs.Prelude.{◌≡◌, ◌<◌, ◌+◌, [], ◌++◌, true, IfOk, OnOk, List, ℤ, Some, if◌then◌else◌, pos, ◌+ℤ◌};
+ghost use Rattle.std.specs.Prelude.{◌≡◌, ◌<◌, ◌+◌, [], ◌++◌, ◌||◌, true, length, IfOk, OnOk, List, ℤ, Some, if◌then◌else◌, pos, ◌+ℤ◌};
 ghost use Rattle.std.specs.Int.{int_min, int_max};
-ghost use Rattle.std.specs.List.{AllZip};
+ghost use Rattle.std.specs.List.{AllZip, count_by};
+ghost use lib.Lanes.{zip2};
 ghost use Rattle.ghcn_fields.specs.Days.{day_number, day_if};
 ghost use Rattle.ghcn_files.specs.Elements.{elements, element_index};
 ghost use Rattle.ghcn_files.specs.Flags.{flagged_values};
 ghost use Rattle.ghcn_series.specs.Steps.{IsOfMonth, OfMonth};
 ghost use Rattle.ghcn_description.specs.Described.{IsSpan};
-ghost use Rattle.ghcn_description.specs.Steps.{CountsMonth, IsEmpty, days_of_month};
+ghost use Rattle.ghcn_description.specs.Steps.{CountsMonth, IsEmpty, JoinElements, JoinsCounts, days_of_month, has_mark};
 
 use crate::counts::sum;
 use crate::{ElementCounts, Span};
@@ -44,6 +45,64 @@ impl ElementCounts {
         self.span = joined(self.span, span_of(row));
         Ok(())
     }
+
+    /// Adds what was counted on other lines, if that many stations have a usable day on either.
+    fn join(&mut self, next: &ElementCounts, series: u64) -> Result<(), Memory>
+        ensures { OnOk result (JoinsCounts self.old next.now series self.new) }
+    {
+        self.lines = sum(self.lines, next.lines)?;
+        self.series = series;
+        self.days = sum(self.days, next.days)?;
+        self.flagged = sum(self.flagged, next.flagged)?;
+        self.span = joined(self.span, next.span);
+        Ok(())
+    }
+}
+
+/// Adds what was counted on other lines, by element, if this says of each station of which elements it has a usable day
+/// on either.
+pub(crate) fn join_counts(
+    elements: &mut [ElementCounts; 5],
+    next: &[ElementCounts; 5],
+    with_days: &[[bool; 5]],
+) -> Result<(), Memory>
+    ensures { OnOk result (JoinElements elements.old next.now with_days.now elements.new) }
+{
+    for at in 0..5 {
+        elements[at].join(&next[at], series_at(with_days, at))?;
+    }
+    Ok(())
+}
+
+/// Marks of which elements stations have a usable day, on some lines or on others.
+pub(crate) fn join_marks(marks: &mut [[bool; 5]], others: &[[bool; 5]])
+    requires { length others.now ≡ length marks.old }
+    ensures { marks.new ≡ zip2 (zip2 ◌||◌) marks.old others.now }
+{
+    for place in 0..marks.len() {
+        join_station(&mut marks[place], &others[place]);
+    }
+}
+
+/// Marks of which elements a station has a usable day, on some lines or on others.
+fn join_station(marks: &mut [bool; 5], others: &[bool; 5])
+    ensures { marks.new ≡ zip2 ◌||◌ marks.old others.now }
+{
+    for at in 0..5 {
+        marks[at] |= others[at];
+    }
+}
+
+/// How many stations have a usable day of the element at a place.
+fn series_at(with_days: &[[bool; 5]], at: usize) -> u64
+    requires { at < 5 }
+    ensures { result ≡ count_by (has_mark at) with_days.now }
+{
+    let mut series = 0u64;
+    for marks in with_days {
+        series += one_if(marks[at]);
+    }
+    series
 }
 
 /// Nothing counted yet, by element.

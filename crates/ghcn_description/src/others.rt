@@ -1,12 +1,12 @@
 //! Counts lines of codes that are none of the five elements'.
 
-ghost use Rattle.std.specs.Prelude.{◌≡◌, ◌≤◌, ◌+◌, length, map, [], OnOk};
+ghost use Rattle.std.specs.Prelude.{◌≡◌, ◌<◌, ◌≤◌, ◌+◌, length, map, [], OnOk};
 ghost use Rattle.std.specs.Cmp.Lexicographic.{slice_cmp};
 ghost use Rattle.std.specs.Ordering.{nat_cmp};
 ghost use Rattle.ghcn_fields.specs.Lines.{columns};
 ghost use Rattle.ghcn_description.specs.Described.{AreOthers};
 ghost use Rattle.ghcn_description.specs.Lines.{shown};
-ghost use Rattle.ghcn_description.specs.Steps.{HasCountedSome, CountsCode, IsPlaceOf, MakesRoom};
+ghost use Rattle.ghcn_description.specs.Steps.{HasCountedSome, CountsCode, JoinsCodes, IsPlaceOf, MakesRoom};
 
 use crate::CodeCount;
 use crate::counts::sum;
@@ -40,33 +40,35 @@ impl Others {
         }
     }
 
-    /// Adds a line of a code.
-    pub(crate) fn add(&mut self, code: [u8; 4]) -> Result<(), Memory>
-        requires { HasCountedSome self.old }
-        ensures { OnOk result (CountsCode self.old self.new code) }
+    /// Adds some lines of a code.
+    pub(crate) fn add(&mut self, code: [u8; 4], lines: u64) -> Result<(), Memory>
+        requires some { 0 < lines }
+        requires counted { HasCountedSome self.old }
+        ensures { OnOk result (CountsCode self.old self.new code lines) }
     {
         match self
             .counts
             .binary_search_by(|count| order(&count.code, &code))
         {
             Ok(place) => {
-                self.counts[place].lines = sum(self.counts[place].lines, 1)?;
+                self.counts[place].lines = sum(self.counts[place].lines, lines)?;
                 Ok(())
             }
-            Err(place) => self.add_new(place, code),
+            Err(place) => self.add_new(place, code, lines),
         }
     }
 
-    /// Adds a line of a code that isn't among the others, and belongs at a place.
-    fn add_new(&mut self, place: usize, code: [u8; 4]) -> Result<(), Memory>
-        requires { IsPlaceOf code self.old.counts.items place }
-        ensures { OnOk result (CountsCode self.old self.new code) }
+    /// Adds some lines of a code that isn't among the others, and belongs at a place.
+    fn add_new(&mut self, place: usize, code: [u8; 4], lines: u64) -> Result<(), Memory>
+        requires some { 0 < lines }
+        requires place { IsPlaceOf code self.old.counts.items place }
+        ensures { OnOk result (CountsCode self.old self.new code lines) }
     {
         if place >= MOST_CODES {
-            return self.pass_over(1);
+            return self.pass_over(lines);
         }
         self.make_room()?;
-        self.counts.insert(place, CodeCount { code, lines: 1 })?;
+        self.counts.insert(place, CodeCount { code, lines })?;
         Ok(())
     }
 
@@ -90,6 +92,18 @@ impl Others {
     {
         self.further = sum(self.further, lines)?;
         Ok(())
+    }
+
+    /// Adds what was counted on other lines.
+    pub(crate) fn join(&mut self, next: &Others) -> Result<(), Memory>
+        requires counted { HasCountedSome self.old }
+        requires next { HasCountedSome next.now }
+        ensures { OnOk result (JoinsCodes self.old next.now self.new) }
+    {
+        for count in &next.counts {
+            self.add(count.code, count.lines)?;
+        }
+        self.pass_over(next.further)
     }
 
     /// The codes with their numbers of lines, and how many lines have a code after those.

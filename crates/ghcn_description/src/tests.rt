@@ -157,3 +157,64 @@ fn descriptions_of_two_files(rt: HostRuntime) {
         Err(fault) => assert_eq!(rt; Some(fault), None),
     }
 }
+
+const OF_SHARES: &[u8] = b"extremes description 1
+stations 2
+files 2
+lines 4
+element PRCP lines 0 series 0 days 0 flagged 0
+element SNOW lines 0 series 0 days 0 flagged 0
+element SNWD lines 0 series 0 days 0 flagged 0
+element TMAX lines 2 series 2 days 4 flagged 2 from 2020-06-01 to 2020-07-03
+element TMIN lines 0 series 0 days 0 flagged 0
+other WESD lines 2
+odd lines 0
+unlisted lines 0
+blank lines 0
+end
+";
+
+/// The text of two files that a describer each has read, if the two can be joined.
+fn text_of_shares(alloc: Global, file: &[u8], other: &[u8]) -> Result<Option<Vec<u8>>, DataFault> {
+    let Ok(stations) = Stations::read(alloc, STATIONS) else {
+        return Err(DataFault::Memory(Memory));
+    };
+    let Ok(again) = Stations::read(alloc, STATIONS) else {
+        return Err(DataFault::Memory(Memory));
+    };
+    let mut first = Cutter::<RowDescriber>::new(alloc, stations, Keep::nothing())?;
+    first.piece(file);
+    first.end_of_file();
+    let mut next = Cutter::<RowDescriber>::new(alloc, again, Keep::nothing())?;
+    next.piece(other);
+    next.end_of_file();
+    match first.join(next)? {
+        Some(both) => Ok(Some(both.finish()?.text(alloc)?)),
+        None => Ok(None),
+    }
+}
+
+/// A file of a month and of a line of another code, both of a station.
+fn file_of(month: &[u8; 21], other: &[u8; 21]) -> [u8; 540] {
+    let three = b"  311     400 I   322   ";
+    let mut file = [b' '; 540];
+    file[..270].copy_from_slice(&line_of(month, three));
+    file[270..].copy_from_slice(&line_of(other, three));
+    file
+}
+
+#[test]
+fn descriptions_of_two_shares(rt: HostRuntime) {
+    let july = file_of(b"ZZA00000001202007TMAX", b"ZZA00000001202007WESD");
+    let june = file_of(b"ZZA00000002202006TMAX", b"ZZA00000002202006WESD");
+    let august = file_of(b"ZZA00000001202008TMAX", b"ZZA00000001202008WESD");
+    match text_of_shares(rt.alloc(), &july, &june) {
+        Ok(Some(text)) => assert_eq!(rt; text.as_slice(), OF_SHARES),
+        Ok(None) => assert!(rt; false),
+        Err(fault) => assert_eq!(rt; Some(fault), None),
+    }
+    match text_of_shares(rt.alloc(), &july, &august) {
+        Ok(text) => assert!(rt; text.is_none()),
+        Err(fault) => assert_eq!(rt; Some(fault), None),
+    }
+}

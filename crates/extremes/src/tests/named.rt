@@ -139,6 +139,7 @@ fn judging(alloc: Global, list: &str) -> Result<Command, AllocError> {
 fn describing(alloc: Global, list: &str) -> Result<Command, AllocError> {
     Ok(Command::Describe(DescribeArguments {
         stations: String::from_str(alloc, "stations")?,
+        workers: 4,
         files: named(alloc, list)?,
     }))
 }

@@ -158,9 +158,24 @@ fn commands_to_describe(rt: HostRuntime) -> Result<(), Fail> {
     let Ok(Command::Describe(asked)) = command(rt.alloc(), describe) else {
         return Err(Fail::from("no command to describe"));
     };
-    let DescribeArguments { stations, files } = asked;
+    let DescribeArguments {
+        stations,
+        workers,
+        files,
+    } = asked;
     assert_eq!(rt; stations.as_str(), "s");
+    assert_eq!(rt; workers, 4);
     assert!(rt; are_words(files.paths.as_slice(), &["a", "b"]));
+    Ok(())
+}
+
+#[test]
+fn commands_to_describe_by_some(rt: HostRuntime) -> Result<(), Fail> {
+    let describe = words_of(rt.alloc(), &["describe", "--workers=64", "--stations=s"])?;
+    let Ok(Command::Describe(asked)) = command(rt.alloc(), describe) else {
+        return Err(Fail::from("no command to describe"));
+    };
+    assert_eq!(rt; asked.workers, 64);
     Ok(())
 }
 
@@ -256,7 +271,7 @@ fn shown(alloc: Global, words: &[&str]) -> Result<String, Fail> {
 fn texts_of_words(rt: HostRuntime) -> Result<(), Fail> {
     let odd = "error: each report is followed by its certificate, and the last one has none\n";
     let null = "error: --null says how the names of a list end, and --files-from names no list\n";
-    let cases: [(&[&str], &str); 13] = [
+    let cases: [(&[&str], &str); 14] = [
         (&["rank", "--stations=s", "--query=q", "--null", "a"], null),
         (
             &[
@@ -280,6 +295,10 @@ fn texts_of_words(rt: HostRuntime) -> Result<(), Fail> {
                 "--workers=65",
             ],
             "65 is not in 1..=64",
+        ),
+        (
+            &["describe", "--stations=s", "--workers=0"],
+            "0 is not in 1..=64",
         ),
         (&["merge", "--query=q", "--files-from=l"], "'--files-from'"),
         (&["merge", "--query=q", "-0"], "'-0'"),

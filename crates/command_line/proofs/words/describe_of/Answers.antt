@@ -1,5 +1,21 @@
+use Rattle.std.proofs.Common.{◌∙◌, codes}
+use Rattle.std.specs.Str.Parse.{ParsesUnsigned, ExplainsUnsignedError, HasUnsignedDigitsIfOk}
+use Rattle.clap.specs.Words.{found_of}
+use Rattle.clap.proofs.WalkLemmas.{one_text-rows}
+use Rattle.command_line.proofs.CommandLines.{count_read}
 use Rattle.command_line.proofs.words.describe_of.Goals as goal
 
 -- each field is what the matches have under its name
 pub returns-clause-ok : goal.returns-clause-ok
-returns-clause-ok c = (c.in_ok-text.ensures, c.in_ok-files.ensures.ok)
+returns-clause-ok c = let f = found_of c.args.matches.now in (
+  c.in_ok-text.ensures,
+  (
+    c.get_one.result,
+    count_read (λ bs r. ParsesUnsigned 64 10 bs r × ExplainsUnsignedError 10 bs r × HasUnsignedDigitsIfOk bs r)
+        (λ bs r given. given.0) _ _
+        (λ e. c.get_one.ensures.none (one_text-rows f (codes "workers") ∙ e))
+        (λ t e. c.get_one.ensures.value t (one_text-rows f (codes "workers") ∙ e)),
+    c.unwrap_or.ensures,
+  ),
+  c.in_ok-files.ensures.ok,
+)

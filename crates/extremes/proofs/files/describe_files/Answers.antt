@@ -1,6 +1,8 @@
 use Rattle.std.proofs.Common.{ℕ, true, List, Global, String, map, sym, subst}
 use Rattle.std.specs.Prelude.{string_bytes}
-use Rattle.rank_input.specs.Feeding.{AreAllOf, AreOpened, FeedsFiles, IsTried, StopsAt}
+use Rattle.rank_input.specs.Feeding.{AreAllOf, IsTried, StopsAt}
+use Rattle.rank_input.specs.Shares.{TakesWhole}
+use Rattle.rank_input.specs.Takes.{file_input}
 use Rattle.rank_input.proofs.Openings.{stops-first, stops-later}
 use Rattle.std.proofs.lemmas.Result.{err_from_is_err_and}
 use Rattle.extremes.specs.Describes.{describing_paths}
@@ -14,23 +16,23 @@ returns-in_default-piece_room-clause-describes g c =
     describes-memory (g.A.Archive.bytes_of c.args.archive.now) (g.A.Archive.opens c.args.archive.now) c.args.describing.now c.deref.result.now
     c.in-Ok.stations.items _ c.deref.ensures c.in-Ok.ensures.whole
 
--- the intake was given something
-pub feed_files-requires : goal.feed_files-requires
-feed_files-requires g c = c.new-intake.ensures.going
+-- the intake was given the files
+pub describe_intake-requires : goal.describe_intake-requires
+describe_intake-requires g c =
+    let taken = c.in_ok-intake.ensures.taken in
+    (file_input c.nothing.result c.deref-2.result.now taken.files, taken.taken)
 
--- what was fed is described
+-- what was taken is described
 pub returns-clause-describes : goal.returns-clause-describes
 returns-clause-describes g c =
     let bytes_of = g.A.Archive.bytes_of c.args.archive.now in
-    describes-files bytes_of (g.A.Archive.opens c.args.archive.now) c.args.describing.now c.new-intake.result c.feed_files.new.intake _ c.deref.result.now
+    let opens = g.A.Archive.opens c.args.archive.now in
+    describes-files bytes_of opens c.args.describing.now c.in_ok-intake.intake c.nothing.result c.deref.result.now
     c.deref-2.result.now c.describe_intake.result c.deref.ensures
     (subst (AreAllOf (bytes_of c.deref.result.now)) (sym c.deref-2.ensures.value) c.in-Ok.ensures.whole)
-    c.new-intake.ensures.taken
-    (subst (λ (fs : List (String Global)). FeedsFiles HasDescribedByRows c.new-intake.result c.feed_files.new.intake
-    (map (λ f. bytes_of (string_bytes f)) fs)) c.deref-3.ensures.value c.in_ok-feed_files.ensures.fed)
+    (subst (λ (fs : List (String Global)). TakesWhole HasDescribedByRows bytes_of opens c.nothing.result
+    c.deref-2.result.now fs c.in_ok-intake.intake) c.deref-3.ensures.value c.in_ok-intake.ensures.taken)
     c.describe_intake.ensures.ok c.describe_intake.ensures.err c.in-Ok.ensures.opened
-    (subst (λ (fs : List (String Global)). AreOpened (g.A.Archive.opens c.args.archive.now) (map string_bytes fs))
-    c.deref-3.ensures.value c.in_ok-feed_files.ensures.opened)
 
 -- the station list can't be read
 pub returns-in_default-clause-stopped : goal.returns-in_default-clause-stopped
@@ -41,12 +43,12 @@ returns-in_default-clause-stopped g c =
     (subst (λ (p : List ℕ). IsTried opens p) c.deref.ensures c.read_whole.ensures.tried))
 
 -- or a daily file can't be
-pub returns-in_err-feed_files-clause-stopped : goal.returns-in_err-feed_files-clause-stopped
-returns-in_err-feed_files-clause-stopped g c =
+pub returns-in_err-intake-clause-stopped : goal.returns-in_err-intake-clause-stopped
+returns-in_err-intake-clause-stopped g c =
     let opens = g.A.Archive.opens c.args.archive.now in
     let p = err_from_is_err_and c.from_residual.result c.from_residual.ensures.1 in
     rw (p.1, p.2) (stops-later opens (string_bytes c.args.describing.now.stations) _ _
     (subst (λ (l : List ℕ). opens l true) c.deref.ensures c.in-Ok.ensures.opened)
-    (subst (λ (fs : List (String Global)). StopsAt opens (map string_bytes fs) c.in_err-feed_files.field-0.0.now)
+    (subst (λ (fs : List (String Global)). StopsAt opens (map string_bytes fs) c.in_err-intake.field-0.0.now)
     c.deref-3.ensures.value
-    c.in_err-feed_files.ensures.stopped))
+    c.in_err-intake.ensures.stopped))

@@ -20,13 +20,13 @@ returns-in-Ok-clause-element c =
 pub returns-in-Ok-clause-read : goal.returns-in-Ok-clause-read
 returns-in-Ok-clause-read c =
     let is : read_month c.args.bytes.now ≡ Ok None = rw c.in-Ok-false.field-0-test at c.in-Ok-false.ensures in
-    let adds = subst (CountsCode c.args.self.now.describer.others c.add.new.self) c.shown_code.ensures
+    let adds = subst (λ code. CountsCode c.args.self.now.describer.others c.add.new.self code 1) c.shown_code.ensures
     c.in-Ok.ensures in
     record {
       holds = λ like alike.
           let l : FileLine = file_line c.args.file (c.args.line, like) in
           let passed : read_month like ≡ Ok None = same_read like c.args.bytes.now alike ∙ is in
-          let code = subst (λ cs. CountsCode c.args.self.now.describer.others c.add.new.self (map shown cs))
+          let code = subst (λ cs. CountsCode c.args.self.now.describer.others c.add.new.self (map shown cs) 1)
           (sym (same_code like c.args.bytes.now alike)) adds in
           record {
             holds = λ stations keep before of.

@@ -6,23 +6,24 @@ use Rattle.std.specs.declared.cmp.Ordering.TheVariants.{Less, Equal, Greater}
 use Rattle.std.proofs.lemmas.Fn.{always_returns_same}
 use Rattle.std.proofs.lemmas.List.{get_or_default}
 use Rattle.ghcn_description.specs.declared.counts.CodeCount.{CodeCount}
-use Rattle.ghcn_description.proofs.OtherCodes.{searchable, place-is, found-at}
+use Rattle.ghcn_description.proofs.LinesOfCodes.{more-found-at}
+use Rattle.ghcn_description.proofs.OtherCodes.{searchable, place-is}
 use Rattle.ghcn_description.proofs.others.Others.add.Goals as goal
 
 -- the code belongs at the place at which the search ends
-pub add_new-requires : goal.add_new-requires
-add_new-requires c =
+pub add_new-requires-clause-place : goal.add_new-requires-clause-place
+add_new-requires-clause-place c =
     let cs : List CodeCount = c.args.self.now.counts.items in
     let value = c.deref.ensures.value in
     let parted = c.in-Err.ensures.position (λ e. slice_cmp nat_cmp e.code c.args.code)
     (always_returns_same _ _ _ (λ a r g called. search rules))
     (subst (λ (ds : List CodeCount). IsNonDecreasingBy (λ e. ordering_index (slice_cmp nat_cmp e.code c.args.code)) ds)
-    (sym value) (searchable c.args.code cs c.requires.1.rising)) in
+    (sym value) (searchable c.args.code cs c.requires.counted.1.rising)) in
     place-is c.args.code cs c.in-Err.place (omega (arith, c.in-Err.ensures.bound, ap length value))
     (subst (λ ds. IsPartitionPoint (λ (e : CodeCount). slice_cmp nat_cmp e.code c.args.code ≡ Less)
     (λ (e : CodeCount). slice_cmp nat_cmp e.code c.args.code ≡ Greater) ds c.in-Err.place) value parted)
 
--- a line more is counted at the place at which the code was found
+-- the lines are counted at the place at which the code was found
 pub returns-in_ok-self-in-Ok : goal.returns-in_ok-self-in-Ok
 returns-in_ok-self-in-Ok c =
     let cs : List CodeCount = c.args.self.now.counts.items in
@@ -35,14 +36,14 @@ returns-in_ok-self-in-Ok c =
     (always_returns_same _ _ _ (λ a r g called. search rules)) there in
     let found = subst (λ (ds : List CodeCount). slice_cmp nat_cmp (get_or ds place there).code c.args.code ≡ Equal)
     value ties in
-    let more : c.in_ok-self-in-Ok.field-0 ≡ there.lines + 1 =
+    let sum : c.in_ok-self-in-Ok.field-0 ≡ there.lines + c.args.lines =
     c.in_ok-self-in-Ok.ensures
-    ∙ ap (λ (e : CodeCount). e.lines + 1)
+    ∙ ap (λ (e : CodeCount). e.lines + c.args.lines)
     (c.index.ensures ∙ get_or_default cs place c.index.result.now there lt ∙ sym at) in
     record {
-      holds = λ ls l other is of.
-          found-at ls l cs place c.args.self.now.further there
-          (record { code = there.code; lines = c.in_ok-self-in-Ok.field-0 }) other lt at
-          (subst (λ k. slice_cmp nat_cmp there.code k ≡ Equal) is
-          (ap (λ (e : CodeCount). slice_cmp nat_cmp e.code c.args.code) at ∙ found)) refl more of;
+      holds = λ ls more have many of.
+          more-found-at c.args.code ls more cs place c.args.self.now.further there
+          (record { code = there.code; lines = c.in_ok-self-in-Ok.field-0 }) have (omega (arith, many, c.requires.some))
+          lt at (ap (λ (e : CodeCount). slice_cmp nat_cmp e.code c.args.code) at ∙ found) refl
+          (sum ∙ ap (λ n. there.lines + n) (sym many)) of;
     }
