@@ -16,7 +16,7 @@ columns_text first last bytes =
 abbrev pub columns_in : List ℕ → ℕ → ℕ → List ℕ
 columns_in line first last = columns_text first last (columns_of line first last)
 
--- what so many columns are called
+-- the word for this many columns
 abbrev pub column_word : ℕ → List ℕ
 column_word count = if count == 1 then codes "column" else codes "columns"
 

@@ -10,7 +10,7 @@ use ghcn_fields::lines;
 use rank_input::{Archive, Fault, Place, read_whole};
 use std::alloc::Global;
 
-/// How many bytes a file may have that is read again; no file of NOAA's has so many.
+/// How many bytes a file may have that is read again; no file of NOAA's has that many.
 const LONGEST: u64 = 1 << 26;
 
 /// The bytes that files of gzip begin with.

@@ -106,7 +106,7 @@ impl<'a> fmt::Display for Found<'a> {
     }
 }
 
-/// What so many columns are called.
+/// The word for this many columns.
 fn column_word(count: u64) -> &'static str
     ensures { result.now ≡ column_word count }
 {

@@ -108,7 +108,7 @@ impl<'r, R: Clock + Eprint> Watch<'r, R> {
     }
 }
 
-/// The millisecond that comes so many after now, if the clock can be read.
+/// The millisecond that comes this many after now, if the clock can be read.
 fn due_after<R: Clock>(rt: &R, later: u64) -> Option<u64> {
     Some(milliseconds(rt)?.saturating_add(later))
 }

@@ -27,7 +27,7 @@ pub struct Intake<L> {
 }
 
 impl<L: LineReader> Intake<L> {
-    /// Takes the whole station list. The values of a set of elements are kept.
+    /// Takes the whole station list; no byte of a daily file came yet. The values of a set of elements are kept.
     pub fn new(alloc: Global, stations: &[u8], keep: Keep) -> Self
         ensures taken { HasTaken L.has_read result (file_input keep stations.now []) }
         ensures going { HasTakenSome L.has_read result }
@@ -38,7 +38,8 @@ impl<L: LineReader> Intake<L> {
         }
     }
 
-    /// Takes the stations of a list that was read. The values of a set of elements are kept.
+    /// Takes the stations of a list that was read; no byte of a daily file came yet. The values of a set of elements are
+    /// kept.
     pub(crate) fn over(alloc: Global, stations: Stations, keep: Keep) -> Self
         ensures { (text : List ℕ) → listed text ≡ Ok stations → HasTaken L.has_read result (file_input keep text []) }
     {

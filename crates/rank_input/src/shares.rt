@@ -94,8 +94,8 @@ fn fill<'s, 'p, A: Archive, L: LineReader>(
 }
 
 /// Takes them in shares. Nothing if one share is as good, and if the files have to be taken one after the other:
-/// one of them isn't a regular file, can't be read or has an error, there are too many of them, or two shares have
-/// months of one station.
+/// the station list has an error, a file isn't a regular file, can't be read or has an error, there are too many files,
+/// or two shares have months of one station.
 fn take_shares<R: Threads + Sync, A: Archive<File: Send> + Sync, L: JoinLines<Done: Send> + Send>(
     rt: &R,
     alloc: Global,
@@ -144,9 +144,9 @@ fn sum_of(sizes: &[u64]) -> u64 {
     sum
 }
 
-/// Takes the files in so many shares, for the stations of the list, which is read once. The last share has a thread of
-/// its own; the caller takes the others in the same way, and the first itself. If a thread can't be started, the caller
-/// takes its share.
+/// Takes the files in this many shares, for the stations of the list, which is read once. The last share has a thread
+/// of its own; the caller takes the others in the same way, and the first itself. If a thread can't be started, the
+/// caller takes its share.
 fn take_parts<R: Threads + Sync, A: Archive<File: Send> + Sync, L: JoinLines<Done: Send> + Send>(
     rt: &R,
     alloc: Global,
