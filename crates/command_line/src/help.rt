@@ -158,7 +158,7 @@ Refusals (A is the number of a word of the query, F that of a daily file, L that
   refused 9 QueryEnds                     the query ends where a word is needed
   refused 10 OutOfLimits A                K isn't from 1 to 1000, N not from 1 to 366, T not from -100
                                           to 100, or a month not from 1 to 12
-  refused 11 BadDate A                    the word isn't a date
+  refused 11 BadDate A                    the word isn't a date, or isn't MM-DD..MM-DD
   refused 12 BadBox A                     an edge isn't a number of degrees, or N is less than S
   refused 13 EmptyPeriod                  the second date is before the first
   refused 18 BadWorkers                   the number of workers isn't from 1 to 64

@@ -1,6 +1,7 @@
 pub mod Each
 pub mod SortedCandidates
 pub mod Examples
+pub mod GroupExamples
 pub mod Accepted
 pub mod RightRows
 pub mod RightLines

@@ -6,11 +6,12 @@ use Rattle.std.specs.List.{flat_map}
 use Rattle.jiff_core.specs.Calendar.{days_from_civil, day_count, days_of_years, days_of_months}
 use Rattle.ghcn_fields.specs.Dates.{year_and_rest, month_and_day}
 use Rattle.ghcn_files.specs.declared.element.Element.TheVariants.{Tmax}
+use Rattle.rank_query.specs.declared.per.Per.TheVariants.{Station as ByStation}
 use Rattle.rank_query.specs.declared.score.Score.TheVariants.{Highest}
 use Rattle.rank_query.specs.Asked.{Asked, top}
 use Rattle.rank_query.specs.Words.{says}
 use Rattle.rank_query.specs.Readers.{keyword}
-use Rattle.rank_query.specs.WordValues.{number, element}
+use Rattle.rank_query.specs.WordValues.{number, element, group}
 use Rattle.rank_query.specs.Reading.{no_score_at, score_at, region_at, season_at, period_at, per_at, read_words, read_query}
 use Rattle.rank_merge.specs.declared.fault.MergeFault.TheVariants.{BadReport, BadCertificate, OtherQuery, OutOfOrder}
 use Rattle.rank_merge.specs.declared.fault.MergeFault.TheVariants.{OtherFloor, NotRising, NotScanned, NotCounted, Twice}
@@ -139,3 +140,35 @@ heads_refused : (merge (ask 2) (papers (codes "2") (codes "1 ZZA00000002 2020-07
 unfolding digits year_and_rest month_and_day read_query read_words keyword says number element score_at no_score_at
     region_at season_at period_at per_at days_from_civil day_count days_of_years days_of_months
 heads_refused = (refl, refl, refl, refl, refl)
+
+-- ---- groups
+
+-- the report and the certificate of the two hottest days, of each station the best alone
+abbrev papers_of_stations : List (List ℕ) → List (List ℕ) → Texts
+papers_of_stations rows lines =
+    let asked : List ℕ = codes "query top 2 highest TMAX per station" in
+    (text (codes "extremes report 1" ∷ asked ∷ rows), text (codes "extremes certificate 2" ∷ asked ∷ lines))
+
+-- those of the part with the first station, of which only one day counts
+abbrev first_part : Texts
+first_part = papers_of_stations (codes "1 ZZA00000001 2019-07-02 2019-07-02 31.1 C ALPHA" ∷ codes "end 1 all" ∷ [])
+    (codes "kth none" ∷ codes "scan ZZA00000001 311 1" ∷ codes "end 1" ∷ [])
+
+-- those of the part with two others
+abbrev other_part : Texts
+other_part = papers_of_stations (codes "1 ZZA00000002 2020-07-01 2020-07-01 32.0 C BRAVO"
+    ∷ codes "2 ZZA00000003 2020-07-01 2020-07-01 25.0 C CHARLIE" ∷ codes "end 2" ∷ [])
+    (codes "kth 250" ∷ codes "scan ZZA00000002 320 1" ∷ codes "scan ZZA00000003 250 1" ∷ codes "end 2" ∷ [])
+
+-- and those of both
+abbrev both_parts : Texts
+both_parts = papers_of_stations (codes "1 ZZA00000002 2020-07-01 2020-07-01 32.0 C BRAVO"
+    ∷ codes "2 ZZA00000001 2019-07-02 2019-07-02 31.1 C ALPHA" ∷ codes "end 2" ∷ [])
+    (codes "kth 311" ∷ codes "scan ZZA00000001 311 1" ∷ codes "scan ZZA00000002 320 1"
+    ∷ codes "scan ZZA00000003 250 0" ∷ codes "end 3" ∷ [])
+
+-- parts with a group merge into these
+stations_merged : merge (record (ask 2) { per = ByStation }) (first_part ∷ other_part ∷ []) ≡ Ok both_parts
+unfolding digits year_and_rest month_and_day read_query read_words keyword says number element group score_at
+    no_score_at region_at season_at period_at per_at days_from_civil day_count days_of_years days_of_months
+stations_merged = refl

@@ -28,6 +28,9 @@ type Values = [&'static [i32]; 3];
 
 const USUAL: Values = [&[311, 305], &[311], &[250]];
 
+/// The second station has two hot days.
+const TWO_HOT_DAYS: Values = [&[311], &[320, 318], &[250]];
+
 /// Writes the line of a station's month, if it has a day.
 fn push_month(text: &mut String, id: &str, values: &[i32]) -> Result<(), AllocError> {
     if values.is_empty() {
@@ -178,12 +181,12 @@ fn records_come_haul_after_haul(rt: HostRuntime) {
     assert_eq!(rt; found, Some([(0, 0), (2, 0), (1, 1)]));
 }
 
-/// One worker over the usual values under a guess: the lines, how many skips are undone, and how
-/// many records are skips.
-fn guessed(alloc: Global, query: &str, guess: i64) -> Option<(Lines, u64, usize)>
+/// One worker over these values under a guess: the lines, how many skips are undone, and how many
+/// records are skips.
+fn guessed(alloc: Global, values: &Values, query: &str, guess: i64) -> Option<(Lines, u64, usize)>
     requires { IsScore guess }
 {
-    let data = data_of(alloc, &USUAL)?;
+    let data = data_of(alloc, values)?;
     let query = Query::parse(query).ok()?;
     let plan = Plan::new(alloc, &data, &query).ok()?;
     let answer = run_alone(alloc, &plan, Some(guess)).ok()?;
@@ -193,12 +196,25 @@ fn guessed(alloc: Global, query: &str, guess: i64) -> Option<(Lines, u64, usize)
 
 #[test]
 fn guesses(rt: HostRuntime) {
-    let right = guessed(rt.alloc(), "top 1 highest TMAX", 311);
+    let right = guessed(rt.alloc(), &USUAL, "top 1 highest TMAX", 311);
     assert_eq!(rt; right, Some((SKIPPED, 0, 1)), "311");
-    let high = guessed(rt.alloc(), "top 1 highest TMAX", 1000);
+    let high = guessed(rt.alloc(), &USUAL, "top 1 highest TMAX", 1000);
     assert_eq!(rt; high, Some((SKIPPED, 2, 3)), "1000");
-    let of_ten = guessed(rt.alloc(), "top 10 highest TMAX", 300);
+    let of_ten = guessed(rt.alloc(), &USUAL, "top 10 highest TMAX", 300);
     assert_eq!(rt; of_ten, Some((SCANNED, 1, 1)), "300");
+    // The second day of BRAVO is warmer than all of ALPHA, but BRAVO has one candidate, so ALPHA's skip is undone.
+    let of_stations = guessed(
+        rt.alloc(),
+        &TWO_HOT_DAYS,
+        "top 2 highest TMAX per station",
+        320,
+    );
+    let lines = [(311, false), (320, false), (250, true)];
+    assert_eq!(rt;
+        of_stations,
+        Some((lines, 1, 2)),
+        "of each station the best day"
+    );
 }
 
 /// Why two workers' events are refused, if they are.
