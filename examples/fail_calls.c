@@ -5,6 +5,7 @@
    FAIL_HOW    fail: it ends with an error; one: it takes or gives one byte; signal: it is interrupted;
                full: writes take this many bytes in all, and then there is no space; FAIL_AT is that number;
                most: each read gives at most FAIL_AT bytes, after three million of them what it asks for;
+               slow: each read waits for FAIL_AT milliseconds;
                disks: all files have the number 1, each on a disk of its own
    FAIL_FILE   a file's name without its folder. FAIL_HOW cut: its reads end after FAIL_AT bytes;
                missing: it can't be opened; denied: it may not be opened
@@ -113,6 +114,8 @@ ssize_t getdents64(int file, void *into, size_t size) {
 }
 
 ssize_t read(int file, void *into, size_t size) {
+    if (is_how("slow"))
+        usleep(1000 * (useconds_t)atol(said("FAIL_AT")));
     if (is_how("cut") && file == cut_file) {
         long left = atol(said("FAIL_AT")) - atomic_load(&bytes);
         ssize_t taken = syscall(SYS_read, file, into, (long)size < left ? (long)size : left);
