@@ -9,9 +9,10 @@ ghost use Rattle.rank_input.specs.Takes.{file_input, HasTaken};
 
 use crate::archive::{Archive, Place, feed_files, piece_room};
 use crate::intake::Intake;
-use ghcn_files::{Keep, Stations};
+use ghcn_files::{Keep, Stations, are_visible};
 use ghcn_series::{JoinLines, LineReader};
 use std::alloc::Global;
+use std::io::Read;
 use std::thread::{Threads, join};
 
 /// So many bytes of daily files are worth a thread that reads them, if the station list has no more: each share has room
@@ -34,7 +35,7 @@ pub struct Daily<'s, 'p> {
 /// Takes the station list and all daily files in their order, or returns the path of the first that can't be read.
 ///
 /// If it is worth it, at most that many readers read a share of the files each, all at once: one in the caller's
-/// thread and each other one in a thread of its own. A file may then be opened twice.
+/// thread and each other one in a thread of its own. A file may then be opened several times.
 pub fn take_files<
     's,
     'p,
@@ -94,8 +95,8 @@ fn fill<'s, 'p, A: Archive, L: LineReader>(
 }
 
 /// Takes them in shares. Nothing if one share is as good, and if the files have to be taken one after the other:
-/// the station list has an error, a file isn't a regular file, can't be read or has an error, there are too many files,
-/// or two shares have months of one station.
+/// the station list has an error, a file isn't a regular file, is named twice, can't be read or has an error, there are
+/// too many files, or two shares have months of one station.
 fn take_shares<R: Threads + Sync, A: Archive<File: Send> + Sync, L: JoinLines<Done: Send> + Send>(
     rt: &R,
     alloc: Global,
@@ -114,7 +115,7 @@ fn take_shares<R: Threads + Sync, A: Archive<File: Send> + Sync, L: JoinLines<Do
     let worth = WORTH_A_SHARE.max(daily.stations.len() as u64);
     let files = daily.paths.len() as u64;
     let shares = readers.min(MOST_SHARES).min(files).min(size / worth);
-    if shares < 2 {
+    if shares < 2 || has_one_twice(alloc, daily.paths)? {
         return None;
     }
     let list = Stations::read(alloc, daily.stations).ok()?;
@@ -133,6 +134,20 @@ fn sizes_of<A: Archive>(alloc: Global, archive: &A, paths: &[String]) -> Option<
         }
     }
     Some(sizes)
+}
+
+/// Whether two of some paths are the same.
+fn has_one_twice(alloc: Global, paths: &[String]) -> Option<bool> {
+    let mut sorted = Vec::with_capacity(alloc, paths.len()).ok()?;
+    for path in paths {
+        sorted.push(path.as_str()).ok()?;
+    }
+    sorted.sort_unstable();
+    Some(
+        sorted
+            .windows(2)
+            .any(|pair| matches!(pair, [one, other] if one == other)),
+    )
 }
 
 /// The sum of some sizes, or 2^64 - 1 if it is more.
@@ -169,6 +184,9 @@ fn take_parts<R: Threads + Sync, A: Archive<File: Send> + Sync, L: JoinLines<Don
     }
     let (from, share) = cut(sizes, size / shares);
     let (paths_before, own_paths) = daily.paths.split_at(from);
+    if begin_alike(archive, paths_before, own_paths) {
+        return None;
+    }
     let (sizes_before, _) = sizes.split_at(from);
     let daily_before = Daily {
         paths: paths_before,
@@ -227,15 +245,39 @@ fn take_part<A: Archive, L: LineReader>(
     fill(archive, intake, daily, &mut room).ok()
 }
 
+/// Whether the last of some files and the first of those after them begin with one station, as files by year do. Then
+/// two shares would have months of it.
+fn begin_alike<A: Archive>(archive: &A, before: &[String], after: &[String]) -> bool {
+    let (Some(last), Some(first)) = (before.last(), after.first()) else {
+        return false;
+    };
+    match (first_id(archive, last), first_id(archive, first)) {
+        (Some(one), Some(other)) => one == other,
+        _ => false,
+    }
+}
+
+/// The first eleven bytes of a file, if they can be read at once and may be an ID.
+fn first_id<A: Archive>(archive: &A, path: &str) -> Option<[u8; 11]> {
+    let mut file = archive.open(path).ok()?;
+    let mut id = [0; 11];
+    let read = file.read(&mut id).ok()?;
+    if read == id.len() && are_visible(&id) {
+        Some(id)
+    } else {
+        None
+    }
+}
+
 /// Where the last of some files begin that have a share of the bytes, as nearly as whole files allow, and how many
-/// bytes these have.
+/// bytes these have. They are at least one file.
 fn cut(sizes: &[u64], share: u64) -> (usize, u64)
     ensures { result.0 ≤ length sizes.now }
 {
     let mut cut: u64 = 0;
     for at in (0..sizes.len()).rev() {
         let more = sizes[at];
-        if cut.saturating_add(more / 2) >= share {
+        if at + 1 < sizes.len() && cut.saturating_add(more / 2) >= share {
             return (at + 1, cut);
         }
         cut = cut.saturating_add(more);

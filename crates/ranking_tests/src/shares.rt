@@ -46,7 +46,9 @@ const FILES: Texts = &[
     ("alpha again", ALPHA_IN_AUGUST),
     ("beta", BETA_IN_JULY),
     ("unlisted", UNLISTED),
+    ("unlisted too", UNLISTED),
     ("short", b"\nZZA\n"),
+    ("short too", b"\nZZA\n"),
     ("odd", b"ZZA00000001202007TAVG\nZZA00000001202007----\n"),
     ("empty", b""),
 ];
@@ -153,7 +155,7 @@ const MANY: &[&str] = &[
     "empty",
     "beta",
     "odd",
-    "unlisted",
+    "unlisted too",
 ];
 
 /// Both files of ALPHA, with another between them.
@@ -163,48 +165,56 @@ const APART: &[&str] = &["alpha", "beta", "alpha again"];
 fn shares_of_files(rt: HostRuntime) -> Result<(), Fail> {
     let plain = "unlisted 0 foreign 0 None odd 0 None";
     let warned = "unlisted 2 foreign 1 Some(5) odd 1 Some(LinePlace { file: 5, line: 2 })";
-    // The names, how many readers there may be, what is shown, and how often a file is opened: twice if the shares
-    // can't be joined.
-    let cases: [(&[&str], u64, &str, &str, u64); 15] = [
+    // The names, how many readers there may be, what is shown, and how often a file is opened: once more for each side
+    // of a cut, and once more if the shares can't be joined.
+    let cases: [(&[&str], u64, &str, &str, u64); 16] = [
         (&[], 4, "- - - - ", plain, 0),
         (&["alpha", "beta"], 0, "310 - 320 - ", plain, 2),
         (&["alpha", "beta"], 1, "310 - 320 - ", plain, 2),
-        (&["alpha", "beta"], 2, "310 - 320 - ", plain, 2),
-        (&["beta", "alpha"], 64, "310 - 320 - ", plain, 2),
+        (&["alpha", "beta"], 2, "310 - 320 - ", plain, 4),
+        (&["beta", "alpha"], 64, "310 - 320 - ", plain, 4),
         (MANY, 1, "310 200 320 - ", warned, 7),
-        (MANY, 2, "310 200 320 - ", warned, 7),
-        (MANY, 3, "310 200 320 - ", warned, 7),
-        // Both files of ALPHA are in shares of their own.
-        (MANY, 64, "310 200 320 - ", warned, 14),
+        (MANY, 2, "310 200 320 - ", warned, 9),
+        (MANY, 3, "310 200 320 - ", warned, 11),
+        // Both files of ALPHA are in shares of their own, and begin alike: the four files after them are read twice.
+        (MANY, 64, "310 200 320 - ", warned, 21),
         (APART, 1, "310 200 320 - ", plain, 3),
-        (APART, 3, "310 200 320 - ", plain, 6),
+        (APART, 3, "310 200 320 - ", plain, 10),
+        // The last cut is between both files of ALPHA, so nothing is read twice.
+        (
+            &["beta", "alpha", "alpha again"],
+            3,
+            "310 200 320 - ",
+            plain,
+            5,
+        ),
         (
             &["alpha", "short"],
             2,
             "refused 5 DailyLine file 2 line 2 ",
             "Short",
-            4,
+            6,
         ),
         (
-            &["short", "beta", "short"],
+            &["short", "beta", "short too"],
             3,
             "refused 5 DailyLine file 1 line 2 ",
             "Short",
-            6,
+            10,
         ),
         (
             &["alpha", "alpha"],
             2,
             "refused 5 DailyLine file 2 line 1 ",
             "DuplicateMonth",
-            4,
+            2,
         ),
         (
             &["alpha", "none", "beta", "nowhere"],
             4,
             "none ",
             "can't be read",
-            6,
+            12,
         ),
     ];
     for (names, readers, first, second, opened) in cases {
@@ -221,8 +231,8 @@ fn shares_of_files(rt: HostRuntime) -> Result<(), Fail> {
 fn files_that_change(rt: HostRuntime) -> Result<(), Fail> {
     let hottest = "top 1 highest TMAX";
     let cases: [(&str, &[&str], u64, &str); 4] = [
-        (hottest, APART, 4, "beta can't be read, 5 opened"),
-        (hottest, APART, 3, "alpha can't be read, 4 opened"),
+        (hottest, APART, 8, "beta can't be read, 9 opened"),
+        (hottest, APART, 7, "alpha can't be read, 8 opened"),
         (
             "top 1 highest TMX",
             APART,
