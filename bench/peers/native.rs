@@ -3,9 +3,10 @@
 //! a short list. It makes the tests of a line that the program makes.
 //!
 //!   rustc --edition 2024 -C opt-level=3 -C panic=abort -C target-cpu=native -o native native.rs
-//!   native --stations FILE --query QUERY [--hold] FILE..
+//!   native --stations FILE --query QUERY [--hold] [--threads=N] FILE..
 //!
-//! With --hold all files are read before the first line is, as the program's library asks for.
+//! With --hold all files are read before the first line is, as the program's library asks for. With --threads=N as many
+//! threads read and scan shares of the files, and the best of all shares are put together.
 
 mod shared;
 
@@ -298,35 +299,89 @@ fn scan_spells(series: &Series, id: Id, pool: &mut Pool, passes: impl Fn(i32) ->
     }
 }
 
-fn main() {
-    let command = Command::read();
-    let stations = Stations::read(&command.stations);
+// ---- shares of the files ----
+
+/// What a thread makes of its share of the files: its series, and the best of them.
+struct Share {
+    data: Data,
+    best: Vec<Candidate>,
+}
+
+/// Reads files, the first of which has this place, and scans their series.
+fn take_share(command: &Command, stations: &Stations, first: usize, files: &[String]) -> Result<Share, String> {
     let mut data = Data::default();
     let mut held = Vec::new();
     let mut buffer = Vec::new();
     let hold = command.has("--hold");
     let add = |data: &mut Data, place: usize, text: &[u8]| {
-        if let Err((line, why)) = data.add_file(text, &stations) {
-            refuse(&format!("5 DailyLine file {} line {line} {why}", place + 1));
-        }
+        data.add_file(text, stations)
+            .map_err(|(line, why)| format!("5 DailyLine file {} line {line} {why}", first + place + 1))
     };
-    for (place, path) in command.files.iter().enumerate() {
+    for (place, path) in files.iter().enumerate() {
         read_file(path, &mut buffer);
         if hold {
             held.push(std::mem::take(&mut buffer));
         } else {
-            add(&mut data, place, &buffer);
+            add(&mut data, place, &buffer)?;
         }
     }
     for (place, text) in held.iter().enumerate() {
-        add(&mut data, place, text);
+        add(&mut data, place, text)?;
     }
     let mut pool = Pool { k: command.query.k, best: Vec::new(), floor: i64::MIN };
     for (place, series) in &data.opened {
         scan(&series[command.query.element], stations.ids[*place], &command.query, &mut pool);
     }
-    if data.unlisted > 0 {
-        eprintln!("unlisted {}", data.unlisted);
+    Ok(Share { data, best: pool.best })
+}
+
+/// Reads the files in as many shares of about the same number of bytes, each in a thread of its own. Nothing if a line
+/// has an error, or if a station has lines in two shares.
+fn take_shares(command: &Command, stations: &Stations, threads: usize) -> Option<Vec<Share>> {
+    let length = |path: &String| std::fs::metadata(path).map_or(0, |it| it.len());
+    let lengths: Vec<u64> = command.files.iter().map(length).collect();
+    let total: u64 = lengths.iter().sum();
+    let (mut ends, mut sum) = (Vec::new(), 0);
+    for (place, length) in lengths.iter().enumerate() {
+        sum += length;
+        if sum * threads as u64 >= total * (ends.len() as u64 + 1) {
+            ends.push(place + 1);
+        }
+    }
+    let shares: Vec<Share> = std::thread::scope(|scope| {
+        let mut begin = 0;
+        let running: Vec<_> = ends
+            .iter()
+            .map(|end| {
+                let (first, files) = (begin, &command.files[begin..*end]);
+                begin = *end;
+                scope.spawn(move || take_share(command, stations, first, files))
+            })
+            .collect();
+        running.into_iter().map(|it| it.join().unwrap().ok()).collect::<Option<_>>()
+    })?;
+    let mut seen = vec![false; stations.ids.len()];
+    let mut places = shares.iter().flat_map(|share| &share.data.opened).map(|(place, _)| *place);
+    let alone = places.all(|place| !std::mem::replace(&mut seen[place], true));
+    alone.then_some(shares)
+}
+
+fn main() {
+    let command = Command::read();
+    let stations = Stations::read(&command.stations);
+    let threads = command.options.iter().find_map(|it| it.strip_prefix("--threads=")).map_or(1, |it| it.parse().unwrap());
+    let in_shares = if threads > 1 { take_shares(&command, &stations, threads) } else { None };
+    let shares = in_shares.unwrap_or_else(|| match take_share(&command, &stations, 0, &command.files) {
+        Ok(share) => vec![share],
+        Err(why) => refuse(&why),
+    });
+    let mut pool = Pool { k: command.query.k, best: Vec::new(), floor: i64::MIN };
+    for it in shares.iter().flat_map(|share| &share.best) {
+        pool.offer(it.score, it.id, it.first, it.last);
+    }
+    let unlisted: u64 = shares.iter().map(|share| share.data.unlisted).sum();
+    if unlisted > 0 {
+        eprintln!("unlisted {unlisted}");
     }
     print_rows(&command.query, &pool.best);
     // The process's end gives all memory back at once.
