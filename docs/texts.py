@@ -1,9 +1,9 @@
 """The texts of errors, verdicts and messages in the sources, and what holds each of them as it is.
 
 A text is what `#[error("..")]` or an `impl Display` has for a variant, or what `Messages::print` or `eprint!` prints. It is
-held by a clause `ghost output` of its `impl`, by a test that compares it, by an example that leaves a line with it, or
-by a script that expects it. A test, an example or a script counts only if what it expects is the text as the source
-has it now, with the texts inside of it.
+held by a clause `ghost output` of its `impl`, by a test that compares it, by a case of tests/cases that leaves a line
+with it, or by a script that expects it. A test, a case or a script counts only if what it expects is the text as the
+source has it now, with the texts inside of it.
 """
 import re
 from itertools import product
@@ -208,7 +208,7 @@ def commands(text):
 
 
 def lines_of(folder):
-    """The lines that the program prints in an example, of those that may be texts: all on standard error, others if
+    """The lines that the program prints in a case, of those that may be texts: all on standard error, others if
     they begin like a verdict or a message. The text on standard error isn't compared if the status is 2."""
     status = (folder / "status").read_text().strip() if (folder / "status").exists() else "0"
     for name in ("stderr", "stdout"):
@@ -225,33 +225,33 @@ def printers_of(by_type):
             for it, (owner, _, variant) in split.items()}
 
 
-def hold_by_examples(printers, messages):
-    """Notes the examples that hold texts. Returns what is wrong: lines of examples that aren't a text."""
+def hold_by_cases(printers, messages):
+    """Notes the cases that hold texts. Returns what is wrong: lines of cases that aren't a text."""
     unknown = []
-    for folder in sorted(it for it in (ROOT / "examples/cases").iterdir() if (it / "command").exists()):
+    for folder in sorted(it for it in (ROOT / "tests/cases").iterdir() if (it / "command").exists()):
         roots = {it for one in commands((folder / "command").read_text()) for it in PRINTED[one]}
         for line in lines_of(folder):
             found = [uses for it in (messages, *(printers[it] for it in sorted(roots))) for uses in it.of(line)]
             for uses in found:
-                hold(uses, f"examples/{folder.name}")
+                hold(uses, f"tests/cases/{folder.name}")
             if not found:
-                unknown.append(f"examples/cases/{folder.name}: no source has the text `{line}`")
+                unknown.append(f"tests/cases/{folder.name}: no source has the text `{line}`")
     return unknown
 
 
 def hold_by_scripts(printers, messages):
     """Notes the scripts that hold texts: `run`, which expects messages, and `refuse`, which lets each command that it
     names run out of memory."""
-    run, refuse = ((ROOT / "examples" / it).read_text() for it in ("run", "refuse"))
+    run, refuse = ((ROOT / "tests" / it).read_text() for it in ("run", "refuse"))
     for name, _, line in re.findall(r"""^ *told '([^']+)' \d+ (['"])(.+)\2$""", run, re.M):
         for uses in messages.of(line):
-            hold(uses, f"examples/run '{name}'")
+            hold(uses, f"tests/run '{name}'")
     line = re.search(r'^MEMORY = re.compile\(rb"([^"\\]*)\\n"\)', refuse, re.M)
-    for name, example in re.findall(r'^    \("([^"]+)", "([^"]+)", "[^"]*"\),', refuse, re.M):
-        path = ROOT / "examples/cases" / example / "command"
+    for name, case in re.findall(r'^    \("([^"]+)", "([^"]+)", "[^"]*"\),', refuse, re.M):
+        path = ROOT / "tests/cases" / case / "command"
         for one in commands(path.read_text() if path.exists() else ""):
             for uses in (uses for it in PRINTED[one] for uses in printers[it].of(line[1] if line else "")):
-                hold(uses, f"examples/refuse '{name}'")
+                hold(uses, f"tests/refuse '{name}'")
 
 
 def held(crates, answers):
@@ -263,7 +263,7 @@ def held(crates, answers):
     for it in found:
         it.holders += [f"clause output, {it.clause}"] if it.clause else []
     hold_by_tests([Printer(it, by_type) for _, it in sorted(by_type.items())], messages, answers)
-    faults = hold_by_examples(printers, messages)
+    faults = hold_by_cases(printers, messages)
     hold_by_scripts(printers, messages)
     faults += [f"no source has the texts of `{name}`" for name, it in printers.items() if not it.shapes]
     faults += [f"{it.crate}: the text of {it.name} can't be found in its `fmt`" for it in found if not it.template]

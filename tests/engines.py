@@ -1,4 +1,4 @@
-"""engines: what `examples/cluster` and `bench/parts` share: the recipes of docs/PARTS.md, processes that are ended by
+"""engines: what `tests/cluster` and `bench/parts` share: the recipes of docs/PARTS.md, processes that are ended by
 their ids, and a cluster of Dask on this machine."""
 import ctypes
 import os
