@@ -16,7 +16,7 @@ OTHERS = {"Element", "Query", "Explanation", "Found", "WrongWord", "MoreWords", 
 # What a command prints besides messages: types, or variants of them.
 PRINTED = {
     "rank": ("Fault",), "describe": ("Fault",), "merge": ("MergingFault",),
-    "check": ("Fault", "Judgement::Whole"), "check --part": ("Fault", "Judgement::Part"),
+    "check": ("Fault", "Judgement::Whole"), "check --part": ("Fault", "Judgement::Part"), "table": ("TablingFault",),
 }
 LITERAL = re.compile(r"""//[^\n]*|'(?:[^'\\]|\\.)'|"((?:[^"\\]|\\.)*)\"""", re.S)
 ATTRIBUTE = re.compile(r'#\[error\((?:(transparent)|"((?:[^"\\]|\\.)*)"[^\n]*)\)\]'
@@ -204,7 +204,7 @@ def hold_by_tests(printers, messages, answers):
 def commands(text):
     """The commands that a command line calls."""
     return [f"{it} --part" if it == "check" and "--part" in text else it
-            for it in re.findall(r"extremes +(rank|merge|check|describe)\b", text)]
+            for it in re.findall(r"extremes +(rank|merge|check|describe|table)\b", text)]
 
 
 def lines_of(folder):

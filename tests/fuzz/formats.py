@@ -17,7 +17,7 @@ MOST_CODES = 200
 BLANK, BAD = "blank", "bad"
 CODE = re.compile(rb"[A-Z][A-Z0-9]{3}")
 
-Station = namedtuple("Station", "id latitude longitude state name")
+Station = namedtuple("Station", "id latitude longitude elevation state name")
 Query = namedtuple("Query", "k kind element number region is_in_season first last group text")
 Candidate = namedtuple("Candidate", "score id first last name")
 
@@ -57,6 +57,10 @@ def number_of(text, places):
 
 def is_within(value, least, greatest):
     return value not in (BLANK, BAD) and least <= value <= greatest
+
+
+def four_decimals(number):
+    return b"%s%d.%04d" % (b"-" if number < 0 else b"", *divmod(abs(number), 10000))
 
 
 def one_decimal(tenths):
@@ -109,7 +113,9 @@ def read_stations(text):
             raise Refused(f"refused 1 StationLine line {number} {fault}")
         if len(listed) == MOST:
             raise Refused("refused 2 TooManyStations")
+        elevation = number_of(field(line, 32, 37), 1)
         listed[line[:11]] = Station(line[:11], number_of(field(line, 13, 20), 4), number_of(field(line, 22, 30), 4),
+                                    None if elevation in (BLANK, -9999) else elevation,
                                     printable(field(line, 39, 40)), printable(field(line, 42, 71)).rstrip(b" "))
     return listed
 

@@ -1,5 +1,7 @@
-"""The report and the certificate of a run, both changed at random, the verdict of `extremes check` on them, and merged
-ones, by docs/FORMATS.md and docs/CERTIFICATE.md alone."""
+"""The report and the certificate of a run, both changed at random, the verdict of `extremes check` on them, merged
+ones, and the table of reports, by docs/FORMATS.md and docs/CERTIFICATE.md alone."""
+import csv
+import io
 import random
 import re
 
@@ -58,15 +60,30 @@ def read_row(query, rank, line):
     return None if found[5] and int(number) == 0 else Candidate(score, found[2], first, last, found[9] or b"")
 
 
-def read_report(text):
-    pieces = re.findall(rb"[^\n]*\n|[^\n]+", text)
+def lines_of(text):
+    """The lines of a report or a certificate, each with its line feed if it has one."""
+    return re.findall(rb"[^\n]*\n|[^\n]+", text)
+
+
+def read_first(pieces):
+    """The query and the rows of the report with which these lines begin, and how many lines it has."""
     query, rows = head(pieces, [b"extremes report 1\n"]), []
     for line in pieces[2:]:
         found = read_row(query, len(rows) + 1, line) if len(rows) < query.k else None
         if not found:
             break
         rows.append(found)
-    whole(pieces, 2 + len(rows), b"end %d%s\n" % (len(rows), b" all" if len(rows) < query.k else b""))
+    end = b"end %d%s\n" % (len(rows), b" all" if len(rows) < query.k else b"")
+    if pieces[2 + len(rows):3 + len(rows)] != [end]:
+        raise Unlike(3 + len(rows))
+    return query, rows, 3 + len(rows)
+
+
+def read_report(text):
+    pieces = lines_of(text)
+    query, rows, count = read_first(pieces)
+    if len(pieces) > count:
+        raise Unlike(count + 1)
     return query, rows
 
 
@@ -81,7 +98,7 @@ def read_line(version, line):
 
 
 def read_certificate(text):
-    pieces = re.findall(rb"[^\n]*\n|[^\n]+", text)
+    pieces = lines_of(text)
     query, series = head(pieces, TITLES), []
     kth = KTH.fullmatch(pieces[2]) if len(pieces) > 2 else None
     if not kth or (kth[1] != b"none" and not is_number(kth[1])):
@@ -279,6 +296,49 @@ def merge(query_text, parts):
              for kind, name, limit, _ in series]
     head = b"%squery %s\nkth %s\n" % (TITLE, query.text, kth)
     return (0, formats.report(query, rows), b""), head + b"".join(shown) + b"end %d\n" % len(series)
+
+
+# ---- the table of reports ----
+
+def read_reports(number, text):
+    """The reports of the text of file `number`, each after how many lines: at least one, one after the other."""
+    pieces, at = lines_of(text), 0
+    while not at or at < len(pieces):
+        try:
+            query, rows, count = read_first(pieces[at:])
+        except Unlike as unlike:
+            raise Refused(f"refused file {number} line {at + unlike.args[0]} BadReport") from None
+        yield at, query, rows
+        at += count
+
+
+def place(listed, id):
+    """The coordinates and the elevation of a station, as a table has them."""
+    its = listed[id]
+    return [formats.four_decimals(its.latitude), formats.four_decimals(its.longitude),
+            b"" if its.elevation is None else formats.one_decimal(its.elevation)]
+
+
+def table(texts, stations=None):
+    """The status and the outputs of `extremes table` for the texts of files of reports, and for a station list if there
+    is one."""
+    try:
+        listed = None if stations is None else formats.read_stations(stations)
+        reports = [(number, *it) for number, text in enumerate(texts, 1) for it in read_reports(number, text)]
+        records = [b"query rank id first last value unit name".split()]
+        if listed is not None:
+            records[0] += [b"latitude", b"longitude", b"elevation"]
+        for number, at, query, rows in reports:
+            for rank, it in enumerate(rows, 1):
+                if listed is not None and it.id not in listed:
+                    raise Refused(f"refused file {number} line {at + 2 + rank} NotListed")
+                fields = formats.row(query, rank, it._replace(name=b""))[:-1].split(b" ")
+                records.append([query.text, *fields, it.name, *(place(listed, it.id) if listed is not None else [])])
+    except Refused as refusal:
+        return 1, b"", f"{refusal}\n".encode()
+    made = io.StringIO()
+    csv.writer(made, lineterminator="\n").writerows([[it.decode() for it in record] for record in records])
+    return 0, made.getvalue().encode(), b""
 
 
 def changed_number(rng, line):

@@ -256,7 +256,7 @@ null_alone_read = refl
 -- but what it is given doesn't fit together
 null_without_list : IfSome (subcommand_of extremes_app null_alone) (λ met. FitTogether met.0 met.1) → ⊥
 unfolding clap_on_literals
-null_without_list fit = let bad : false ≡ true = fit.1 (λ same. absurd cc) refl in absurd cc
+null_without_list fit = let bad : false ≡ true = fit.1 (λ same. absurd cc, λ same. absurd cc) refl in absurd cc
 
 -- a command line that asks for progress
 abbrev with_progress : List Text
@@ -284,3 +284,34 @@ merge_progress : fault_of extremes_app (codes "extremes" ∷ codes "merge" ∷ c
     ≡ UnknownArgument ∷ []
 unfolding clap_on_literals
 merge_progress = refl
+
+-- a command line that makes a table of two files of reports, with a station list
+abbrev table_words : List Text
+table_words = codes "extremes" ∷ codes "table" ∷ codes "--stations" ∷ codes "s" ∷ codes "a" ∷ codes "-" ∷ []
+
+-- `clap` has no error to report
+table_right : fault_of extremes_app table_words ≡ []
+unfolding clap_on_literals
+table_right = refl
+
+-- its reports are a and -
+table_reports : option_map (λ p. all_of (codes "reports") p.1) (subcommand_of extremes_app table_words)
+    ≡ Some (Some (codes "a" ∷ codes "-" ∷ []))
+unfolding clap_on_literals
+table_reports = refl
+
+-- its station list is s
+table_stations : option_map (λ p. first_of (codes "stations") p.1) (subcommand_of extremes_app table_words)
+    ≡ Some (Some (codes "s"))
+unfolding clap_on_literals
+table_stations = refl
+
+-- it needs neither
+table_alone : fault_of extremes_app (codes "extremes" ∷ codes "table" ∷ []) ≡ []
+unfolding clap_on_literals
+table_alone = refl
+
+-- it has no query
+table_query : fault_of extremes_app (codes "extremes" ∷ codes "table" ∷ codes "--query=q" ∷ []) ≡ UnknownArgument ∷ []
+unfolding clap_on_literals
+table_query = refl

@@ -20,9 +20,9 @@ use Rattle.clap.specs.declared.parser.matches.SubCommand.{SubCommand}
 use Rattle.clap.specs.declared.parser.matches.ArgMatches.TheViews.{out-SubCommand}
 use Rattle.command_line.specs.declared.asked.Part.{Part}
 use Rattle.command_line.specs.declared.asked.Command.{Command}
-use Rattle.command_line.specs.declared.asked.Command.TheVariants.{Sample, Rank, Merge, Check, Describe}
+use Rattle.command_line.specs.declared.asked.Command.TheVariants.{Sample, Rank, Merge, Check, Describe, Table}
 use Rattle.command_line.specs.CommandLine.{extremes_app, paths_of, papers_to_merge, AreInPairs, IsGuess, IsCount, IsFlag}
-use Rattle.command_line.specs.CommandLine.{IsName, IsCommand, IsCommandOf, FitTogether, HasListIfNull, AreFiles}
+use Rattle.command_line.specs.CommandLine.{IsName, IsCommand, IsCommandOf, FitTogether, HasListIfNull, AreFiles, ReadsDailyFiles}
 use Rattle.command_line.specs.declared.asked.NamedFiles.{NamedFiles}
 
 -- what is some value is it
@@ -88,27 +88,29 @@ not_asked (k ∷ ks) none asks = cc
 met_is : (name : Text) (rows : List Row) (r : Text × List Row) → Some (name, rows) ≡ Some r → r.0 ≡ name
 met_is name rows r e = ap (λ (q : Option (Text × List Row)). (unwrap_or q r).0) (sym e)
 
--- of four subcommands only their names can be met
-one_of_four : (s t u v : Shape) (p : Text × List Text) (r : Text × List Row) (first second third fourth : Bool)
+-- of five subcommands only their names can be met
+one_of_five : (s t u v w : Shape) (p : Text × List Text) (r : Text × List Row) (first second third fourth fifth : Bool)
     → option_map (λ (x : Shape). rows_at x p.1) (if first then Some s else (if second then Some t
-    else (if third then Some u else (if fourth then Some v else None)))) ≡ Some r
-    → (r.0 ≡ s.name) ⊎ ((r.0 ≡ t.name) ⊎ ((r.0 ≡ u.name) ⊎ (r.0 ≡ v.name)))
-one_of_four s t u v p r true second third fourth e = inl (met_is _ _ r e)
-one_of_four s t u v p r false true third fourth e = inr (inl (met_is _ _ r e))
-one_of_four s t u v p r false false true fourth e = inr (inr (inl (met_is _ _ r e)))
-one_of_four s t u v p r false false false true e = inr (inr (inr (met_is _ _ r e)))
-one_of_four s t u v p r false false false false e = absurd cc
+    else (if third then Some u else (if fourth then Some v else (if fifth then Some w else None))))) ≡ Some r
+    → (r.0 ≡ s.name) ⊎ ((r.0 ≡ t.name) ⊎ ((r.0 ≡ u.name) ⊎ ((r.0 ≡ v.name) ⊎ (r.0 ≡ w.name))))
+one_of_five s t u v w p r true second third fourth fifth e = inl (met_is _ _ r e)
+one_of_five s t u v w p r false true third fourth fifth e = inr (inl (met_is _ _ r e))
+one_of_five s t u v w p r false false true fourth fifth e = inr (inr (inl (met_is _ _ r e)))
+one_of_five s t u v w p r false false false true fifth e = inr (inr (inr (inl (met_is _ _ r e))))
+one_of_five s t u v w p r false false false false true e = inr (inr (inr (inr (met_is _ _ r e))))
+one_of_five s t u v w p r false false false false false e = absurd cc
 
 -- a subcommand that the program's arguments name is one of these
 met_name : (stop : Option (Text × List Text)) (r : Text × List Row) → entered (built extremes_app) stop ≡ Some r
     → IsName r.0
 met_name None r e = absurd cc
-met_name (Some p) r e = one_of_four _ _ _ _ p r (answers_to p.0 (codes "rank", []))
-    (answers_to p.0 (codes "merge", [])) (answers_to p.0 (codes "check", [])) (answers_to p.0 (codes "describe", [])) e
+met_name (Some p) r e = one_of_five _ _ _ _ _ p r (answers_to p.0 (codes "rank", []))
+    (answers_to p.0 (codes "merge", [])) (answers_to p.0 (codes "check", [])) (answers_to p.0 (codes "describe", []))
+    (answers_to p.0 (codes "table", [])) e
 
 -- so is one that is met anywhere in them
-pub only_four : (words : List Text) (r : Text × List Row) → subcommand_of extremes_app words ≡ Some r → IsName r.0
-only_four words r e =
+pub only_name : (words : List Text) (r : Text × List Row) → subcommand_of extremes_app words ≡ Some r → IsName r.0
+only_name words r e =
     met_name (stop_after (built extremes_app).top.rules (names_of (built extremes_app))
     (argument_words extremes_app words)) r e
 
@@ -161,9 +163,16 @@ paths-even (p ∷ ps) = let rest = paths-even ps in omega (arith, rest)
 first_code : (a : ℕ) (more bs : List ℕ) → a ∷ more ≡ bs → a ≡ get_or bs 0 a
 first_code a more bs e = ap (λ (t : List ℕ). get_or t 0 a) e
 
--- a name that begins otherwise isn't `merge`
-pub other_name : (name : Text) (first : ℕ) → (first ≡ 109 → ⊥) → get_or name 0 109 ≡ first → name ≡ codes "merge" → ⊥
-other_name name first other begins e = other (sym begins ∙ ap (λ (t : List ℕ). get_or t 0 109) e)
+-- a name that begins otherwise isn't another
+other_name : (name : Text) (first letter : ℕ) (rest : List ℕ) → (first ≡ letter → ⊥) → get_or name 0 letter ≡ first
+    → name ≡ letter ∷ rest → ⊥
+other_name name first letter rest other begins e = other (sym begins ∙ ap (λ (t : List ℕ). get_or t 0 letter) e)
+
+-- so one that begins neither as `merge` nor as `table` is that of a subcommand that reads daily files
+pub reads_files : (name : Text) (first : ℕ) → (first ≡ 109 → ⊥) → (first ≡ 116 → ⊥) → get_or name 0 109 ≡ first
+    → get_or name 0 116 ≡ first → ReadsDailyFiles name
+reads_files name first not_m not_t begins_m begins_t =
+    (other_name name first 109 _ not_m begins_m, other_name name first 116 _ not_t begins_t)
 
 -- so the reports and certificates of a command that merges come in pairs
 merges-pairs : (name : Text) (rows : List Row) (c : Command) → IsCommand name rows c → name ≡ codes "merge"
@@ -172,12 +181,15 @@ merges-pairs name rows c (inl is) e = let bad : 109 ≡ 114 = first_code _ _ _ (
     (omega (arith, bad))
 merges-pairs name rows c (inr (inr (inl is))) e = let bad : 109 ≡ 99 = first_code _ _ _ (sym e ∙ is.0) in absurd
     (omega (arith, bad))
-merges-pairs name rows c (inr (inr (inr is))) e = let bad : 109 ≡ 100 = first_code _ _ _ (sym e ∙ is.0) in absurd
-    (omega (arith, bad))
+merges-pairs name rows c (inr (inr (inr (inl is)))) e = let bad : 109 ≡ 100 = first_code _ _ _ (sym e ∙ is.0) in
+    absurd (omega (arith, bad))
+merges-pairs name rows c (inr (inr (inr (inr is)))) e = let bad : 109 ≡ 116 = first_code _ _ _ (sym e ∙ is.0) in
+    absurd (omega (arith, bad))
 merges-pairs name rows Sample (inr (inl is)) e = absurd is.1
 merges-pairs name rows (Rank asked) (inr (inl is)) e = absurd is.1
 merges-pairs name rows (Check asked) (inr (inl is)) e = absurd is.1
 merges-pairs name rows (Describe asked) (inr (inl is)) e = absurd is.1
+merges-pairs name rows (Table asked) (inr (inl is)) e = absurd is.1
 merges-pairs name rows (Merge asked) (inr (inl is)) e =
     ap (λ (ps : List Text). length ps % 2) (sym is.1.2) ∙ paths-even asked.parts.items
 
@@ -204,24 +216,28 @@ files-listed rows files are given =
     some_read _ files.list _ are.list (are.listed (are.null.1 given))
 
 -- so is it with the files of each command that has files
-lists-null : (name : Text) (rows : List Row) (c : Command) → IsCommand name rows c → (name ≡ codes "merge" → ⊥)
+lists-null : (name : Text) (rows : List Row) (c : Command) → IsCommand name rows c → ReadsDailyFiles name
     → HasListIfNull rows
-lists-null name rows c (inr (inl is)) other = absurd (other is.0)
+lists-null name rows c (inr (inl is)) other = absurd (other.0 is.0)
+lists-null name rows c (inr (inr (inr (inr is)))) other = absurd (other.1 is.0)
 lists-null name rows Sample (inl is) other = absurd is.1
 lists-null name rows (Rank asked) (inl is) other = files-listed rows asked.files is.1.5
 lists-null name rows (Merge asked) (inl is) other = absurd is.1
 lists-null name rows (Check asked) (inl is) other = absurd is.1
 lists-null name rows (Describe asked) (inl is) other = absurd is.1
+lists-null name rows (Table asked) (inl is) other = absurd is.1
 lists-null name rows Sample (inr (inr (inl is))) other = absurd is.1
 lists-null name rows (Rank asked) (inr (inr (inl is))) other = absurd is.1
 lists-null name rows (Merge asked) (inr (inr (inl is))) other = absurd is.1
 lists-null name rows (Check asked) (inr (inr (inl is))) other = files-listed rows asked.files is.1.6
 lists-null name rows (Describe asked) (inr (inr (inl is))) other = absurd is.1
-lists-null name rows Sample (inr (inr (inr is))) other = absurd is.1
-lists-null name rows (Rank asked) (inr (inr (inr is))) other = absurd is.1
-lists-null name rows (Merge asked) (inr (inr (inr is))) other = absurd is.1
-lists-null name rows (Check asked) (inr (inr (inr is))) other = absurd is.1
-lists-null name rows (Describe asked) (inr (inr (inr is))) other = files-listed rows asked.files is.1.2
+lists-null name rows (Table asked) (inr (inr (inl is))) other = absurd is.1
+lists-null name rows Sample (inr (inr (inr (inl is)))) other = absurd is.1
+lists-null name rows (Rank asked) (inr (inr (inr (inl is)))) other = absurd is.1
+lists-null name rows (Merge asked) (inr (inr (inr (inl is)))) other = absurd is.1
+lists-null name rows (Check asked) (inr (inr (inr (inl is)))) other = absurd is.1
+lists-null name rows (Table asked) (inr (inr (inr (inl is)))) other = absurd is.1
+lists-null name rows (Describe asked) (inr (inr (inr (inl is)))) other = files-listed rows asked.files is.1.2
 
 -- arguments without an error that name a subcommand name the command that is read of it
 pub command-met : (words : List Text) (met : Option (Text × List Row)) (c : Command) → fault_of extremes_app words ≡ []

@@ -16,11 +16,12 @@ use Rattle.clap.specs.declared.builder.ArgAction.TheVariants.{Set, SetTrue, Appe
 use Rattle.clap.specs.declared.builder.ValueParser.{ValueParser}
 use Rattle.clap.specs.declared.builder.ValueParser.TheVariants.{Signed, Unsigned}
 use Rattle.command_line.specs.declared.asked.Part.{Part}
+use Rattle.command_line.specs.declared.asked.TableArguments.{TableArguments}
 use Rattle.command_line.specs.declared.asked.NamedFiles.{NamedFiles}
 use Rattle.command_line.specs.declared.asked.CommandFault.{CommandFault}
 use Rattle.command_line.specs.declared.asked.CommandFault.TheVariants as fault
 use Rattle.command_line.specs.declared.asked.Command.{Command}
-use Rattle.command_line.specs.declared.asked.Command.TheVariants.{Sample, Rank, Merge, Check, Describe}
+use Rattle.command_line.specs.declared.asked.Command.TheVariants.{Sample, Rank, Merge, Check, Describe, Table}
 
 -- `--NAME VALUE`: an option with one value, which may be given once
 abbrev pub option_of : Text → Rule
@@ -104,16 +105,21 @@ describe_app = and_files (with_rule (with_rule (new_app (codes "describe"))
     (required (option_of (codes "stations"))))
     (parsed few_readers (option_of (codes "workers"))))
 
--- the program's command line: it has a version and the subcommands `rank`, `merge`, `check` and `describe`, and needs
--- one of these
+-- `table` with its options, of which none must be given, and files of reports
+abbrev pub table_app : App
+table_app = with_rule (with_rule (new_app (codes "table"))
+    (option_of (codes "stations"))) (many_of (codes "reports"))
+
+-- the program's command line: it has a version and the subcommands `rank`, `merge`, `check`, `describe` and `table`, and
+-- needs one of these
 abbrev pub extremes_app : App
-extremes_app = with_subcommand (with_subcommand (with_subcommand (with_subcommand (record (new_app (codes "extremes")) {
+extremes_app = with_subcommand (with_subcommand (with_subcommand (with_subcommand (with_subcommand (record (new_app (codes "extremes")) {
   top = record (new_app (codes "extremes")).top {
     has_version = true;
     subcommand_required = true;
     disable_help_subcommand = true;
   };
-}) rank_app.top) merge_app.top) check_app.top) describe_app.top
+}) rank_app.top) merge_app.top) check_app.top) describe_app.top) table_app.top
 
 -- all arguments, the program's name first
 abbrev pub all_words : {A : Type 0} → List (String A) → List Text
@@ -131,10 +137,14 @@ AreInPairs rows = length (papers_to_merge rows) % 2 ≡ 0
 abbrev pub HasListIfNull : List Row → Type 0
 HasListIfNull rows = one_of (codes "null") rows ≡ Some (codes "true") → IsSome (first_of (codes "files-from") rows)
 
--- what a subcommand is given fits together: reports and certificates to merge come in pairs, and elsewhere `--null`
--- comes with a list
+-- the subcommand of this name reads daily files
+abbrev pub ReadsDailyFiles : Text → Type 0
+ReadsDailyFiles name = (name ≢ codes "merge") × (name ≢ codes "table")
+
+-- what a subcommand is given fits together: reports and certificates to merge come in pairs, and if it reads daily
+-- files, `--null` comes with a list
 abbrev pub FitTogether : Text → List Row → Type 0
-FitTogether name rows = (name ≡ codes "merge" → AreInPairs rows) × (name ≢ codes "merge" → HasListIfNull rows)
+FitTogether name rows = (name ≡ codes "merge" → AreInPairs rows) × (ReadsDailyFiles name → HasListIfNull rows)
 
 -- the arguments are a valid command line: `clap` reports no error, and what the subcommand is given fits together
 pub record AreRightWords (words : List Text) : Type 0 where
@@ -178,6 +188,7 @@ IsRank rows Sample = ⊥
 IsRank rows (Merge asked) = ⊥
 IsRank rows (Check asked) = ⊥
 IsRank rows (Describe asked) = ⊥
+IsRank rows (Table asked) = ⊥
 IsRank rows (Rank asked) = (string_bytes asked.stations ≡ unwrap_or (first_of (codes "stations") rows) [])
     × (string_bytes asked.query ≡ unwrap_or (first_of (codes "query") rows) [])
     × AreWorkers (one_of (codes "workers") rows) asked.workers
@@ -195,6 +206,7 @@ IsMerge rows Sample = ⊥
 IsMerge rows (Rank asked) = ⊥
 IsMerge rows (Check asked) = ⊥
 IsMerge rows (Describe asked) = ⊥
+IsMerge rows (Table asked) = ⊥
 IsMerge rows (Merge asked) = (string_bytes asked.query ≡ unwrap_or (first_of (codes "query") rows) [])
     × (option_map (λ s. string_bytes s) asked.certificate ≡ first_of (codes "certificate") rows)
     × (paths_of asked.parts.items ≡ papers_to_merge rows)
@@ -205,6 +217,7 @@ IsCheck rows Sample = ⊥
 IsCheck rows (Merge asked) = ⊥
 IsCheck rows (Rank asked) = ⊥
 IsCheck rows (Describe asked) = ⊥
+IsCheck rows (Table asked) = ⊥
 IsCheck rows (Check asked) = (string_bytes asked.stations ≡ unwrap_or (first_of (codes "stations") rows) [])
     × (string_bytes asked.query ≡ unwrap_or (first_of (codes "query") rows) [])
     × (string_bytes asked.report ≡ unwrap_or (first_of (codes "report") rows) [])
@@ -219,19 +232,41 @@ IsDescribe rows Sample = ⊥
 IsDescribe rows (Rank asked) = ⊥
 IsDescribe rows (Merge asked) = ⊥
 IsDescribe rows (Check asked) = ⊥
+IsDescribe rows (Table asked) = ⊥
 IsDescribe rows (Describe asked) = (string_bytes asked.stations ≡ unwrap_or (first_of (codes "stations") rows) [])
     × AreWorkers (one_of (codes "workers") rows) asked.workers
     × AreFiles rows asked.files
 
+-- the files that are named, or standard input if none is
+abbrev pub or_input : List Text → List Text
+or_input [] = codes "-" ∷ []
+or_input (path ∷ paths) = path ∷ paths
+
+-- the arguments are those that the matches of a subcommand that makes a table have
+pub record IsTable (rows : List Row) (asked : TableArguments) : Type 0 where
+  pub stations : option_map (λ s. string_bytes s) asked.stations ≡ first_of (codes "stations") rows
+  pub reports : map (λ s. string_bytes s) asked.reports.items ≡ or_input (unwrap_or (all_of (codes "reports") rows) [])
+
+-- the command has them
+abbrev pub IsTabling : List Row → Command → Type 0
+IsTabling rows Sample = ⊥
+IsTabling rows (Rank asked) = ⊥
+IsTabling rows (Merge asked) = ⊥
+IsTabling rows (Check asked) = ⊥
+IsTabling rows (Describe asked) = ⊥
+IsTabling rows (Table asked) = IsTable rows asked
+
 -- it is the name of a subcommand
 abbrev pub IsName : Text → Type 0
-IsName name = (name ≡ codes "rank") ⊎ ((name ≡ codes "merge") ⊎ ((name ≡ codes "check") ⊎ (name ≡ codes "describe")))
+IsName name = (name ≡ codes "rank") ⊎ ((name ≡ codes "merge") ⊎ ((name ≡ codes "check")
+    ⊎ ((name ≡ codes "describe") ⊎ (name ≡ codes "table"))))
 
--- the command is that of the subcommand of this name, `rank`, `merge`, `check` or `describe`
+-- the command is that of the subcommand of this name, `rank`, `merge`, `check`, `describe` or `table`
 abbrev pub IsCommand : Text → List Row → Command → Type 0
 IsCommand name rows c = ((name ≡ codes "rank") × IsRank rows c)
     ⊎ (((name ≡ codes "merge") × IsMerge rows c)
-    ⊎ (((name ≡ codes "check") × IsCheck rows c) ⊎ ((name ≡ codes "describe") × IsDescribe rows c)))
+    ⊎ (((name ≡ codes "check") × IsCheck rows c)
+    ⊎ (((name ≡ codes "describe") × IsDescribe rows c) ⊎ ((name ≡ codes "table") × IsTabling rows c))))
 
 -- the arguments are valid and name a subcommand, and the command has what `clap` reads after it
 pub record IsCommandOf (words : List Text) (c : Command) : Type 0 where

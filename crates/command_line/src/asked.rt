@@ -11,18 +11,22 @@ pub enum Command {
     Merge(MergeArguments),
     Check(CheckArguments),
     Describe(DescribeArguments),
+    Table(TableArguments),
 }
 
 /// What is ranked: the candidates of a query over files.
 #[derive(Debug, Drop)]
 pub struct RankArguments {
+    /// The path of the station list.
     pub stations: String,
+    /// The text of the query.
     pub query: String,
     /// How many threads may read the files, and then look for records; 1 to 64 may run.
     pub workers: u64,
-    /// A score, in the raw unit of the data, that the k-th best record should reach.
+    /// A score, in the raw unit of the data, that the k-th best record should reach; from -2^31 to
+    /// 2^31 may be guessed.
     pub guess: Option<i64>,
-    /// Where the certificate goes, if it is wanted.
+    /// The path of the certificate's file, if a certificate is wanted.
     pub certificate: Option<String>,
     pub files: NamedFiles,
 }
@@ -31,18 +35,24 @@ pub struct RankArguments {
 /// read.
 #[derive(Debug, Drop)]
 pub struct MergeArguments {
+    /// The text of the query.
     pub query: String,
-    /// Where the certificate goes, if it is wanted.
+    /// The path of the certificate's file, if a certificate is wanted.
     pub certificate: Option<String>,
+    /// The parts, in the order in which they are named.
     pub parts: Vec<Part>,
 }
 
 /// What is checked: a report and a certificate against files.
 #[derive(Debug, Drop)]
 pub struct CheckArguments {
+    /// The path of the station list.
     pub stations: String,
+    /// The text of the query.
     pub query: String,
+    /// The path of the report.
     pub report: String,
+    /// The path of the certificate.
     pub certificate: String,
     /// Whether the files are a part of those that the report and the certificate cover.
     pub part: bool,
@@ -54,10 +64,20 @@ pub struct CheckArguments {
 /// What is described: what files hold.
 #[derive(Debug, Drop)]
 pub struct DescribeArguments {
+    /// The path of the station list.
     pub stations: String,
     /// How many threads may read the files, 1 to 64.
     pub workers: u64,
     pub files: NamedFiles,
+}
+
+/// What is made a table: the rows of reports.
+#[derive(Debug, Drop)]
+pub struct TableArguments {
+    /// A station list, if the table has a place for each row.
+    pub stations: Option<String>,
+    /// Files of reports, at least one. `-` is standard input.
+    pub reports: Vec<String>,
 }
 
 /// The daily files that a command names.

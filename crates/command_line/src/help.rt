@@ -58,16 +58,28 @@ pub const FILES_HELP: &str =
 /// The help of the reports and certificates to merge.
 pub const PAPERS_HELP: &str = "The report and the certificate of a part, then those of the next";
 
+/// The help of `--stations` of `table`.
+pub const PLACES_HELP: &str =
+    "The station list, ghcnd-stations.txt; with it each record has the latitude, the longitude
+          and the elevation of its row's station";
+
+/// The help of the reports that become a table.
+pub const REPORTS_HELP: &str =
+    "Files of reports, each with one report or several. - is standard input, which is also read if
+          no file is named";
+
 /// The forms of a command line.
 pub const USAGE: &str = "extremes rank --stations <FILE> --query <QUERY> [FILE]...
        extremes merge --query <QUERY> [--certificate <OUT>] [REPORT CERTIFICATE]...
        extremes check [--part] --stations <FILE> --query <QUERY> --report <FILE> --certificate <FILE> [FILE]...
        extremes describe --stations <FILE> [FILE]...
+       extremes table [--stations <FILE>] [REPORT]...
        extremes --version
        extremes rank --help
        extremes merge --help
        extremes check --help
-       extremes describe --help";
+       extremes describe --help
+       extremes table --help";
 
 /// The form of a command line of `merge`.
 pub const MERGE_USAGE: &str =
@@ -95,7 +107,7 @@ pub const HELP: &str = "Without arguments, extremes prints the report of a built
 'extremes rank --help' describes queries, elements, units and exit statuses, and lists
 what each refusal means; 'extremes merge --help' describes how to rank an archive in parts;
 'extremes check --help' lists the verdicts; 'extremes describe --help' lists what is counted
-in daily files.";
+in daily files; 'extremes table --help' lists the fields of a table of records.";
 
 /// The help after the options of `rank`: queries, units, statuses and refusals.
 pub const RANK_HELP: &str = "Queries:
@@ -294,3 +306,39 @@ Exit statuses:
            or the description can't be written
 
 'extremes rank --help' lists what each refusal means.";
+
+/// The help after the options of `table`: fields, refusals and statuses.
+pub const TABLE_HELP: &str =
+    "Prints the rows of reports of 'rank' or 'merge' as comma-separated values, for a spreadsheet, pandas,
+R, SQLite or a map. Reports may come one after the other in a file. All files are read before a byte is
+printed. The first record has the names of the fields:
+
+  query                    the query of the report
+  rank,id,first,last       the row's rank, its station's ID, its first and its last day
+  value,unit,name          the value, its unit, and the station's name, which may be empty
+  latitude,longitude       with --stations: degrees north and east with four decimals
+  elevation                with --stations: metres with one decimal; empty if it is missing
+
+A field with a comma or a quote is in quotes, and a quote in it is doubled. Each record ends by a line
+feed.
+
+Examples:
+  extremes rank --stations ghcnd-stations.txt --query 'top 10 highest TMAX' ghcnd_all |
+      extremes table --stations ghcnd-stations.txt > records.csv
+  extremes table *.report > records.csv
+
+Refusals, of which the first is reported (F is the number of a file of reports, L that of a line of it,
+both from 1):
+  refused file F line L BadReport   the line doesn't match the format there, or the file ends before it.
+                                    An empty file is refused at line 1
+  refused file F line L NotListed   the station of the row on that line isn't in the station list
+  refused 3 Memory                  out of memory: the system gave no more
+
+An error of the station list is reported before any of these, as by 'rank'; the format of all files is
+tested before any station.
+
+Exit statuses:
+  0        done: the table is on standard output
+  1        refused: one line on standard error says why, and nothing was printed
+  2        the command line isn't valid, or asks for help
+  3        a file can't be read, or the table can't be written";

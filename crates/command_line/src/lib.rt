@@ -9,6 +9,6 @@ mod words;
 
 pub use asked::{
     CheckArguments, Command, CommandFault, DescribeArguments, MergeArguments, NamedFiles, Part,
-    RankArguments,
+    RankArguments, TableArguments,
 };
 pub use words::command;

@@ -3,24 +3,24 @@
 ghost use Rattle.std.specs.Prelude.{◌≡◌, ◌≢◌, IfOk, IfErr, IfSome, IsSomeAnd, [], Ok, map, option_map, unwrap_or, false, string_bytes, length, ◌%◌, codes};
 ghost use Rattle.clap.specs.Words.{app_of, first_of, one_of, kind_of, found_of, rows_of, rule_of, subcommand_rows_of};
 ghost use Rattle.clap.specs.declared.builder.Command.TheViews.{out-Command as fields_of};
-ghost use Rattle.command_line.specs.CommandLine.{extremes_app, rank_app, merge_app, check_app, describe_app};
+ghost use Rattle.command_line.specs.CommandLine.{extremes_app, rank_app, merge_app, check_app, describe_app, table_app};
 ghost use Rattle.command_line.specs.CommandLine.{option_of, flag_of, required, parsed, many_of, is_global, and_files, few_readers};
 ghost use Rattle.command_line.specs.CommandLine.{all_words, AreRightWords, FitTogether, AreInPairs, HasListIfNull};
-ghost use Rattle.command_line.specs.CommandLine.{IsCommandOf, IsName, IsCommand, IsRank, IsMerge, IsCheck, IsDescribe};
-ghost use Rattle.command_line.specs.CommandLine.{AreFiles, IsFlag, paths_of};
+ghost use Rattle.command_line.specs.CommandLine.{IsCommandOf, IsName, IsCommand, IsRank, IsMerge, IsCheck, IsDescribe, IsTable};
+ghost use Rattle.command_line.specs.CommandLine.{AreFiles, IsFlag, or_input, paths_of};
 ghost use Rattle.command_line.specs.CommandLine.{AskVersion, MayAskVersion, TellsVersion, OnVersion};
 ghost use Rattle.command_line.specs.declared.asked.Command.TheVariants as commands;
 ghost use Rattle.command_line.specs.declared.asked.CommandFault.TheVariants as faults;
 
 use crate::asked::{
     CheckArguments, Command, CommandFault, DescribeArguments, MergeArguments, NamedFiles, Part,
-    RankArguments,
+    RankArguments, TableArguments,
 };
 use crate::help::{
     CERTIFICATE_HELP, CHECK_HELP, DESCRIBE_HELP, FILES_HELP, GUESS_HELP, HELP, LIST_HELP,
     MERGE_HELP, MERGE_USAGE, MERGED_CERTIFICATE_HELP, NULL_HELP, NULL_WITHOUT_LIST, ODD_PAPERS,
-    PAPERS_HELP, PART_HELP, PROGRESS_HELP, QUERY_HELP, RANK_HELP, READERS_HELP, STATIONS_HELP,
-    USAGE, VERSION, WORKERS_HELP,
+    PAPERS_HELP, PART_HELP, PLACES_HELP, PROGRESS_HELP, QUERY_HELP, RANK_HELP, READERS_HELP,
+    REPORTS_HELP, STATIONS_HELP, TABLE_HELP, USAGE, VERSION, WORKERS_HELP,
 };
 use clap::builder::ValueParser;
 use clap::error::ErrorKind;
@@ -33,7 +33,8 @@ const WORKERS: u64 = 4;
 /// The most threads that read.
 const MOST_READERS: u64 = 64;
 
-/// The command that the arguments ask for: the sample if there are none.
+/// The command that the arguments ask for: the sample if there are none. Arguments that aren't
+/// valid, or that ask for help or the version, return the text to show.
 pub fn command(alloc: Global, words: Vec<String>) -> Result<Command, CommandFault>
     // No arguments ask for the sample.
     ensures none { words.items ≡ [] → result ≡ Ok commands.Sample }
@@ -71,7 +72,7 @@ fn fault_of(alloc: Global, error: &Error) -> CommandFault
     }
 }
 
-/// The arguments as one of the commands that they can name, `rank`, `merge`, `check` and `describe`.
+/// The arguments as one of the commands that they can name, `rank`, `merge`, `check`, `describe` and `table`.
 fn named_command(alloc: Global, words: &[String]) -> Result<Command, CommandFault>
     ensures ok { IfOk result (IsCommandOf (all_words words.now)) }
     ensures right { AreRightWords (all_words words.now) → IfErr result (λ f. f ≡ faults.Memory) }
@@ -103,10 +104,13 @@ fn command_of(alloc: Global, matches: &ArgMatches) -> Result<Command, CommandFau
     if let Some(check) = matches.subcommand_matches("check") {
         return check_of(alloc, check);
     }
-    let Some(describe) = matches.subcommand_matches("describe") else {
+    if let Some(describe) = matches.subcommand_matches("describe") {
+        return describe_of(alloc, describe);
+    }
+    let Some(table) = matches.subcommand_matches("table") else {
         unreachable!();
     };
-    describe_of(alloc, describe)
+    Ok(Command::Table(table_of(alloc, table)?))
 }
 
 /// The program's name, and then all arguments.
@@ -136,7 +140,8 @@ fn program<'a>(alloc: Global) -> Result<clap::Command<'a>, AllocError>
         .subcommand(rank_words(alloc)?)?
         .subcommand(merge_words(alloc)?)?
         .subcommand(check_words(alloc)?)?
-        .subcommand(describe_words(alloc)?)
+        .subcommand(describe_words(alloc)?)?
+        .subcommand(table_words(alloc)?)
 }
 
 /// The arguments of `rank`.
@@ -199,6 +204,18 @@ fn describe_words<'a>(alloc: Global) -> Result<clap::Command<'a>, AllocError>
         .arg(needed(alloc, "stations", "FILE", STATIONS_HELP))?
         .arg(readers(alloc))?;
     with_files(alloc, describe)
+}
+
+/// The arguments of `table`.
+fn table_words<'a>(alloc: Global) -> Result<clap::Command<'a>, AllocError>
+    ensures app { IfOk result (λ c. app_of c ≡ table_app) }
+    ensures local { IfOk result (λ c. (fields_of c).has_globals ≡ false) }
+{
+    clap::Command::new(alloc, "table")
+        .about("Prints the rows of reports as comma-separated values")
+        .after_help(TABLE_HELP)
+        .arg(option(alloc, "stations", "FILE", PLACES_HELP))?
+        .arg(many(alloc, "reports", "REPORT", REPORTS_HELP))
 }
 
 /// A subcommand with the arguments that name daily files, after its own.
@@ -332,6 +349,27 @@ fn describe_of(alloc: Global, matches: &ArgMatches) -> Result<Command, CommandFa
         workers: matches.get_one("workers").unwrap_or(WORKERS),
         files,
     }))
+}
+
+/// What the matches of `table` name. Without reports it is standard input.
+fn table_of(alloc: Global, matches: &ArgMatches) -> Result<TableArguments, AllocError>
+    ensures { IfOk result (IsTable (rows_of (found_of matches.now))) }
+{
+    let reports = matches.get_strs("reports").unwrap_or(&[]);
+    Ok(TableArguments {
+        stations: copy(alloc, matches.get_str("stations"))?,
+        reports: copies(alloc, or_input(reports))?,
+    })
+}
+
+/// The paths that are named, or that of standard input if none is.
+fn or_input<'a>(paths: &'a [&'a str]) -> &'a [&'a str]
+    ensures { map (λ s. s.now) result.now ≡ or_input (map (λ s. s.now) paths.now) }
+{
+    match paths {
+        [] => &["-"],
+        paths => paths,
+    }
 }
 
 /// The daily files that the matches of a subcommand name, or the error of `--null` without a list.

@@ -1,4 +1,4 @@
-//! Runs of two and three workers that are held at a gate until the others have come so far.
+//! Runs of two and three workers that are held at a gate until the others have come as far.
 
 use crate::data::{FALLING, Lines, USUAL, answer_of, data_of, lines_of};
 use rank_crew::Gate;
@@ -21,7 +21,7 @@ struct Meeting {
     claiming: [AtomicBool; 2],
     /// Of each morsel, how often it was claimed, and the last worker that claimed it.
     claims: [(AtomicU64, AtomicU64); 3],
-    /// Some worker was held in vain.
+    /// Some worker was held, and the others didn't come as far.
     missed: AtomicBool,
 }
 
@@ -127,7 +127,7 @@ fn gated_run_of_two_workers(rt: HostRuntime) {
 #[derive(Drop)]
 struct Three {
     claiming: [AtomicBool; 3],
-    /// Some worker was held in vain.
+    /// Some worker was held, and the others didn't come as far.
     missed: AtomicBool,
 }
 
@@ -189,7 +189,7 @@ fn three_workers_at_once(rt: HostRuntime) {
 #[derive(Drop)]
 struct FirstLast {
     last_claimed: AtomicBool,
-    /// The worker was held in vain.
+    /// The worker was held, and the other didn't come as far.
     missed: AtomicBool,
 }
 

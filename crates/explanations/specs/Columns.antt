@@ -3,16 +3,16 @@ use Rattle.std.specs.Prelude.{ℕ, ◌+◌, ◌-◌, ◌==◌, if◌then◌else�
 use Rattle.std.specs.Fmt.{decimal}
 use Rattle.explanations.specs.Shown.{shown}
 
--- those of a line from the first to the last, counted from 1, as far as it has them
+-- the columns of a line from the first to the last, counted from 1, as far as the line has them
 abbrev pub columns_of : List ℕ → ℕ → ℕ → List ℕ
 columns_of line first last = take (last - first + 1) (drop (first - 1) line)
 
--- where these columns are, and what stands there
+-- which columns these are, and the bytes in them
 abbrev pub columns_text : ℕ → ℕ → List ℕ → List ℕ
 columns_text first last bytes =
     codes "columns " ++ decimal first ++ codes " to " ++ decimal last ++ codes ": '" ++ shown bytes ++ codes "'"
 
--- so it is said of a line
+-- the same for these columns of a line
 abbrev pub columns_in : List ℕ → ℕ → ℕ → List ℕ
 columns_in line first last = columns_text first last (columns_of line first last)
 

@@ -25,7 +25,7 @@ daily_wanted (Line BadMonth) = codes "a month is a number from 1 to 12"
 daily_wanted (Line (BadValue day)) = codes "a value is a whole number or blank"
 daily_wanted DuplicateMonth = codes "an earlier line has this ID, year, month and element"
 
--- what stands in a line with the error: how many columns it has, or the columns that are wrong
+-- what a line with the error has: that many columns, or these bytes in the columns that are wrong
 abbrev pub daily_there : DailyWhy → List ℕ → List ℕ
 daily_there (Line Short) line = count_text (length line)
 daily_there (Line TooLong) line = count_text (length line)
@@ -35,7 +35,7 @@ daily_there (Line BadMonth) line = columns_in line 16 17
 daily_there (Line (BadValue day)) line = columns_in line (14 + 8 * day) (14 + 8 * day + 4)
 daily_there DuplicateMonth line = columns_in line 1 21
 
--- so is what stands in a line that is known, and else the kind of the error
+-- what a line with the error has, if the line is known, and otherwise the kind of the error
 abbrev pub daily_found : DailyWhy → Option (List ℕ) → List ℕ
 daily_found why None = daily_kind why
 daily_found why (Some line) = daily_there why line

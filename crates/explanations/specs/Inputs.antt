@@ -16,22 +16,22 @@ use Rattle.explanations.specs.Shown.{shown_text}
 use Rattle.explanations.specs.Station.{station_found, station_wanted}
 use Rattle.explanations.specs.Texts.{Says, line_text}
 
--- the path of the daily file of this number, from 1
+-- the path of the file of this number, from 1
 abbrev pub file_path : {A : Type 0} → List (String A) → ℕ → List ℕ
 file_path {A} files number = option_map_or (λ (path : String A). string_bytes path) (slice_get files (number - 1)) []
 
--- the path of the file that has the error, if it is one of a line, and else an empty path
+-- the path of the file with the error, if the error is one of a line, and otherwise an empty path
 abbrev pub path_of : Given → Fault → List ℕ
 path_of given (faults.StationLine line why) = given.stations.now
 path_of given (faults.DailyLine file line why) = file_path given.files.now file
 path_of given fault = []
 
--- it says why a word of the query can't stand there, or that there is no such word
+-- an explanation says why a word of the query is wrong, or that there is no such word
 abbrev pub SaysWord : List ℕ → Explanation → Type 0
 SaysWord query e = ((w : WrongWord) × IsWordOf query w × Says e (wrong_word_text w))
     ⊎ Says e (shown_text query ++ codes ": " ++ codes "it has no such word")
 
--- it says that more has to follow all words of the query
+-- an explanation says what has to follow the words of the query
 abbrev pub SaysMore : List ℕ → Explanation → Type 0
 SaysMore query e = (m : MoreWords) × (m.query.now ≡ query) × Says e (more_words_text m)
 

@@ -8,4 +8,5 @@ pub mod Texts
 pub mod Again
 pub mod Inputs
 pub mod Merges
+pub mod Tables
 pub mod People

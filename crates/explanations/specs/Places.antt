@@ -1,17 +1,17 @@
--- What may stand at each place of a query.
+-- What a query may have at each of its places.
 use Rattle.std.specs.Prelude.{ℕ, List, [], codes}
 use Rattle.explanations.specs.declared.query.Wanted.{Wanted}
 use Rattle.explanations.specs.declared.query.Wanted.TheVariants.{OneOf, Form, Nothing}
 use Rattle.explanations.specs.declared.place.Place.{Place}
 use Rattle.explanations.specs.declared.place.Place.TheVariants as places
 
--- the words of what may stand at a place
+-- the words that say what is allowed at a place
 abbrev pub words_wanted : Wanted → List ℕ
 words_wanted (OneOf words) = words.now
 words_wanted (Form form) = form.now
 words_wanted Nothing = []
 
--- these are, by the place
+-- these words, by the place
 abbrev pub words_at : Place → List ℕ
 words_at places.Top = codes "top"
 words_at places.Rows = codes "a number from 1 to 1000"

@@ -6,7 +6,7 @@ use Rattle.explanations.specs.declared.query.WrongWord.{WrongWord}
 use Rattle.explanations.specs.declared.query.MoreWords.{MoreWords}
 use Rattle.explanations.specs.Shown.{shown}
 
--- the query up to a word, and why the word can't stand there, by what may
+-- the query up to a word, and why the word is wrong, by what is allowed in its place
 abbrev pub unwanted_text : List ℕ → Wanted → List ℕ → List ℕ
 unwanted_text query (OneOf words) word = shown query ++ codes ": " ++ shown word ++ codes " is none of " ++ words.now
 unwanted_text query (Form form) word = shown query ++ codes ": " ++ shown word ++ codes " isn't " ++ form.now
@@ -18,15 +18,15 @@ following_text query (OneOf words) = shown query ++ codes ": one of " ++ words.n
 following_text query (Form form) = shown query ++ codes ": " ++ form.now ++ codes " has to follow"
 following_text query Nothing = shown query ++ codes ": nothing has to follow"
 
--- so it is said of a wrong word
+-- this text for a wrong word
 abbrev pub wrong_word_text : WrongWord → List ℕ
 wrong_word_text w = unwanted_text w.query.now w.wanted w.word.now
 
--- and of a query that ends too early
+-- this text for a query that ends too early
 abbrev pub more_words_text : MoreWords → List ℕ
 more_words_text m = following_text m.query.now m.wanted
 
--- a word stands in a query: what is said has the query up to the end of the word
+-- a word of a query: what is said has the query up to the end of the word
 pub record IsWordOf (query : List ℕ) (w : WrongWord) : Type 0 where
   pub start : ℕ
   pub stop : ℕ

@@ -8,7 +8,7 @@ use Rattle.std.specs.Str.{chars}
 abbrev pub shown_byte : ℕ → ℕ
 shown_byte b = if nat_le 32 b && nat_le b 126 then b else 63
 
--- so are the bytes of a text
+-- the bytes of a text as they are shown
 abbrev pub shown : List ℕ → List ℕ
 shown bytes = map shown_byte bytes
 

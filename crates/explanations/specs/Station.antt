@@ -23,7 +23,7 @@ station_wanted BadLongitude = codes "a longitude is a number from -180 to 180"
 station_wanted BadElevation = codes "an elevation is a number or blank"
 station_wanted Duplicate = codes "an earlier line has this ID"
 
--- what stands in a line with the error: how many columns it has, or the columns that are wrong
+-- what a line with the error has: that many columns, or these bytes in the columns that are wrong
 abbrev pub station_there : StationWhy → List ℕ → List ℕ
 station_there Short line = count_text (length line)
 station_there BadId line = columns_in line 1 11
@@ -32,7 +32,7 @@ station_there BadLongitude line = columns_in line 22 30
 station_there BadElevation line = columns_in line 32 37
 station_there Duplicate line = columns_in line 1 11
 
--- so is what stands in a line that is known, and else the kind of the error
+-- what a line with the error has, if the line is known, and otherwise the kind of the error
 abbrev pub station_found : StationWhy → Option (List ℕ) → List ℕ
 station_found why None = station_kind why
 station_found why (Some line) = station_there why line

@@ -9,17 +9,18 @@ use Rattle.explanations.specs.Columns.{columns_text, count_text}
 use Rattle.explanations.specs.Shown.{shown, shown_text}
 use Rattle.explanations.specs.Queries.{wrong_word_text, more_words_text}
 
--- what stands in a line: the kind of its error, how many columns it has, or the bytes in some of them
+-- what a line has in place of what is asked for: the kind of its error, how many columns it has, or the bytes in some
+-- of them
 abbrev pub found_text : Found → List ℕ
 found_text (founds.Kind kind) = kind.now
 found_text (founds.Columns count) = count_text count
 found_text (founds.At first last bytes) = columns_text first last bytes.now
 
--- a line of a file
+-- the path of a file, and the number of a line in it
 abbrev pub place_text : List ℕ → ℕ → List ℕ
 place_text path line = shown_text path ++ codes ":" ++ decimal line ++ codes ": "
 
--- a line of a file: where it is, what stands there, and what is asked for
+-- a line of a file: its place, what it has, and what is asked for
 abbrev pub line_text : List ℕ → ℕ → List ℕ → List ℕ → List ℕ
 line_text path number found wanted = place_text path number ++ found ++ codes "; " ++ wanted
 

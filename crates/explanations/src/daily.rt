@@ -34,7 +34,7 @@ pub(crate) fn explained<'a>(
     }
 }
 
-/// What stands in a line with an error, if the line is known, or else the kind of the error.
+/// What a line with an error has, if the line is known, and otherwise the kind of the error.
 fn found(why: DailyWhy, line: Option<&[u8]>) -> Found<'_>
     ensures { found_text result ≡ daily_found why (option_map (λ l. l.now) line.entry) }
 {
@@ -59,7 +59,7 @@ fn kind(why: DailyWhy) -> &'static str
     }
 }
 
-/// What stands in a line in place of what is asked for.
+/// What a line has in place of what is asked for.
 fn there(why: DailyWhy, line: &[u8]) -> Found<'_>
     ensures { found_text result ≡ daily_there why line.now }
 {

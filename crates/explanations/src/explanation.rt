@@ -12,7 +12,7 @@ use std::fmt;
 /// What is said to people about an error or a warning: one line, without its line feed.
 #[derive(Clone, Copy)]
 pub enum Explanation<'a> {
-    /// A line of a file, by its number from 1: what stands there, and what is asked for.
+    /// A line of a file, by its number from 1: what it has, and what is asked for.
     Line {
         path: &'a str,
         line: u64,
@@ -74,10 +74,10 @@ impl<'a> fmt::Display for Explanation<'a> {
     }
 }
 
-/// What stands in a line.
+/// What a line has in place of what is asked for.
 #[derive(Clone, Copy)]
 pub enum Found<'a> {
-    /// It isn't known, but the kind of the error is.
+    /// What it has isn't known, but the kind of the error is.
     Kind(&'static str),
     /// That many columns in all.
     Columns(u64),

@@ -24,20 +24,21 @@ pub struct Given<'a> {
 impl<'a> Given<'a> {
     ghost use Rattle.explanations.specs.Inputs.{path_of};
 
-    /// The path of the file that has the error, if it is one of a line, and else an empty path.
+    /// The path of the file with the error, if the error is one of a line, and otherwise an empty
+    /// path.
     pub(crate) fn path(&self, fault: Fault) -> &'a str
         ensures { result.now ≡ path_of self.now fault }
     {
         match fault {
             Fault::StationLine { .. } => self.stations,
-            Fault::DailyLine { file, .. } => daily_file(self.files, file),
+            Fault::DailyLine { file, .. } => numbered_file(self.files, file),
             _ => "",
         }
     }
 }
 
-/// The path of the daily file of this number, from 1.
-fn daily_file(files: &[String], number: u64) -> &str
+/// The path of the file of this number, from 1.
+pub(crate) fn numbered_file(files: &[String], number: u64) -> &str
     ensures { result.now ≡ file_path files.now number }
 {
     match files.get(number.saturating_sub(1) as usize) {
@@ -63,7 +64,7 @@ pub fn of_input<'a>(fault: Fault, given: Given<'a>, line: Option<&'a [u8]>) -> E
             file,
             line: number,
             why,
-        } => daily::explained(daily_file(given.files, file), number, why, line),
+        } => daily::explained(numbered_file(given.files, file), number, why, line),
         Fault::TooManyFiles => Explanation::Plain("at most 1048576 daily files are read"),
         Fault::BadWorkers => Explanation::Plain("--workers: 1 to 64 workers may run"),
         Fault::BadGuess => Explanation::Plain("--guess: a score is from -2147483648 to 2147483648"),

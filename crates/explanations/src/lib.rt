@@ -1,4 +1,4 @@
-//! What an error or a warning means, in words for people: where it is, what stands there, and what is asked for.
+//! What an error or a warning means, in words for people: where it is, what is there, and what is asked for.
 //!
 //! The program prints them on a terminal, after the lines that scripts read.
 #![tactic(auto)]
@@ -14,6 +14,7 @@ mod place;
 mod query;
 mod shown;
 mod station;
+mod table;
 #[cfg(test)]
 mod tests;
 

@@ -5,6 +5,7 @@ ghost use Rattle.explanations.specs.People.{Adds, AddsInput, AddsNaming, AddsOne
 ghost use Rattle.explanations.specs.People.{are_read, file_text, joined, lines_of, path_read};
 ghost use Rattle.explanations.specs.Inputs.{IsOfQuery};
 ghost use Rattle.explanations.specs.Merges.{merge_text};
+ghost use Rattle.explanations.specs.Tables.{table_text};
 ghost use Rattle.explanations.specs.Texts.{explanation_text};
 
 use crate::again::{line_with_error, looks_compressed, read_again};
@@ -14,11 +15,13 @@ use crate::merge::of_merge;
 use crate::notice::{
     COMPRESSED, FOREIGN, IN_USE, NO_MEMORY, NO_NAMES, NOT_TEXT, ODD, UNLISTED, UNWRITTEN,
 };
+use crate::table::of_table;
 use command_line::Part;
 use ghcn_series::Warnings;
 use rank_input::{Archive, Fault, NotNamed, list_path};
 use rank_merge::MergeFault;
 use rank_query::QueryFault;
+use rank_table::TableFault;
 use std::alloc::{AllocError, Global};
 use std::io::Read;
 
@@ -48,7 +51,7 @@ impl ForPeople {
         self.is_read
     }
 
-    /// The lines.
+    /// The lines, each but the last with a line feed.
     pub fn lines(&self) -> &str
         ensures { result.now ≡ lines_of self.now }
     {
@@ -119,6 +122,13 @@ impl ForPeople {
         ensures { Adds self.old self.new (Some (merge_text fault parts.now)) }
     {
         self.add(alloc, of_merge(fault, parts));
+    }
+
+    /// Explains an error of reports that become a table.
+    pub fn explain_table(&mut self, alloc: Global, fault: TableFault, reports: &[String])
+        ensures { Adds self.old self.new (Some (table_text fault reports.now)) }
+    {
+        self.add(alloc, of_table(fault, reports));
     }
 
     /// Explains that a file can't be read, by the system's reason if it can't be read again.

@@ -1,11 +1,11 @@
-//! The places of a query, and what may stand at each.
+//! The places of a query, and what is allowed at each.
 
 ghost use Rattle.std.specs.Prelude.{◌≡◌};
 ghost use Rattle.explanations.specs.Places.{words_at, words_wanted};
 
 use crate::query::Wanted;
 
-/// A place in a query, by what stands there.
+/// A place in a query, by what is allowed there.
 #[derive(Clone, Copy, Debug, PartialEq, Eq)]
 pub(crate) enum Place {
     Top,
@@ -36,7 +36,7 @@ pub(crate) enum Place {
 }
 
 impl Place {
-    /// The place after that of a word which may stand at this one.
+    /// The place after a word that is allowed at this one.
     pub(crate) fn after(self, word: &[u8]) -> Place {
         match self {
             Place::Top => Place::Rows,
@@ -60,7 +60,7 @@ impl Place {
         }
     }
 
-    /// What may stand at the place.
+    /// What is allowed at the place.
     pub(crate) fn wanted(self) -> Wanted
         ensures { words_wanted result ≡ words_at self }
     {

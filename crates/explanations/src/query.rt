@@ -1,4 +1,4 @@
-//! The word of a query that has an error, and what may stand in its place.
+//! The word of a query that has an error, and what is allowed in its place.
 
 ghost use Rattle.std.specs.Prelude.{◌≡◌, ◌≤◌, ◌<◌, length, IfSome};
 ghost use Rattle.explanations.specs.Queries.{IsWordOf};
@@ -7,13 +7,14 @@ use crate::place::Place;
 use crate::shown::Shown;
 use std::fmt;
 
-/// What may stand at a place of a query.
+/// What is allowed at a place of a query.
 #[derive(Clone, Copy)]
 pub enum Wanted {
     /// One of these words.
     OneOf(&'static str),
     /// This word, or one of this form.
     Form(&'static str),
+    /// Nothing: the query has to end.
     Nothing,
 }
 
@@ -23,7 +24,7 @@ pub struct WrongWord<'a> {
     /// The query up to the end of the word.
     pub query: &'a [u8],
     pub word: &'a [u8],
-    /// What may stand in the word's place.
+    /// What is allowed in the word's place.
     pub wanted: Wanted,
 }
 
@@ -67,7 +68,7 @@ impl<'a> fmt::Display for MoreWords<'a> {
     }
 }
 
-/// The word of this number, from 1, and what may stand in its place. A query has such a word if it has an error there.
+/// The word of this number, from 1, and what is allowed in its place. A query has such a word if it has an error there.
 pub(crate) fn wrong_word(query: &[u8], number: u64) -> Option<WrongWord<'_>>
     ensures { IfSome result (IsWordOf query.now) }
 {

@@ -4,6 +4,7 @@ mod daily;
 mod inputs;
 mod parts;
 mod people;
+mod tables;
 
 use crate::again::{line_with_error, looks_compressed};
 use crate::explanation::Explanation;
@@ -11,6 +12,7 @@ use crate::input::{Given, of_input, of_query};
 use crate::merge::of_merge;
 use crate::notice::{COMPRESSED, FOREIGN, ODD, UNLISTED};
 use crate::people::ForPeople;
+use crate::table::of_table;
 use command_line::Part;
 use ghcn_fields::Memory;
 use ghcn_files::{LineWhy, StationId, StationWhy};
@@ -18,6 +20,7 @@ use ghcn_series::{DailyWhy, Foreign, LinePlace, OddLines, Warnings};
 use rank_input::{Fault, NotNamed, System};
 use rank_merge::MergeFault;
 use rank_query::{Query, QueryFault};
+use rank_table::TableFault;
 use std::alloc::Global;
 use std::test::Fail;
 
@@ -191,7 +194,7 @@ fn words_of_queries(rt: HostRuntime) -> Result<(), Fail> {
     Ok(())
 }
 
-/// Words that may stand somewhere in a query.
+/// Words that are allowed somewhere in a query.
 const WORDS: &str =
     "top highest lowest sum dry wet hot cold PRCP SNOW SNWD TMAX TMIN box country state station months \
                      days from to per year";
@@ -226,7 +229,7 @@ fn is_among(word: &str, words: &str) -> bool {
     false
 }
 
-/// The words that are offered somewhere are those that may stand there: with each of them a query goes on, or it is
+/// The words that are offered somewhere are those that are allowed there: with each of them a query goes on, or it is
 /// whole.
 #[test]
 fn words_that_are_offered(rt: HostRuntime) -> Result<(), Fail> {

@@ -7,6 +7,7 @@ pub mod PlanAnswers
 pub mod Answering
 pub mod FedRuns
 pub mod PartsRead
+pub mod ReportsRead
 pub mod Readings
 pub mod RankedParts
 pub mod SerialPapers

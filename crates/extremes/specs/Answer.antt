@@ -25,7 +25,7 @@ pub record AreRight (q : Asked) (stations : List Station) (files : List (List â„
   pub certificate : IsRightCertificate 2 q (IsAdmittedSeries q stations files) papers.certificate.items
   pub unlisted : papers.unlisted â‰¡ unlisted_said stations files
 
--- so they are for a query and data
+-- a report and a certificate are right for a query and data
 pub record AreRightFor (q : Asked) (c : Contents) (papers : Papers) : Type 0 where
   pub report : IsRightReportFor q c papers.report.items
   pub certificate : IsRightCertificateFor 2 q c papers.certificate.items

@@ -8,20 +8,24 @@ use Rattle.command_line.specs.declared.asked.MergeArguments.{MergeArguments}
 use Rattle.command_line.specs.declared.asked.NamedFiles.{NamedFiles}
 use Rattle.command_line.specs.declared.asked.Part.{Part}
 use Rattle.command_line.specs.declared.asked.RankArguments.{RankArguments}
-use Rattle.command_line.specs.declared.asked.Command.TheVariants.{Sample, Rank, Merge, Check, Describe}
+use Rattle.command_line.specs.declared.asked.TableArguments.{TableArguments}
+use Rattle.command_line.specs.declared.asked.Command.TheVariants.{Sample, Rank, Merge, Check, Describe, Table}
 use Rattle.ghcn_series.specs.declared.counts.Warnings.{Warnings}
 use Rattle.rank_input.specs.declared.fault.Fault.{Fault}
 use Rattle.rank_input.specs.Feeding.{Opening, StopsAt}
 use Rattle.extremes.specs.declared.papers.Papers.{Papers}
 use Rattle.extremes.specs.declared.judgement.Judgement.{Judgement}
 use Rattle.extremes.specs.declared.merge.MergingFault.{MergingFault}
+use Rattle.extremes.specs.declared.table.TableText.{TableText}
+use Rattle.extremes.specs.declared.table.TablingFault.{TablingFault}
 use Rattle.extremes.specs.declared.ending.Ending.{Ending}
 use Rattle.extremes.specs.declared.ending.Ending.TheVariants.{File}
 use Rattle.extremes.specs.Environments.{Environment, Folders}
 use Rattle.extremes.specs.Messages.{Line, Streams, input_lines, not_read_line, not_written_line, only_line, warning_lines}
 use Rattle.extremes.specs.NamedRuns.{EndsUnnamed, RunsOver, arguments_of, list_of}
 use Rattle.extremes.specs.Targets.{Holding, IsInUse, IsPaperOrOutput, PutsNothing, Sharing}
-use Rattle.extremes.specs.Printed.{IsPrinted, IsTold, IsTextShown}
+use Rattle.extremes.specs.FaultTexts.{tabling_line}
+use Rattle.extremes.specs.Printed.{IsPrinted, IsTold, IsTextShown, IsTableShown}
 use Rattle.extremes.specs.Runs.{RanksFiles, JudgesFiles, IsRankedAlone, ranking_paths, judging_paths}
 use Rattle.extremes.specs.declared.sample.TheConstants.{STATIONS, DAILY, QUERY}
 use Rattle.extremes.specs.Describes.{DescribesFiles, describing_paths}
@@ -30,6 +34,7 @@ use Rattle.extremes.specs.declared.files.Describing.{Describing}
 use Rattle.extremes.specs.declared.files.Ranking.{Ranking}
 use Rattle.extremes.specs.declared.files.Judging.{Judging}
 use Rattle.extremes.specs.Merges.{Known, parts_paths, MergesFiles}
+use Rattle.extremes.specs.Tables.{TablesFiles, tabling_paths}
 
 -- of the files that are named one can't be read, those before it were opened, and nothing is printed but a line on
 -- standard error that names it
@@ -63,7 +68,7 @@ pub record EndsAtOut (uses : Using) (s : Streams) (path : Option (List ℕ)) (en
 abbrev pub IsSampleRanked : Result Papers Fault → Type 0
 IsSampleRanked answer = IsRankedAlone None QUERY.now STATIONS.now (DAILY.now ∷ []) answer
 
--- that is printed
+-- the ranking of the texts that are built in is printed
 pub record PrintsSample (e : Environment) (ending : Ending) : Type 0 where
   pub answer : Result Papers Fault
   pub ranked : IsSampleRanked answer
@@ -78,7 +83,8 @@ pub record PrintsRanking (e : Environment) (r : Ranking) (files : NamedFiles) (p
   pub printed : IsPrinted (input_lines e.line (arguments_of files) (map string_bytes r.files.items)) e.streams answer
       (warning_lines (map string_bytes r.files.items) warnings) path e.puts ending
 
--- so it is with the merge of the reports and certificates of parts that are named
+-- the merge of the reports and certificates of parts that are named is printed, and its certificate goes to the file of
+-- a path if there is one
 pub record PrintsMerge (e : Environment) (query : List ℕ) (parts : List Part) (path : Option (List ℕ)) (ending : Ending)
     : Type 0 where
   pub answer : Result Papers MergingFault
@@ -99,6 +105,13 @@ pub record PrintsDescription (bytes_of : Known) (opens : Opening) (line : Fault 
   pub described : DescribesFiles bytes_of opens d answer
   pub shown : IsTextShown line s answer (arguments_of files) (map string_bytes d.files.items) ending
 
+-- the table of reports that are named is printed
+pub record PrintsTable (bytes_of : Known) (opens : Opening) (line : TablingFault → Line) (s : Streams)
+    (asked : TableArguments) (ending : Ending) : Type 0 where
+  pub answer : Result TableText TablingFault
+  pub tabled : TablesFiles bytes_of opens asked answer
+  pub shown : IsTableShown line s answer ending
+
 -- a run finds its certificate's file in use, and ends at it; or it finds that this file isn't in use, and ends at a
 -- file that it reads, or is printed
 abbrev pub Runs : Environment → Using → Option (List ℕ) → List (List ℕ) → (Ending → Type 0) → Ending → Type 0
@@ -106,12 +119,12 @@ Runs e uses path paths prints ending = (PutsNothing e.puts × EndsAtOut uses e.s
     ⊎ (PutsNothing e.puts × IfSome path (λ p. uses p false) × EndsAtAFile e.opens e.streams paths ending)
     ⊎ (IfSome path (λ p. uses p false) × prints ending)
 
--- so a ranking does
+-- the same for a ranking
 abbrev pub RunsRanking : Environment → Ranking → NamedFiles → Option (List ℕ) → Ending → Type 0
 RunsRanking e r files path ending = Runs e (ranking_uses e.shares e.holds r (list_of files)) path (ranking_paths r)
     (PrintsRanking e r files path) ending
 
--- and a merge
+-- the same for a merge
 abbrev pub RunsMerge : Environment → List ℕ → List Part → Option (List ℕ) → Ending → Type 0
 RunsMerge e query parts path ending =
     Runs e (merge_uses e.shares e.holds parts) path (parts_paths parts) (PrintsMerge e query parts path) ending
@@ -121,13 +134,18 @@ abbrev pub RunsJudging : Known → Opening → (Fault → Line) → Streams → 
 RunsJudging bytes_of opens line s j files ending =
     EndsAtAFile opens s (judging_paths j) ending ⊎ PrintsJudgement bytes_of opens line s j files ending
 
--- so it is with a description
+-- a description ends at a file that it reads, or is printed
 abbrev pub RunsDescribing : Known → Opening → (Fault → Line) → Streams → Describing → NamedFiles → Ending → Type 0
 RunsDescribing bytes_of opens line s d files ending =
     EndsAtAFile opens s (describing_paths d) ending ⊎ PrintsDescription bytes_of opens line s d files ending
 
--- what a run of a ranking prints and writes, and how it ends: first its files are named; if they can't be, that is the
--- end, and else they are ranked in their order
+-- a table ends at a file that it reads, or is printed
+abbrev pub IsTablingRun : Known → Opening → (TablingFault → Line) → Streams → TableArguments → Ending → Type 0
+IsTablingRun bytes_of opens line s asked ending =
+    EndsAtAFile opens s (tabling_paths asked) ending ⊎ PrintsTable bytes_of opens line s asked ending
+
+-- what a run of a ranking prints and writes, and how it ends: first its files are named; if they can't be, the run ends
+-- there, and otherwise they are ranked in their order
 abbrev pub IsRankingRun : Environment → RankArguments → Ending → Type 0
 IsRankingRun e asked ending =
     (PutsNothing e.puts × EndsUnnamed e.bytes_of e.opens e.names_of e.line e.streams asked.files ending)
@@ -139,12 +157,12 @@ IsRankingRun e asked ending =
       guess = asked.guess;
     }) asked.files (option_map string_bytes asked.certificate)) ending
 
--- so it is with a merge, whose parts are named as they are
+-- the same for a merge: the paths of its parts are taken as they are
 abbrev pub IsMergingRun : Environment → MergeArguments → Ending → Type 0
 IsMergingRun e asked ending =
     RunsMerge e (string_bytes asked.query) asked.parts.items (option_map string_bytes asked.certificate) ending
 
--- and with a check, whose files are named first
+-- the same for a check, whose files are named first
 abbrev pub IsJudgingRun : Known → Opening → Folders → (Fault → Line) → Streams → CheckArguments → Ending → Type 0
 IsJudgingRun bytes_of opens names_of line s asked ending =
     EndsUnnamed bytes_of opens names_of line s asked.files ending
@@ -157,7 +175,7 @@ IsJudgingRun bytes_of opens names_of line s asked ending =
       part = asked.part;
     }) asked.files) ending
 
--- and with a description
+-- the same for a description, whose files are named first
 abbrev pub IsDescribingRun : Known → Opening → Folders → (Fault → Line) → Streams → DescribeArguments → Ending → Type 0
 IsDescribingRun bytes_of opens names_of line s asked ending =
     EndsUnnamed bytes_of opens names_of line s asked.files ending
@@ -167,7 +185,7 @@ IsDescribingRun bytes_of opens names_of line s asked ending =
       workers = asked.workers;
     }) asked.files) ending
 
--- what a run of a command prints and writes, and how it ends: a check and a description write no certificate
+-- what a run of a command prints and writes, and how it ends: a check, a description and a table write no certificate
 abbrev pub IsCommandRun : Environment → Command → Ending → Type 0
 IsCommandRun e Sample ending = PrintsSample e ending
 IsCommandRun e (Rank asked) ending = IsRankingRun e asked ending
@@ -176,3 +194,5 @@ IsCommandRun e (Check asked) ending =
     PutsNothing e.puts × IsJudgingRun e.bytes_of e.opens e.names_of e.line e.streams asked ending
 IsCommandRun e (Describe asked) ending =
     PutsNothing e.puts × IsDescribingRun e.bytes_of e.opens e.names_of e.line e.streams asked ending
+IsCommandRun e (Table asked) ending =
+    PutsNothing e.puts × IsTablingRun e.bytes_of e.opens tabling_line e.streams asked ending

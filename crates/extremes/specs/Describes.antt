@@ -32,7 +32,7 @@ pub record IsTextOf (stations : List ℕ) (files : List (List ℕ)) (text : Desc
   pub written : text.bytes.items ≡ description_text description
   pub warnings : text.warnings ≡ warnings_of files
 
--- so it does of the files that an intake was given
+-- a text says what the files hold that an intake was given, and beside it are the foreign files and the odd lines
 abbrev pub DescribesIntake : Intake RowDescriber → DescriptionText → Type 0
 DescribesIntake t text = IsTrueOf HasDescribedByRows t (λ keep stations files. IsTextOf stations files text)
 

@@ -1,4 +1,4 @@
--- What the verdicts of all parts of an archive are worth, as a statement for the contract of a public function.
+-- What the verdicts of all parts of an archive guarantee, as a statement for the contract of a public function.
 use Rattle.std.specs.Prelude.{◌≡◌, ◌↔◌, ℕ, ◌<◌, List, length, map}
 use Rattle.std.specs.List.{sum, flat_map, AllByRecursion, AllZip, IsDistinct}
 use Rattle.ghcn_files.specs.Ids.{same_id}

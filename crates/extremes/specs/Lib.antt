@@ -8,6 +8,7 @@ pub mod Targets
 pub mod Judged
 pub mod JudgedInParts
 pub mod Merges
+pub mod Tables
 pub mod Runs
 pub mod Describes
 pub mod RankedInParts

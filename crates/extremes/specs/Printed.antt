@@ -16,7 +16,9 @@ use Rattle.extremes.specs.declared.judgement.Judgement.TheVariants.{Whole, Part}
 use Rattle.extremes.specs.Delivered.{HasBeginning, IsCutOff}
 use Rattle.extremes.specs.Ending.{ending_of}
 use Rattle.extremes.specs.Targets.{Putting, PutsNothing}
-use Rattle.extremes.specs.Messages.{Line, Streams, after_lines, input_lines, not_written_line, unlisted_warning}
+use Rattle.extremes.specs.declared.table.TableText.{TableText}
+use Rattle.extremes.specs.declared.table.TablingFault.{TablingFault}
+use Rattle.extremes.specs.Messages.{Line, Streams, after_lines, input_lines, not_written_line, only_line, unlisted_warning}
 use Rattle.extremes.specs.Messages.{warning_lines}
 
 -- what a judgement says of a report and a certificate, without a line feed
@@ -80,6 +82,11 @@ abbrev pub IsTextShown : (Fault → Line) → Streams → Result DescriptionText
 IsTextShown line s (Ok text) arguments paths ending =
     IsShown (after_lines (warning_lines paths text.warnings) s) text.bytes.items ending
 IsTextShown line s (Err fault) arguments paths ending = IsRefused (input_lines line arguments paths) s fault ending
+
+-- the text of a table is shown; an error prints its line alone
+abbrev pub IsTableShown : (TablingFault → Line) → Streams → Result TableText TablingFault → Ending → Type 0
+IsTableShown line s (Ok table) ending = IsShown s table.bytes.items ending
+IsTableShown line s (Err fault) ending = IsRefused (only_line line) s fault ending
 
 -- a judgement is printed as its line and ends the run as it says; or its line is cut off, and the run ends as a file
 -- that couldn't be written, as a line on standard error says

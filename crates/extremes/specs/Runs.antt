@@ -71,7 +71,7 @@ IsRankedAlone guess query stations files (Ok papers) =
 IsRankedAlone guess query stations files (Err fault) =
     IsRefusal is_memory fault (read_run 1 guess query stations files)
 
--- so is this an answer to a question's input
+-- a report and a certificate of at most that many workers that answer a question's input, or its first error
 abbrev pub RanksInput : Question → ℕ → Option ℤ → Result Papers Fault → Type 0
 RanksInput t workers guess answer =
     IsTrueOf t (λ query stations files. IsRanked workers guess query stations files answer)
@@ -102,7 +102,7 @@ IsJudgedAs true query stations files report certificate (Whole v) = ⊥
 IsJudgedAs true query stations files report certificate (Part v) =
     IsJudgedByPart query stations files report certificate v
 
--- so it is said for a question's input
+-- the same for a question's input
 abbrev pub JudgesInputAs : Bool → Question → List ℕ → List ℕ → Judgement → Type 0
 JudgesInputAs part t report certificate j =
     IsTrueOf t (λ query stations files. IsJudgedAs part query stations files report certificate j)

@@ -1,28 +1,30 @@
 //! The commands of a run: each names its files, does what is asked of them, and prints what that returns.
 
 ghost use Rattle.std.specs.Prelude.{◌≡◌, ◌∷◌, [], IfErr, IfOk, option_map, string_bytes};
-ghost use Rattle.extremes.specs.Commands.{IsDescribingRun, IsJudgingRun, IsMergingRun, IsRankingRun};
+ghost use Rattle.extremes.specs.Commands.{IsDescribingRun, IsJudgingRun, IsMergingRun, IsRankingRun, IsTablingRun};
 ghost use Rattle.extremes.specs.Commands.{RunsDescribing, RunsJudging, RunsRanking};
 ghost use Rattle.extremes.specs.Environments.{environment};
-ghost use Rattle.extremes.specs.FaultTexts.{fault_line, merging_line};
+ghost use Rattle.extremes.specs.FaultTexts.{fault_line, merging_line, tabling_line};
 ghost use Rattle.extremes.specs.Messages.{ArePrintedLines, naming_line, streams};
 ghost use Rattle.extremes.specs.NamedRuns.{StandForNamed, StopsNamed, naming_ending};
 ghost use Rattle.extremes.specs.Targets.{IsPut};
 
 use crate::ending::Ending;
 use crate::explained::{
-    explain_described, explain_judged, explain_merged, explain_ranked, explain_unwritten,
+    explain_described, explain_judged, explain_merged, explain_ranked, explain_tabled,
+    explain_unwritten,
 };
-use crate::files::{Describing, Judging, Ranking, merge_files};
+use crate::files::{Describing, Judging, Ranking, merge_files, table_files};
 use crate::messages::Messages;
 use crate::print::{
     DailyPaths, not_named, not_read, not_written, print_answer, print_description, print_judgement,
-    print_ranked,
+    print_ranked, print_table,
 };
 use crate::target::{Target, is_in_use, is_paper_or_output};
 use crate::watching::{describe_watched, judge_watched, rank_watched};
 use command_line::{
     CheckArguments, DescribeArguments, MergeArguments, NamedFiles, Part, RankArguments,
+    TableArguments,
 };
 use explanations::ForPeople;
 use rank_input::{Archive, NotNamed, name_files};
@@ -324,6 +326,33 @@ fn describe_named<
         }
         Err(path) => {
             words.explain_unread(rt.alloc(), archive, path);
+            not_read(messages, path)
+        }
+    }
+}
+
+/// Makes a table of the reports that are named, and prints it.
+pub(crate) fn run_tabling<A: Archive, M: Messages, W: Write>(
+    alloc: Global,
+    archive: &A,
+    asked: &TableArguments,
+    messages: &mut M,
+    out: &mut W,
+    words: &mut ForPeople,
+) -> Ending
+    ensures { IsTablingRun (A.bytes_of archive.now) (A.opens archive.now) tabling_line
+        (streams (ArePrintedLines M.prints messages.old messages.new) (W.contents out.old) (W.contents out.new))
+        asked.now result }
+{
+    match table_files(alloc, archive, asked) {
+        Ok(tabled) => {
+            explain_tabled(alloc, archive, asked, &tabled, words);
+            let ending = print_table(messages, tabled, out);
+            explain_unwritten(alloc, ending, words);
+            ending
+        }
+        Err(path) => {
+            words.explain_unread(alloc, archive, path);
             not_read(messages, path)
         }
     }

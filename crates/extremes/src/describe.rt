@@ -13,6 +13,7 @@ use std::alloc::Global;
 /// A description of files as it is printed.
 #[derive(Debug, Drop)]
 pub struct DescriptionText {
+    /// The text.
     pub bytes: Vec<u8>,
     /// The foreign files and the odd lines.
     pub warnings: Warnings,

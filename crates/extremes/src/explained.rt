@@ -7,7 +7,8 @@ use crate::judgement::Judgement;
 use crate::merge::MergingFault;
 use crate::papers::Papers;
 use crate::rank::Ranked;
-use command_line::Part;
+use crate::table::{TableText, TablingFault};
+use command_line::{Part, TableArguments};
 use explanations::{ForPeople, Given};
 use ghcn_series::Warnings;
 use rank_input::{Archive, Fault};
@@ -88,6 +89,32 @@ pub(crate) fn explain_merged(
         Ok(_) => {}
         Err(MergingFault::Query(fault)) => words.explain_query(alloc, *fault, query),
         Err(MergingFault::Parts(fault)) => words.explain_parts(alloc, *fault, parts),
+    }
+}
+
+/// Explains what making a table returns. It has neither a query nor daily files.
+pub(crate) fn explain_tabled<A: Archive>(
+    alloc: Global,
+    archive: &A,
+    asked: &TableArguments,
+    tabled: &Result<TableText, TablingFault>,
+    words: &mut ForPeople,
+) {
+    match tabled {
+        Ok(_) => {}
+        Err(TablingFault::Stations(cause)) => {
+            let stations = match &asked.stations {
+                Some(path) => path.as_str(),
+                None => "",
+            };
+            let given = Given {
+                query: "",
+                stations,
+                files: &[],
+            };
+            words.explain_input(alloc, archive, Fault::from(*cause), given);
+        }
+        Err(TablingFault::Reports(fault)) => words.explain_table(alloc, *fault, &asked.reports),
     }
 }
 

@@ -1,12 +1,13 @@
-//! Ranking, merging, checking and describing what the files of an archive hold.
+//! Ranking, merging, checking and describing what the files of an archive hold, and making tables of it.
 
-ghost use Rattle.std.specs.Prelude.{◌≡◌, ◌≤◌, [], IfOk, IfErr, OnOk, length, map};
+ghost use Rattle.std.specs.Prelude.{◌≡◌, ◌≤◌, [], IfOk, IfErr, OnOk, length, map, option_map};
 ghost use Rattle.std.specs.List.{AllZip};
 ghost use Rattle.std.specs.Vec.{vec_capacity};
-ghost use Rattle.rank_input.specs.Feeding.{AreOpened, StopsAt};
+ghost use Rattle.rank_input.specs.Feeding.{AreFilesOf, AreOpened, StopsAt};
 ghost use Rattle.rank_input.specs.Taken.{HasTakenSome, AreWarningsOf};
 ghost use Rattle.extremes.specs.Runs.{RanksFiles, JudgesFiles, RanksInput, ranking_paths, judging_paths};
 ghost use Rattle.extremes.specs.Describes.{DescribesFiles, describing_paths};
+ghost use Rattle.extremes.specs.Tables.{IsListOf, TablesFiles, known_report, list_paths, report_paths, tabling_paths};
 ghost use Rattle.extremes.specs.Merges.{AreBothOf, MergesFiles, known_part, part_paths, parts_paths, texts_of};
 
 use crate::describe::{DescriptionText, describe_intake};
@@ -15,17 +16,19 @@ use crate::judgement::Judgement;
 use crate::merge::{MergingFault, PartTexts, merge_texts};
 use crate::papers::Papers;
 use crate::rank::{self, Ranked, rank_intake};
-use command_line::Part;
+use crate::table::{TableText, TablingFault, table_texts};
+use command_line::{Part, TableArguments};
 use ghcn_description::RowDescriber;
 use ghcn_fields::Memory;
 use ghcn_files::Keep;
 use ghcn_series::Warnings;
 use rank_crew::Open;
 use rank_input::{
-    Archive, Daily, Fault, Intake, Question, check_words, piece_room, read_whole, take_files,
-    workers_for,
+    Archive, Daily, Fault, Intake, Question, check_words, list_path, piece_room, read_whole,
+    take_files, workers_for,
 };
 use rank_merge::MergeFault;
+use rank_table::TableFault;
 use std::alloc::Global;
 use std::sync::Wait;
 use std::thread::Threads;
@@ -243,4 +246,66 @@ pub(crate) fn describe_files<'p, R: Threads + AllocGlobal + Sync, A: Archive<Fil
         &mut room,
     )?;
     Ok(describe_intake(alloc, intake))
+}
+
+/// Reads the station list, if one is named, and then the files of reports in order, and makes the table of
+/// these reports. Or it returns the path of the first file that can't be read.
+pub(crate) fn table_files<'p, A: Archive>(
+    alloc: Global,
+    archive: &A,
+    asked: &'p TableArguments,
+) -> Result<Result<TableText, TablingFault>, &'p str>
+    ensures tables { IfOk result (TablesFiles (A.bytes_of archive.now) (A.opens archive.now) asked.now) }
+    ensures stopped { IfErr result (λ path. StopsAt (A.opens archive.now) (tabling_paths asked.now) path.now) }
+{
+    let stations = read_list(alloc, archive, &asked.stations)?;
+    let Ok(mut texts) = Vec::with_capacity(alloc, asked.reports.len()) else {
+        return Ok(Err(TablingFault::Reports(TableFault::Memory(Memory))));
+    };
+    read_reports(alloc, archive, &asked.reports, &mut texts)?;
+    Ok(table_texts(alloc, stations.as_deref(), texts.as_slice()))
+}
+
+/// Reads a station list, if one is named, or returns its path if it can't be read.
+fn read_list<'p, A: Archive>(
+    alloc: Global,
+    archive: &A,
+    path: &'p Option<String>,
+) -> Result<Option<Vec<u8>>, &'p str>
+    ensures read { IfOk result (λ text. IsListOf (A.bytes_of archive.now) path.now (option_map (λ t. t.items) text)) }
+    ensures opened { OnOk result (AreOpened (A.opens archive.now) (list_paths path.now)) }
+    ensures stopped { IfErr result (λ at. StopsAt (A.opens archive.now) (list_paths path.now) at.now) }
+{
+    let Some(path) = path else {
+        return Ok(None);
+    };
+    match read_whole(alloc, archive, path) {
+        Ok(text) => Ok(Some(text)),
+        Err(_) => Err(path),
+    }
+}
+
+/// Reads files of reports in order into a list that has room for them, or returns the path of the first
+/// one that can't be read. `-` is standard input.
+fn read_reports<'p, A: Archive>(
+    alloc: Global,
+    archive: &A,
+    reports: &'p [String],
+    texts: &mut Vec<Vec<u8>>,
+) -> Result<(), &'p str>
+    requires none { texts.old.items ≡ [] }
+    requires room { length reports.now ≤ vec_capacity texts.old }
+    ensures read { OnOk result (AreFilesOf (map (known_report (A.bytes_of archive.now)) reports.now)
+        (map (λ t. t.items) texts.new.items)) }
+    ensures opened { OnOk result (AreOpened (A.opens archive.now) (report_paths reports.now)) }
+    ensures stopped { IfErr result (λ path. StopsAt (A.opens archive.now) (report_paths reports.now) path.now) }
+{
+    for report in reports {
+        let path = list_path(report);
+        let Ok(text) = read_whole(alloc, archive, path) else {
+            return Err(path);
+        };
+        texts.push_reserved(text);
+    }
+    Ok(())
 }

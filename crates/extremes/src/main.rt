@@ -18,6 +18,7 @@ mod rank;
 mod run;
 mod sample;
 mod system_target;
+mod table;
 mod target;
 #[cfg(test)]
 mod tests;

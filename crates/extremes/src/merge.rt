@@ -68,7 +68,7 @@ impl From<AllocError> for MergingFault {
     }
 }
 
-/// The report and the certificate of a part, as texts.
+/// The report and the certificate of a part, as the bytes of their files.
 #[derive(Drop)]
 pub struct PartTexts {
     pub report: Vec<u8>,

@@ -4,8 +4,8 @@ ghost use Rattle.std.specs.Prelude.{◌≡◌, [], ◌∷◌, IfSome, bytes_eq, 
 ghost use Rattle.std.specs.Cmp.Lexicographic.{pointwise};
 ghost use Rattle.extremes.specs.declared.ending.Ending.TheVariants as endings;
 ghost use Rattle.extremes.specs.Printed.{ArePrinted, IsLineTold, IsPrinted, IsReported, IsShown};
-ghost use Rattle.extremes.specs.Printed.{IsTextShown, IsTold, judgement_line};
-ghost use Rattle.extremes.specs.FaultTexts.{fault_line};
+ghost use Rattle.extremes.specs.Printed.{IsTableShown, IsTextShown, IsTold, judgement_line};
+ghost use Rattle.extremes.specs.FaultTexts.{fault_line, tabling_line};
 ghost use Rattle.extremes.specs.NamedRuns.{naming_ending};
 ghost use Rattle.extremes.specs.Targets.{IsPut};
 ghost use Rattle.extremes.specs.Messages.{ArePrintedLines, after_lines, foreign_warning, input_lines, line_naming};
@@ -20,6 +20,7 @@ use crate::judgement::{Judgement, ending};
 use crate::messages::Messages;
 use crate::papers::Papers;
 use crate::rank::Ranked;
+use crate::table::{TableText, TablingFault};
 use crate::target::Target;
 use arrayvec::ArrayVec;
 use explanations::ShownText;
@@ -307,6 +308,22 @@ pub(crate) fn print_description<M: Messages, W: Write>(
             print_text(messages, &text.bytes, out)
         }
         Err(fault) => refused_input(messages, fault, files),
+    }
+}
+
+/// Prints a table of reports, or prints the error.
+pub(crate) fn print_table<M: Messages, W: Write>(
+    messages: &mut M,
+    tabled: Result<TableText, TablingFault>,
+    out: &mut W,
+) -> Ending
+    ensures { IsTableShown tabling_line
+        (streams (ArePrintedLines M.prints messages.old messages.new) (W.contents out.old) (W.contents out.new))
+        tabled result }
+{
+    match tabled {
+        Ok(table) => print_text(messages, &table.bytes, out),
+        Err(fault) => refused(messages, fault),
     }
 }
 

@@ -62,6 +62,7 @@ pub fn rank<R: Threads + Wait + AllocGlobal + Sync, G: Gate + Sync>(
 /// What a ranking returns, and the data that it ranked.
 #[derive(Drop)]
 pub struct Ranked {
+    /// The report and the certificate, or the first error.
     pub answer: Result<Papers, Fault>,
     /// The foreign files and the odd lines: none if there was an error.
     pub warnings: Warnings,

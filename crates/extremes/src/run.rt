@@ -7,7 +7,7 @@ ghost use Rattle.extremes.specs.Targets.{IsPut};
 ghost use Rattle.extremes.specs.Messages.{ArePrintedLines, streams};
 ghost use Rattle.extremes.specs.People.{IsForPeople, MayPrint};
 
-use crate::commands::{run_describing, run_judging, run_merging, run_ranking};
+use crate::commands::{run_describing, run_judging, run_merging, run_ranking, run_tabling};
 use crate::ending::Ending;
 use crate::messages::{Messages, SystemMessages};
 use crate::papers::Papers;
@@ -148,6 +148,7 @@ pub(crate) fn run_command<
         }
         Command::Check(asked) => run_judging(rt, archive, asked, messages, out, words),
         Command::Describe(asked) => run_describing(rt, archive, asked, messages, out, words),
+        Command::Table(asked) => run_tabling(alloc, archive, &asked, messages, out, words),
     }
 }
 

@@ -41,7 +41,8 @@ pub trait Target: Write {
     fn holds_other(&self, path: &str) -> bool
         ensures { other_text self.now path.now result };
 
-    /// Opens the file of a path, to be written from its first byte.
+    /// Opens the file of a path, to be written from its first byte, or returns why it can't be
+    /// opened.
     fn open(&mut self, path: &str) -> io::Result<()>
         ensures opened { OnOk result (opens self.old path.now true self.new) }
         ensures blank { OnOk result (IsBlank (Self.contents self.new)) }

@@ -8,6 +8,7 @@ mod merged;
 mod messages;
 mod named;
 mod pieces;
+mod tabled;
 mod words;
 
 use crate::ending::Ending;

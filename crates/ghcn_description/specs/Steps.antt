@@ -40,13 +40,13 @@ pub record IsPlaceOf (code : List ℕ) (counts : List CodeCount) (place : ℕ) :
   pub before : AllByRecursion (λ c. Precedes c.code code) (take place counts)
   pub behind : AllByRecursion (λ c. Precedes code c.code) (drop place counts)
 
--- the last code leaves
+-- the last code is removed
 pub record LosesLast (old new : Others) : Type 0 where
   pub last : CodeCount
   pub counts : old.counts.items ≡ new.counts.items ++ last ∷ []
   pub further : new.further ≡ old.further + last.lines
 
--- the last code leaves, if as many are named as may be
+-- the last code is removed, if as many are named as may be
 pub record MakesRoom (old new : Others) : Type 0 where
   pub few : length old.counts.items < most_codes → new ≡ old
   pub many : most_codes ≤ length old.counts.items → LosesLast old new

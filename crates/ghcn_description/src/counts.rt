@@ -12,7 +12,9 @@ use ghcn_series::Warnings;
 pub struct Description {
     /// How many stations are listed.
     pub stations: u64,
+    /// How many files there are, at most 2^20.
     pub files: u64,
+    /// How many lines these have, blank ones too.
     pub lines: u64,
     /// Of the five elements, in their order.
     pub elements: [ElementCounts; 5],
@@ -22,6 +24,7 @@ pub struct Description {
     pub further: u64,
     /// How many lines of the five elements belong to stations that aren't listed.
     pub unlisted: u64,
+    /// How many lines have only blanks, or no byte.
     pub blank: u64,
     /// The foreign files, which the text doesn't name, and the odd lines, which it counts.
     pub warnings: Warnings,
@@ -31,12 +34,13 @@ pub struct Description {
 #[derive(Clone, Copy, Debug)]
 pub struct ElementCounts {
     pub element: Element,
+    /// How many lines of listed stations have it.
     pub lines: u64,
     /// How many stations have a usable day of it.
     pub series: u64,
     /// How many usable days these have.
     pub days: u64,
-    /// How many values a quality check flagged.
+    /// How many values a quality check flagged, on days that their months have.
     pub flagged: u64,
     /// The first and the last usable day, if there is one.
     pub span: Option<Span>,
@@ -52,7 +56,7 @@ pub struct Span {
 /// A code of columns 18 to 21 that is none of the five elements', and how many lines have it.
 #[derive(Clone, Copy, Debug)]
 pub struct CodeCount {
-    /// With `?` for each byte that can't be seen.
+    /// The code, with `?` for each byte that can't be seen.
     pub code: [u8; 4],
     pub lines: u64,
 }

@@ -72,7 +72,7 @@ impl Others {
         Ok(())
     }
 
-    /// Lets the last code leave, if as many are named as may be.
+    /// Removes the last code, if as many are named as may be.
     fn make_room(&mut self) -> Result<(), Memory>
         ensures { OnOk result (MakesRoom self.old self.new) }
     {

@@ -123,7 +123,7 @@ blank lines 1
 end
 ";
 
-/// A line whose days are missing, but for the first three.
+/// A line whose days are missing, except for the first three.
 fn line_of(head: &[u8; 21], three: &[u8; 24]) -> [u8; 270] {
     let mut line = [b' '; 270];
     line[..21].copy_from_slice(head);

@@ -165,7 +165,7 @@ each_test [] (x ∷ xs) e = absurd (omega arith)
 each_test (b ∷ bs) [] e = absurd (omega arith)
 each_test (b ∷ bs) (x ∷ xs) e = ap₂ (λ (s t : Bool). s && t) (or-behind b x) (each_test bs xs (omega arith))
 
--- a mask of the lanes that have all their bits is full if each lane has but for some
+-- a mask of the lanes that have all their bits is full if each lane has, except for some
 pub set_mask_but : (bs : List Bool) (xs : List ℕ) → length bs ≡ 16 → length xs ≡ 16
     → (mask_l (map (top 7) (zip2 (λ a b. cond (leb a b) 255 0) (replicate 16 255) (zip2 bit_or xs (map mark bs))))
     % 2 ^ 64 == 65535) ≡ are_set_but bs xs

@@ -7,7 +7,7 @@ use Rattle.std.specs.Cmp.Lexicographic.{pointwise}
 abbrev pub blank_byte : ℕ
 blank_byte = 32
 
--- only blanks, or nothing
+-- a text has blanks alone, or no byte at all
 abbrev pub is_blank : List ℕ → Bool
 is_blank bytes = list_all (λ b. b == blank_byte) bytes
 

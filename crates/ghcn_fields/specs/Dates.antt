@@ -8,7 +8,8 @@ use Rattle.ghcn_fields.specs.Bytes.{same_bytes}
 use Rattle.ghcn_fields.specs.NumberTexts.{last_digits}
 use Rattle.ghcn_fields.specs.Days.{day_number, first_day}
 
--- the year and the day of the year, from 0, of the day n days after 1 January of a year, that many years on at most
+-- the day that is n days after 1 January of a year: its own year, and how many days of that year come before it. The
+-- first argument is the greatest number of years that are passed. 366 days after 1 January 2020 it is 2021 and 0.
 unfoldable pub year_and_rest : ℕ → ℕ → ℕ → ℕ × ℕ
 year_and_rest zero year n = (year, n)
 year_and_rest (suc more) year n = elim (nat_lt n (days_in_year (pos year))) [
@@ -17,7 +18,8 @@ year_and_rest (suc more) year n = elim (nat_lt n (days_in_year (pos year))) [
       year_and_rest more (suc year) (n - days_in_year (pos year))
 ]
 
--- the month and the day of the month, from 1, of the day n days after the first of a month, that many months on at most
+-- the day that is n days after the first day of a month of a year: its own month, and its day of the month, from 1. The
+-- first argument is the greatest number of months that are passed. 31 days after 1 January it is 2 and 1.
 unfoldable pub month_and_day : ℕ → ℕ → ℕ → ℕ → ℕ × ℕ
 month_and_day zero year month n = (month, suc n)
 month_and_day (suc more) year month n = elim
@@ -27,18 +29,19 @@ month_and_day (suc more) year month n = elim
           month_and_day more year (suc month) (n - days_in_month (pos year) month)
     ]
 
--- year, month and day of the month of a day: whole years are taken off, then whole months
+-- the date of a day by its number: year, month and day of the month. Whole years are counted from 0001-01-01 on, and
+-- then whole months.
 abbrev pub civil : ℤ → ℕ × ℕ × ℕ
 civil n =
     let year = year_and_rest 9998 1 (unsigned_abs (n -ℤ first_day)) in
     let month = month_and_day 11 year.0 1 year.1 in
     (year.0, month.0, month.1)
 
--- YYYY-MM-DD
+-- the text of a date, YYYY-MM-DD
 abbrev pub date_bytes : ℕ × ℕ × ℕ → List ℕ
 date_bytes date = last_digits 4 date.0 ++ 45 ∷ last_digits 2 date.1 ++ 45 ∷ last_digits 2 date.2
 
--- the text of a day
+-- the text of a day's date, YYYY-MM-DD
 abbrev pub date_text : ℤ → List ℕ
 date_text n = date_bytes (civil n)
 

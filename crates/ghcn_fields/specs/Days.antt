@@ -7,20 +7,20 @@ use Rattle.jiff_core.specs.Calendar.{days_from_civil, days_in_month}
 abbrev pub is_within : ℕ → ℕ → ℕ → Bool
 is_within low high n = nat_le low n && nat_le n high
 
--- the calendar has this day, in one of the years 1 to 9999
+-- the calendar has a day with this year, month and day of the month, in the years 1 to 9999
 abbrev pub is_date : ℕ → ℕ → ℕ → Bool
 is_date year month day = is_within 1 9999 year && is_within 1 12 month && is_within 1
     (days_in_month (pos year) month) day
 
--- the number of that day, if there is one
+-- the number of the day with this date, if the calendar has it
 abbrev pub day_number : ℕ → ℕ → ℕ → Option ℤ
 day_number year month day = if is_date year month day then Some (days_from_civil (pos year) month day) else None
 
--- 0001-01-01
+-- the number of the first day, 0001-01-01
 abbrev pub first_day : ℤ
 first_day = neg_ℤ (pos 719_162)
 
--- 9999-12-31
+-- the number of the last day, 9999-12-31
 abbrev pub last_day : ℤ
 last_day = pos 2_932_896
 

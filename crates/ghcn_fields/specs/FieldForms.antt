@@ -92,7 +92,7 @@ number_by Plain n other = pos n
 number_by Negative n other = neg_ℤ (pos n)
 number_by Malformed n other = other
 
--- each lane of a byte has all its bits, but for those after a field
+-- each lane of a byte has all its bits, except for those after a field
 abbrev pub are_set_but : List Bool → List ℕ → Bool
 are_set_but [] lanes = true
 are_set_but (behind ∷ more) [] = true
@@ -106,7 +106,7 @@ five_of_eight = false ∷ false ∷ false ∷ false ∷ false ∷ true ∷ true 
 abbrev pub are_set : List ℕ → Bool
 are_set lanes = are_set_but (five_of_eight ++ five_of_eight) lanes
 
--- each lane is 0, but for those after a field
+-- each lane is 0, except for those after a field
 abbrev pub are_clear_but : List Bool → List ℕ → Bool
 are_clear_but [] lanes = true
 are_clear_but (behind ∷ more) [] = true

@@ -12,13 +12,13 @@ abbrev pub sign_text : Bool → List ℕ
 sign_text true = 45 ∷ []
 sign_text false = []
 
--- a point and digits, or nothing if there are none
+-- a point and these digits, or nothing if there are no digits
 abbrev pub part_text : List ℕ → List ℕ
 part_text [] = []
 part_text (d ∷ ds) = 46 ∷ d ∷ ds
 
--- a text spells v, in units of the last place: an optional minus, one digit or more, and then optionally a point
--- and 1 to that many digits
+-- a text spells v, in units of the last of some decimal places: it is an optional minus, one digit or more, and then
+-- optionally a point and one digit or more, but no more than there are places. With one place `-0.5` spells -5.
 pub record Spells (places : ℕ) (text : List ℕ) (v : ℤ) : Type 0 where
   pub negative : Bool
   pub whole : List ℕ

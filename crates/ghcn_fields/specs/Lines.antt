@@ -5,14 +5,14 @@ use Rattle.std.specs.List.{slice_split, enumerate_from, list_all, AllByRecursion
 use Rattle.std.specs.Str.Lines.{strip_carriage_return}
 use Rattle.ghcn_fields.specs.Bytes.{blank_byte}
 
--- the parts without the last one, if that is empty
+-- some parts of a text, without the last one if that is empty
 abbrev pub without_empty_last : List (List ℕ) → List (List ℕ)
 without_empty_last [] = []
 without_empty_last (x ∷ []) = if length x == 0 then [] else x ∷ []
 without_empty_last (x ∷ y ∷ more) = x ∷ without_empty_last (y ∷ more)
 
--- the lines of a text: what its line feeds end, and what follows the last of them unless it is empty; one carriage
--- return at the end of a line is taken off
+-- the lines of a text: each line feed ends one, and what follows the last line feed is one too, unless it is empty. One
+-- carriage return at the end of a line is taken off.
 abbrev pub lines : List ℕ → List (List ℕ)
 lines text = map strip_carriage_return (without_empty_last (slice_split (λ b. b == 10) text))
 
@@ -32,6 +32,6 @@ EndsLine text = (text ≡ []) ⊎ ((front : List ℕ) × (text ≡ front ++ 10 �
 abbrev pub numbered_lines : List ℕ → List (ℕ × List ℕ)
 numbered_lines text = enumerate_from 1 (lines text)
 
--- the columns from one to another, counted from 1, with missing blanks supplied
+-- the columns of a line from one to another, counted from 1; columns that the line lacks are blanks
 abbrev pub columns : ℕ → ℕ → List ℕ → List ℕ
 columns from to line = take (suc to - from) (drop (from - 1) (line ++ replicate to blank_byte))

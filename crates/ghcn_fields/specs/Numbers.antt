@@ -9,24 +9,27 @@ use Rattle.ghcn_fields.specs.declared.field.Field.{Field}
 use Rattle.ghcn_fields.specs.declared.field.Field.TheVariants.{Blank, Number, Bad}
 use Rattle.ghcn_fields.specs.Bytes.{blank_byte}
 
--- what follows the blanks at the front
+-- a text without the blanks at its front
 abbrev pub after_blanks : List ℕ → List ℕ
 after_blanks [] = []
 after_blanks (b ∷ bytes) = if b == blank_byte then after_blanks bytes else b ∷ bytes
 
--- the number that one or more digits write
+-- the number that a text writes, if it is one digit or more and nothing else
 abbrev pub natural : List ℕ → Option ℕ
 natural [] = None
 natural (d ∷ ds) = if list_all is_ascii_digit (d ∷ ds) then Some (digits_value 10 (d ∷ ds)) else None
 
--- a whole part and a part after the point of that many digits, in units of the last of some places
+-- the number of a decimal, in units of the last of some decimal places, by the numbers before and after its point and
+-- by how many digits are after the point. There is none if one of the two isn't a number, or if there are more digits
+-- than places. With 4 places `12.5` is 125000: 12 is before the point, and 5, which is one digit, after it.
 abbrev pub joined : ℕ → Option ℕ → Option ℕ → ℕ → Option ℕ
 joined places None part len = None
 joined places (Some whole) None len = None
 joined places (Some whole) (Some part) len =
     if nat_le len places then Some (whole * 10 ^ places + part * 10 ^ (places - len)) else None
 
--- 10 ^ places times the number that digits write, with an optional point and 1 to that many digits after it
+-- the number that a text without a sign writes, in units of the last of some decimal places. The text is digits, or
+-- digits, a point, and one digit or more, but no more than there are places; any other text writes none.
 abbrev pub decimal_number : ℕ → List ℕ → Option ℕ
 decimal_number places bytes =
     if list_any (λ b. b == 46) bytes
@@ -34,12 +37,12 @@ decimal_number places bytes =
     (length (after_first (λ b. b == 46) bytes))
     else option_map (λ n. n * 10 ^ places) (natural bytes)
 
--- a number with or without a minus
+-- -n if there is a minus, and otherwise n
 abbrev pub with_sign : Bool → ℕ → ℤ
 with_sign true n = neg_ℤ (pos n)
 with_sign false n = pos n
 
--- what a reader of digits reads after an optional minus
+-- the number of a text that may begin with a minus; `read` says which number the rest of the text writes
 abbrev pub signed_by : (List ℕ → Option ℕ) → List ℕ → Option ℤ
 signed_by read [] = None
 signed_by read (b ∷ bytes) =
@@ -50,20 +53,20 @@ abbrev pub is_i32 : ℤ → Bool
 is_i32 (pos n) = nat_lt n (2 ^ 31)
 is_i32 (negsuc n) = nat_lt n (2 ^ 31)
 
--- a number if there is one in range, and otherwise a bad field
+-- what a field holds that isn't blank: the number that was read, if it is in this range; otherwise the field is bad
 abbrev pub field_of : Option ℤ → Field
 field_of None = Bad
 field_of (Some z) = if is_i32 z then Number z else Bad
 
--- a field is blank, or what a reader reads after its blanks, or bad
+-- what a field holds: it is blank, or has the number that `read` reads after the blanks at its front, or is bad
 abbrev pub field_by : (List ℕ → Option ℤ) → List ℕ → Field
 field_by read bytes = if length (after_blanks bytes) == 0 then Blank else field_of (read (after_blanks bytes))
 
--- the field of a whole number
+-- what a field for whole numbers holds
 abbrev pub int_field : List ℕ → Field
 int_field bytes = field_by (signed_by natural) bytes
 
--- the field of a decimal number, in units of the last of some places
+-- what a field for decimal numbers holds, in units of the last of some decimal places
 abbrev pub scaled_field : ℕ → List ℕ → Field
 scaled_field places bytes = field_by (signed_by (decimal_number places)) bytes
 

@@ -59,7 +59,7 @@ impl Day {
         Some(Day { number })
     }
 
-    /// The day with this number.
+    /// The day with this number, from -719162 to 2932896.
     pub fn numbered(number: i32) -> Self
         requires { IsTrue (is_day number) }
         ensures { result ≡ number }
@@ -67,7 +67,7 @@ impl Day {
         Day { number }
     }
 
-    /// Days since 1970-01-01.
+    /// Days since 1970-01-01, from -719162 to 2932896.
     pub fn number(self) -> i32
         ensures value { result ≡ self }
         ensures range { IsTrue (is_day self) }
@@ -75,7 +75,7 @@ impl Day {
         self.number
     }
 
-    /// Year, month and day of the month.
+    /// Year, month and day of the month; the last two count from 1.
     pub fn civil(self) -> (u16, u8, u8)
         ensures value { result ≡ dates.civil self }
         ensures number { day_number result.0 result.1 result.2 ≡ Some self }

@@ -15,6 +15,7 @@ ghost use Rattle.ghcn_fields.specs.Numbers as numbers;
 pub enum Field {
     /// Blanks alone, or no column at all.
     Blank,
+    /// A number, in units of the last decimal place of the field.
     Number(i32),
     /// Anything else, and a number outside `i32`.
     Bad,
@@ -39,7 +40,7 @@ pub fn int_field(field: &[u8]) -> Field
 
 /// Reads a decimal number as that many units of its last place, of `places` places: blanks, an
 /// optional `-`, digits, and then, up to the last column, optionally a point and 1 to `places` digits.
-/// It is never built into its callers, which read most fields by look-ups and stay small so.
+/// It is never built into its callers, so that these, which read most fields by look-ups, stay small.
 #[inline(never)]
 pub fn scaled_field(field: &[u8], places: u8) -> Field
     requires { places ≤ 4 }

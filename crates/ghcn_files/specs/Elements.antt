@@ -15,7 +15,7 @@ code_of Snwd = codes "SNWD"
 code_of Tmax = codes "TMAX"
 code_of Tmin = codes "TMIN"
 
--- all five
+-- the five elements
 abbrev pub elements : List Element
 elements = Prcp ∷ Snow ∷ Snwd ∷ Tmax ∷ Tmin ∷ []
 

@@ -4,11 +4,11 @@ use Rattle.std.specs.List.{list_all}
 use Rattle.ghcn_fields.specs.Bytes.{same_bytes}
 use Rattle.ghcn_files.specs.declared.station.StationId.{StationId}
 
--- a byte that shows in print
+-- a byte that shows in print, from `!` to `~`
 abbrev pub is_visible : ℕ → Bool
 is_visible b = nat_le 33 b && nat_le b 126
 
--- eleven visible bytes
+-- an ID is eleven visible bytes
 abbrev pub is_id : List ℕ → Bool
 is_id bytes = (length bytes == 11) && list_all is_visible bytes
 

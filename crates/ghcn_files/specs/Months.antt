@@ -23,7 +23,7 @@ use Rattle.ghcn_files.specs.StationLines.{id_of, is_number_within, is_bad, numbe
 abbrev pub year_field : List ℕ → Field
 year_field line = int_field (columns 12 15 line)
 
--- its month
+-- the month of a line
 abbrev pub month_field : List ℕ → Field
 month_field line = int_field (columns 16 17 line)
 
@@ -39,11 +39,11 @@ is_flagged line j = not (is_blank (columns (20 + 8 * j) (20 + 8 * j) line))
 abbrev pub reading : List ℕ → ℕ → Reading
 reading line j = record { value = unless_missing (value_field line j); flagged = is_flagged line j }
 
--- the days that a line has groups for
+-- the days of the month for which a line has a group of columns: 1 to 31
 unfoldable pub days_of_group : List ℕ
 days_of_group = range_with_len 1 31
 
--- the month of a line of this element
+-- the month that a line of this element describes
 abbrev pub month_of : Element → List ℕ → Month
 month_of element line = record {
   id = id_of line;

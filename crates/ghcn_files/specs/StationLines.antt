@@ -27,7 +27,7 @@ is_number_within low high Blank = false
 is_number_within low high (Number z) = int_le low z && int_le z high
 is_number_within low high Bad = false
 
--- the number of a field that has one (a field that was tested has one; any other reads as 0)
+-- the number of a field, or 0 if it has none. On a line without an error each field that is read so has one.
 abbrev pub number_of : Field → ℤ
 number_of Blank = pos 0
 number_of (Number z) = z
@@ -48,23 +48,23 @@ unless_missing Blank = None
 unless_missing (Number z) = if int_eq z (neg_ℤ (pos 9999)) then None else Some z
 unless_missing Bad = None
 
--- a byte that can be printed
+-- a byte that can be printed: a blank, or one that shows in print
 abbrev pub is_printable : ℕ → Bool
 is_printable b = nat_le 32 b && nat_le b 126
 
--- such a byte, or a question mark in its place
+-- the byte, or a question mark if it can't be printed
 abbrev pub printable : ℕ → ℕ
 printable b = if is_printable b then b else 63
 
--- degrees north, in ten-thousandths
+-- the latitude on a line: degrees north, in ten-thousandths
 abbrev pub latitude : List ℕ → Field
 latitude line = scaled_field 4 (columns 13 20 line)
 
--- degrees east, in ten-thousandths
+-- the longitude on a line: degrees east, in ten-thousandths
 abbrev pub longitude : List ℕ → Field
 longitude line = scaled_field 4 (columns 22 30 line)
 
--- tenths of a metre
+-- the elevation on a line, in tenths of a metre
 abbrev pub elevation : List ℕ → Field
 elevation line = scaled_field 1 (columns 32 37 line)
 
@@ -84,7 +84,7 @@ numbers_of line = record {
   elevation = unless_missing (elevation line);
 }
 
--- the station of a line
+-- the station that a line of the list describes
 abbrev pub station_of : List ℕ → Station
 station_of line = record {
   id = id_of line;

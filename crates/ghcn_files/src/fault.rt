@@ -46,6 +46,7 @@ pub enum StationsFault {
     StationLine { line: u64, why: StationWhy },
     /// A line without an error of its own would be one station more than 2^20.
     TooManyStations,
+    /// Out of memory. It can come at any allocation, so it has no place in the order.
     Memory(Memory),
 }
 

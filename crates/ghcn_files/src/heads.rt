@@ -62,7 +62,8 @@ impl MonthReader {
     }
 
     /// Reads a line as `read_days` does, into the reader's row. Returns whether the line belongs to one of the
-    /// elements; if it doesn't, and if it is refused, nothing is known of the row.
+    /// elements, or the first test that it fails; if it doesn't belong to one, and if it fails, nothing is known of
+    /// the row.
     #[inline(always)]
     pub fn read(&mut self, line: &[u8], asked: Keep) -> Result<bool, LineWhy>
         ensures { rows.IsReadInto asked line.now self.new.row result }
@@ -92,7 +93,7 @@ impl MonthReader {
         Ok(())
     }
 
-    /// Sees to it that the row has the ID, the year and the month of a line of one of the elements.
+    /// Makes sure that the row has the ID, the year and the month of a line of one of the elements.
     #[inline(always)]
     fn find_head(&mut self, line: &[u8]) -> Result<(), LineWhy>
         ensures head { OnOk result (HasHead line.now self.new.days self.new.row) }

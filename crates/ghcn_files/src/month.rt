@@ -49,13 +49,15 @@ pub struct Reading {
 /// A line of one of the five elements: a month of one station.
 #[derive(Clone, Copy, Debug)]
 pub struct Month {
+    /// The ID that the line begins with.
     pub id: StationId,
+    /// What the values measure, and so their unit.
     pub element: Element,
     /// From 1 to 9999.
     pub year: u16,
     /// From 1 to 12.
     pub month: u8,
-    /// The group of each day of the month from 1, also of days that the month lacks.
+    /// What the line says of each day from 1 to 31, also of days that the month lacks.
     pub days: [Reading; 31],
 }
 
@@ -69,7 +71,8 @@ pub(crate) struct Head {
     pub(crate) month: u8,
 }
 
-/// Reads a line of a daily file that isn't blank: nothing if it belongs to none of the five elements.
+/// Reads a line of a daily file that isn't blank: nothing if it belongs to none of the five
+/// elements, or the first test that it fails.
 ///
 /// The readme's line has 269 columns; that the last three, blanks of a day's flags, may be left out
 /// and that a value may be blank is this project's own leniency.

@@ -26,6 +26,7 @@ const PLACES: [u32; 32] = [
 #[derive(Clone, Copy)]
 pub struct MonthRow {
     pub id: StationId,
+    /// What the values measure, and so their unit.
     pub element: Element,
     /// From 1 to 9999.
     pub year: u16,
@@ -33,7 +34,7 @@ pub struct MonthRow {
     pub month: u8,
     /// Bit j is set if the value of day j + 1 counts.
     pub word: u32,
-    /// Value j is that of day j + 1 if it counts, and otherwise 0.
+    /// Value j is that of day j + 1, in the element's unit, if it counts, and otherwise 0.
     pub values: [i32; 32],
 }
 
@@ -50,7 +51,7 @@ impl MonthRow {
     }
 }
 
-/// Reads a line as `read_month` does, and keeps the values that count alone. A line of an element whose
+/// Reads a line as `read_month` does, and keeps only the values that count. A line of an element whose
 /// values aren't kept is tested in the same way, and its row has no days.
 pub fn read_days(line: &[u8], asked: Keep) -> Result<Option<MonthRow>, LineWhy>
     ensures { rows.IsRead asked line.now result }

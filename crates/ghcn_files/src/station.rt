@@ -114,9 +114,9 @@ pub struct Station {
     pub longitude: i32,
     /// In tenths of a metre, or nothing if it is missing.
     pub elevation: Option<i32>,
-    /// Two bytes from 32 to 126.
+    /// The code of its state, or blanks: two bytes from 32 to 126.
     pub state: [u8; 2],
-    /// Thirty bytes from 32 to 126.
+    /// Its name, filled up with blanks: thirty bytes from 32 to 126.
     pub name: [u8; 30],
 }
 

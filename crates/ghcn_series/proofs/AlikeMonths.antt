@@ -47,7 +47,7 @@ same_days a b same =
     ∙ same-reading (take 269 b) b say.1 j low (omega (arith, high)))
     ∙ all_days b 31 refl)
 
--- and their first day whose value is no number
+-- and their first day whose value isn't a number
 same_days_why : (a b : List ℕ) → take 269 a ≡ take 269 b → days_why a ≡ days_why b
 same_days_why a b same =
     by_columns (λ (l : List ℕ). days_why l) a b same (λ long_a long_b.

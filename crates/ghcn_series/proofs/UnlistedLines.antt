@@ -32,7 +32,7 @@ module _ (stations : List Station) where
       ap (λ (ms : List Month). count_by (λ m. not (is_listed stations m.id)) ms) (months-append files others)
       ∙ sum_by-append (λ (m : Month). cond (not (is_listed stations m.id)) 1 0) (months_said files) (months_said others)
 
--- a number as 64 bits hold it serves in a sum
+-- in a sum a number may be replaced by itself as 64 bits hold it
 in_bits : (a b s : ℕ) → in_64_bits b ≡ in_64_bits s → in_64_bits (a + b) ≡ in_64_bits (in_64_bits a + s)
 in_bits a b s e = omega (arith, e)
 

@@ -1,4 +1,4 @@
--- What a cutter of daily files stands for, and what each of its steps adds.
+-- What a cutter of daily files was fed, and what each of its steps adds.
 use Rattle.std.specs.Prelude.{◌≡◌, ℕ, ◌+◌, ◌^◌, ◌≤◌, Bool, ◌&&◌, not, nat_lt, nat_le, List, [], ◌++◌, length, Option}
 use Rattle.std.specs.Prelude.{None, Some, is_none}
 use Rattle.std.specs.Str.Lines.{strip_carriage_return}

@@ -1,5 +1,5 @@
--- What a station list and daily files say, defined for any lines. What they say of a line with an error, if a bad
--- number counts as 0 or as missing, doesn't matter here: that no line has one is a separate promise.
+-- What a station list and daily files say, defined for any lines. What they say of a line with an error, for example
+-- that a bad number counts as 0 or as missing, doesn't matter here: that no line has one is a separate promise.
 use Rattle.std.specs.Prelude.{◌↔◌, ◌<◌, ℕ, not, List, length, map, filter, Option, ℤ}
 use Rattle.std.specs.List.{Contains, filter_map, flat_map, count_by}
 use Rattle.std.specs.List.Sorted.{IsStrictlySortedBy}
@@ -16,15 +16,15 @@ use Rattle.ghcn_series.specs.DailyFaults.{is_listed}
 use Rattle.ghcn_series.specs.Says.{Fact, facts_of, is_usable, all_series, in_64_bits}
 use Rattle.ghcn_series.specs.Series.{Usable, Contents}
 
--- the stations that a list says, in its order: one on each line that isn't blank
+-- the stations of a list, in its order: one for each line that isn't blank
 abbrev pub stations_said : List ℕ → List Station
 stations_said text = map station_of (filter (λ l. not (is_blank l)) (lines text))
 
--- the month that a line of daily files says, if it has the code of one of the five elements
+-- the month of a line of daily files, if the line has the code of one of the five elements
 abbrev pub month_said : List ℕ → Option Month
 month_said line = option_map (λ e. month_of e line) (element_of (columns 18 21 line))
 
--- the months that daily files say, by file and line
+-- the months of daily files, by file and line
 abbrev pub months_said : List (List ℕ) → List Month
 months_said files = filter_map month_said (flat_map lines files)
 

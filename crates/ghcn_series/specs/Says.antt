@@ -33,7 +33,7 @@ fact_if m flagged day v = None
 abbrev pub fact_of : Month → ℕ × Reading → Option Fact
 fact_of m x = fact_if m x.1.flagged (day_number m.year m.month x.0) x.1.value
 
--- all that a month says
+-- all facts of a month, in order of day
 abbrev pub facts_of : Month → List Fact
 facts_of m = filter_map (fact_of m) (enumerate_from 1 m.days)
 

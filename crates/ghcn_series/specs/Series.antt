@@ -11,11 +11,11 @@ use Rattle.ghcn_files.specs.declared.station.Station.{Station}
 use Rattle.ghcn_files.specs.Ids.{same_id}
 use Rattle.ghcn_files.specs.Elements.{same_element, may_be_negative}
 
--- a day and its value
+-- a day, by its number, and its value, in the unit of the element
 abbrev pub DayValue : Type 0
 DayValue = ℤ × ℤ
 
--- the usable days of one station and element with their values, by increasing day
+-- a series: the usable days of one station and one element, each with its value, in order of day
 pub record Usable : Type 0 where
   pub id : StationId
   pub element : Element
@@ -28,7 +28,7 @@ pub record Contents : Type 0 where
   pub series : List Usable
   pub unlisted : ℕ
 
--- the value of a day, if it is usable
+-- the value of a day, if it is one of these days
 abbrev pub value_on : List DayValue → ℤ → Option ℤ
 value_on days day = option_map (λ x. x.1) (find (λ x. int_eq x.0 day) days)
 

@@ -19,9 +19,10 @@ pub enum LineKind {
     Odd,
 }
 
-/// The files that have a line that isn't blank, and none of the five elements. They aren't daily files, mostly.
+/// The files that have a line that isn't blank, and none of the five elements. Most of them aren't daily files.
 #[derive(Clone, Copy, Debug, PartialEq, Eq)]
 pub struct Foreign {
+    /// How many there are, or 2^64 - 1 if there are more.
     pub count: u64,
     /// The place of the first of them among all files, from 0.
     pub first: Option<u64>,
@@ -69,9 +70,10 @@ pub struct LinePlace {
 }
 
 /// The lines that aren't blank, have none of the five elements, and haven't the form that all lines of daily files
-/// have. Lines of daily files were lost with them, mostly.
+/// have. In most cases lines of daily files were lost with them.
 #[derive(Clone, Copy, Debug, PartialEq, Eq)]
 pub struct OddLines {
+    /// How many there are.
     pub count: u64,
     /// The place of the first of them.
     pub first: Option<LinePlace>,
@@ -139,6 +141,7 @@ impl Warnings {
 pub struct LineCounts {
     /// How many lines the files have that were ended, blank ones too.
     pub lines: u64,
+    /// How many lines are blank, those of the current file too.
     pub blank: u64,
     /// The foreign files among those that were ended, and the odd lines.
     pub warnings: Warnings,

@@ -42,8 +42,9 @@ pub trait LineReader: Drop {
     fn new(alloc: Global, stations: Stations, keep: Keep) -> Result<Self, Memory>
         ensures { IfOk result (λ reader. has_read reader stations keep []) };
 
-    /// Adds a line that isn't blank, without its line end, and returns whether it belongs to one of the five
-    /// elements. Of the bytes after its last column it only matters whether all are blanks.
+    /// Adds a line that isn't blank, without its line end, and returns whether it belongs to one of the five elements,
+    /// or its error. Files and lines count from 1. Of the bytes after its last column it only matters whether all are
+    /// blanks.
     fn add(&mut self, alloc: Global, file: u64, line: u64, bytes: &[u8]) -> Result<bool, DataFault>
         requires some { is_blank bytes.now ≡ false }
         requires read { HasReadSome has_read self.old }
@@ -99,7 +100,8 @@ pub(crate) struct Cut<L> {
 }
 
 impl<L: LineReader> Cutter<L> {
-    /// Nothing fed yet. The values of a set of elements are kept; the lines of all five are tested.
+    /// Nothing fed yet. The values of a set of elements are kept; the lines of all five are tested. The only error
+    /// is out of memory.
     pub fn new(alloc: Global, stations: Stations, keep: Keep) -> Result<Self, DataFault>
         ensures fed { IfOk result (λ cutter. cut.HasFed L.has_read cutter (nothing_fed keep stations)) }
         ensures going { IfOk result (cut.HasFedSome L.has_read) }

@@ -41,7 +41,9 @@ impl Model for Data {
 }
 
 impl Data {
-    /// Reads daily files, in their order. A line of a station that isn't listed is skipped.
+    /// Reads daily files, in their order, or returns the first error: too many files come first,
+    /// and then the first line with an error, by file and line. A line of a station that isn't
+    /// listed is skipped.
     pub fn read(alloc: Global, stations: Stations, files: &[&[u8]]) -> Result<Self, DataFault>
         ensures ok { IfOk result (λ dataset. data_of stations (map (λ f. f.now) files.now) ≡ Ok dataset) }
         ensures err { IfErr result (λ fault.

@@ -53,14 +53,14 @@ impl<'a> BlockDays<'a> {
         BlockDays::of(0, 0, &NO_VALUES)
     }
 
-    /// Leaves out the days whose value is below a least one.
+    /// Leaves out the days whose value is below a least one, in the element's unit.
     pub fn keep_from(&mut self, least: i32)
         ensures { self.new ≡ filter (λ x. int_le least x.1) self.old }
     {
         self.left &= places_from(self.values, least);
     }
 
-    /// Leaves out the days whose value isn't below a limit.
+    /// Leaves out the days whose value isn't below a limit, in the element's unit.
     pub fn keep_below(&mut self, limit: i32)
         ensures { self.new ≡ filter (λ x. int_lt x.1 limit) self.old }
     {

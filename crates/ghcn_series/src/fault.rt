@@ -28,13 +28,15 @@ impl fmt::Display for DailyWhy {
     }
 }
 
-/// Why the daily files are refused: the first line with an error decides, by file and line.
+/// Why the daily files are refused: too many files come first, and then the first line with an
+/// error decides, by file and line.
 #[derive(Clone, Copy, Debug, PartialEq, Eq, Error)]
 pub enum DataFault {
     /// There are more than 2^20 files.
     TooManyFiles,
     /// The error of the first line with one; files and lines count from 1.
     DailyLine { file: u64, line: u64, why: DailyWhy },
+    /// Out of memory. It can come at any allocation, so it has no place in the order.
     Memory(#[from] Memory),
 }
 

@@ -64,7 +64,7 @@ impl Gathering {
         self.seen.add(alloc, number_of(row))
     }
 
-    /// Moves the days to memory of exactly their size, and hands back the memory in which they grew.
+    /// Moves the days to memory of exactly their size, and returns the memory in which they grew.
     pub(crate) fn shrink_to_fit(&mut self, alloc: Global) -> Result<Parts, Memory>
         ensures element { self.new.element ≡ self.old.element }
         ensures same { OnOk result (KeepsMonths self.old self.new) }

@@ -99,7 +99,7 @@ impl Parts {
         self.numbers.is_empty()
     }
 
-    /// Moves the days to memory of exactly their size, and hands back the memory in which they grew.
+    /// Moves the days to memory of exactly their size, and returns the memory in which they grew.
     pub(crate) fn shrink_to_fit(&mut self, alloc: Global) -> Result<Self, Memory>
         ensures same { OnOk result (parts.AreSame self.old self.new) }
         ensures empty { IfOk result parts.AreEmpty }

@@ -161,7 +161,7 @@ impl Reader {
         }
     }
 
-    /// The place of a station in the list.
+    /// The place of a station in the list, from 0.
     pub fn place(&self, id: &StationId) -> Option<usize>
         requires { AreListed self.now.stations }
         ensures { result ≡ place_of self.now.stations id.now }

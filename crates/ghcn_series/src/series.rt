@@ -67,8 +67,9 @@ impl Series {
         self.columns.value(day)
     }
 
-    /// A block of 32 days, if it holds a usable one: a word whose bit j is set if the block's
-    /// day j is usable, and the days' values, 0 if a day isn't usable.
+    /// A block of 32 days by its number, if it holds a usable one: a word whose bit j is set if the
+    /// block's day j is usable, and the days' values, in the element's unit, 0 if a day isn't
+    /// usable.
     pub fn block(&self, number: i32) -> Option<(u32, &[i32; 32])>
         ensures some { IfSome result (λ x. IsBlockOf self.now.days number x.0 x.1.now) }
         ensures none { IfNone result (HasNone self.now.days number) }

@@ -12,7 +12,7 @@ gigabytes megabytes =
 abbrev pub percent : ℕ → ℕ → ℕ
 percent read total = if leb total read then 100 else read * 100 / total
 
--- how much was read, in megabytes: as a share of all, if that is known and at least one, and else by itself
+-- how much was read, in megabytes: as a share of all, if that is known and at least one, and otherwise by itself
 abbrev pub share_text : ℕ → ℕ → List ℕ
 share_text read zero = gigabytes read
 share_text read (suc n) = decimal (percent read (suc n)) ++ codes " % of " ++ gigabytes (suc n)

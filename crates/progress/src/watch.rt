@@ -1,4 +1,4 @@
-//! How much of a run's files was read, counted by all who read them.
+//! How much of a run's files was read, counted by all of its readers.
 
 use crate::reached::Reached;
 use rank_input::{Archive, Place};
@@ -24,7 +24,8 @@ pub struct Watch<'r, R> {
     bytes: u64,
     opened: AtomicU64,
     read: AtomicU64,
-    /// The millisecond from which on the line is shown again. Whoever moves it shows the line.
+    /// The millisecond from which on the line is shown again. The reader that moves it shows the
+    /// line.
     due: AtomicU64,
     is_shown: AtomicBool,
 }
@@ -61,7 +62,7 @@ impl<'r, R: Clock + Eprint> Watch<'r, R> {
         self.opened.fetch_add(1, Ordering::SeqCst);
     }
 
-    /// So many bytes more were read. If it is time, the line is shown.
+    /// This many bytes more were read. If it is time, the line is shown.
     pub(crate) fn read(&self, count: usize) {
         self.read.fetch_add(count as u64, Ordering::SeqCst);
         let due = self.due.load(Ordering::SeqCst);

@@ -1,4 +1,4 @@
--- Worked verdicts on papers of a query with a group, by computation.
+-- Worked verdicts on reports and certificates of a query with a group, by computation.
 use Rattle.std.proofs.Common.{◌≡◌, ℕ, true, false, List, [], ◌∷◌, ◌++◌, refl, Option, None, Some}
 use Rattle.std.specs.Prelude.{codes, pos, ℤ}
 use Rattle.std.specs.Fmt.{digits}
@@ -87,7 +87,8 @@ abbrev counted : List (List ℕ)
 counted = codes "scan ZZA00000001 311 1" ∷ codes "scan ZZA00000002 320 1" ∷ codes "skip ZZA00000003 250"
     ∷ codes "end 3" ∷ []
 
--- the right papers, by both versions; a later day of a station as a row; and the count of all days of a station
+-- the right report and certificate, by both versions; a later day of a station as a row; and the count of all days of
+-- a station
 verdicts : (of_papers earlier (codes "extremes certificate 2") counted ≡ Accepted)
     × (of_papers earlier (codes "extremes certificate 1") (codes "scan ZZA00000001 311" ∷ codes "scan ZZA00000002 320"
     ∷ codes "skip ZZA00000003 250" ∷ codes "end 3" ∷ []) ≡ Accepted)
@@ -109,7 +110,7 @@ alone printed day = first_failing (piece_tests hottest at_alpha (Some of_alpha)
     (record { id = at_alpha.id; bound = pos 311; skipped = false }) printed ((on day, codes "ALPHA") ∷ [])
     (Some (on (pos 18079))))
 
--- a right line; that of a later day; no row where there is a candidate
+-- a right line; that of a later day; no row, although there is a candidate
 lines : (alone 1 (pos 18079) ≡ None) × (alone 1 (pos 18444) ≡ Some NotACandidate)
     × (first_failing (piece_tests hottest at_alpha (Some of_alpha)
     (record { id = at_alpha.id; bound = pos 311; skipped = false }) 0 [] (Some (on (pos 18079)))) ≡ Some NotBest)

@@ -1,4 +1,4 @@
--- What a verdict is worth.
+-- What a verdict guarantees.
 use Rattle.std.specs.Prelude.{◌≡◌, ◌↔◌, ℕ, List}
 use Rattle.ghcn_series.specs.Series.{Contents}
 use Rattle.ghcn_series.specs.Held.{IsContents}

@@ -1,4 +1,4 @@
-//! What a verdict is worth, as a law over the definitions.
+//! What a verdict guarantees, as a law over the definitions.
 
 ghost use Rattle.rank_check.specs.InPieces as pieces;
 ghost use Rattle.rank_check.specs.Laws as laws;

@@ -165,7 +165,7 @@ impl FloorSink for Tally {
 }
 
 /// Takes one more candidate into account, unless it comes after the last row.
-// Few candidates score as much as the last row, so it has no place in the loops over days.
+// Few candidates score as much as the last row, so it isn't built into the loops over days.
 #[inline(never)]
 fn meet(last: &Option<Candidate>, marks: &mut Vec<Mark>, candidate: Candidate)
     requires { order.AreInOrder marks.old.items }

@@ -37,6 +37,7 @@ pub enum Why {
 /// The verdict on a report and a certificate.
 #[derive(Clone, Copy, Debug, PartialEq, Eq)]
 pub enum Verdict {
+    /// No test fails: the report is the right one, and the certificate a right one.
     Accepted,
     /// The first test that fails is one of this line. Lines are counted from 1.
     Refused { paper: Paper, line: u64, why: Why },

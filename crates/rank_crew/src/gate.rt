@@ -4,7 +4,7 @@ use std::sync::Wait;
 
 /// What is called between two steps of a worker, in the worker's thread. The worker waits for it.
 pub trait Gate {
-    /// Before each place is measured.
+    /// Before each place of the station list is measured. Workers and places count from 0.
     fn measuring<R: Wait>(&self, rt: &R, worker: u64, place: u64);
 
     /// After each claim of a morsel, and before the worker looks at the floor.

@@ -59,7 +59,7 @@ right : (head_fault (ask 2) (report rows) (certificate (Some (pos 305)) lines (1
 unfolding digits
 right = (refl, refl, refl, refl)
 
--- another query, of the report before that of the certificate, and both before all else
+-- another query, of the report before that of the certificate, and both before all other errors
 queries : (head_fault (ask 1) (report rows) (certificate None lines []) ≡ Some OtherReportQuery)
     × (head_fault (ask 1) (record { query = ask 1; rows = row b (pos 305) ∷ row a (pos 311) ∷ [] })
     (certificate None lines []) ≡ Some OtherCertificateQuery)

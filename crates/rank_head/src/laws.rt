@@ -1,4 +1,4 @@
-//! What the head of a report and a certificate is worth, as laws over the definitions.
+//! What is true of the head of a report and a certificate, as laws over the definitions.
 
 ghost use Rattle.rank_head.specs.RightHead as right;
 

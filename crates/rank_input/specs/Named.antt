@@ -27,7 +27,7 @@ abbrev pub names_in : Bool → Text → List Text
 names_in true text = filter is_name (slice_split (λ b. b == 0) text)
 names_in false text = filter is_name (lines text)
 
--- the name of a daily file: it ends with .dly, and isn't hidden by a point before all else
+-- the name of a daily file: it ends with .dly, and doesn't begin with a point, which would hide it
 abbrev pub is_daily : Text → Bool
 is_daily name = not (starts_with nat_eq name (codes ".")) && ends_with nat_eq name (codes ".dly")
 
@@ -51,7 +51,7 @@ AreNamesOf None names = ⊤
 AreNamesOf (Some None) names = ⊥
 AreNamesOf (Some (Some all)) names = names ≡ all
 
--- a place is a folder if it is known to be one, and isn't if it is known to be none
+-- a place is a folder if it is known to be one, and isn't if it is known not to be
 abbrev pub IsPlaceOf : Known → Place → Type 0
 IsPlaceOf None place = ⊤
 IsPlaceOf (Some None) place = place ≢ Folder
@@ -63,7 +63,7 @@ pub record IsFolderOf (known : Known) (folder : Text) (paths : List Text) : Type
   pub there : AreNamesOf known names
   pub daily : AreDailyIn folder names paths
 
--- what a path stands for: if it is a folder for its daily files, and else for itself
+-- what a path stands for: a folder for its daily files, and any other path for itself
 abbrev pub StandsFor : Known → Text → List Text → Type 0
 StandsFor None path paths = (paths ≡ path ∷ []) ⊎ IsFolderOf None path paths
 StandsFor (Some None) path paths = paths ≡ path ∷ []
@@ -92,20 +92,20 @@ abbrev pub AreNamedBy : (Text → Option Text) → Opening → Bool → Option T
 AreNamedBy bytes_of opens null None names = names ≡ []
 AreNamedBy bytes_of opens null (Some list) names = AreListed bytes_of opens null list names × (0 < length names)
 
--- files stand for words, and then for the names of a list
+-- these are the paths that words stand for, and then those that the names of a list stand for
 pub record StandFor (bytes_of : Text → Option Text) (opens : Opening) (names_of : Text → Known) (null : Bool)
     (list : Option Text) (words paths : List Text) : Type 0 where
   pub names : List Text
   pub listed : AreNamedBy bytes_of opens null list names
   pub stand : AllStandFor names_of (words ++ names) paths
 
--- what some names stand for is added to paths
+-- the paths that some names stand for are added to others
 pub record AddsNamed (names_of : Text → Known) (named old new : List Text) : Type 0 where
   pub part : List Text
   pub stand : AllStandFor names_of named part
   pub added : new ≡ old ++ part
 
--- what the names of a list stand for is added to paths
+-- the paths that the names of a list stand for are added to others
 pub record AddsListed (bytes_of : Text → Option Text) (opens : Opening) (names_of : Text → Known) (null : Bool)
     (list : Text) (old new : List Text) : Type 0 where
   pub names : List Text

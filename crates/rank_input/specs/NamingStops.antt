@@ -6,7 +6,7 @@ use Rattle.rank_input.specs.declared.named.NotNamed.TheVariants.{Unreadable, Emp
 use Rattle.rank_input.specs.Feeding.{AreAllOf, Opening, IsTried}
 use Rattle.rank_input.specs.Named.{Text, Known, daily_in, list_path, AreNamesOf, AllStandFor, AreListed}
 
--- why names of a folder aren't those of daily files: there is none; or one isn't UTF-8
+-- why the names in a folder give no paths of daily files: there is no such name; or one isn't UTF-8
 abbrev pub AreNotDaily : Text → Text → NotNamed → Type 0
 AreNotDaily folder names (Unreadable at) = ⊥
 AreNotDaily folder names (Empty at) = (string_bytes at ≡ folder) × (daily_in names ≡ [])
@@ -14,14 +14,14 @@ AreNotDaily folder names (NotText at) =
     (string_bytes at ≡ folder) × ((name : Text) × Contains (daily_in names) name × ¬ (IsUtf8 name))
 AreNotDaily folder names Memory = ⊤
 
--- why the daily files of a folder can't be named: it was tried; or its names aren't those of daily files; or memory
--- runs out
+-- why the daily files of a folder can't be named: the folder can't be read; or its names give no paths; or memory runs
+-- out
 abbrev pub IsNoFolder : Opening → Known → Text → NotNamed → Type 0
 IsNoFolder opens known folder (Unreadable at) = (string_bytes at ≡ folder) × IsTried opens folder
 IsNoFolder opens known folder Memory = ⊤
 IsNoFolder opens known folder why = (names : Text) × AreNamesOf known names × AreNotDaily folder names why
 
--- why a path stands for nothing: it isn't known to be no folder, and its daily files can't be named; or memory runs out
+-- why a path stands for nothing: it may be a folder, and its daily files can't be named; or memory runs out
 abbrev pub IsNothing : Opening → (Text → Known) → Text → NotNamed → Type 0
 IsNothing opens names_of path Memory = ⊤
 IsNothing opens names_of path why = (names_of path ≢ Some None) × IsNoFolder opens (names_of path) path why
@@ -36,7 +36,7 @@ pub record StopsAmong (opens : Opening) (names_of : Text → Known) (named : Lis
   pub stood : AllStandFor names_of before paths
   pub fails : IsNothing opens names_of name why
 
--- why a list names nothing: it was tried; or it has no name; or it isn't UTF-8
+-- why a list names nothing: it can't be read; or it has no name; or it isn't UTF-8; or memory runs out
 abbrev pub ListsNothing : (Text → Option Text) → Opening → Bool → Text → NotNamed → Type 0
 ListsNothing bytes_of opens null list (Unreadable at) = (string_bytes at ≡ list) × IsTried opens (list_path list)
 ListsNothing bytes_of opens null list (Empty at) = (string_bytes at ≡ list) × AreListed bytes_of opens null list []

@@ -44,7 +44,7 @@ pub trait Archive {
     /// What is known of the folder of a path: that there is none, or the names in it, each ended by a NUL.
     ghost names_of: { Self → List ℕ → Option (Option (List ℕ)) };
 
-    /// Opens a file at its first byte.
+    /// Opens a file at its first byte, or returns why it can't be opened.
     fn open(&self, path: &str) -> io::Result<Self::File>
         ensures bytes { IfOk result (λ file. Self.File.remaining file ≡ bytes_of self.now path.now) }
         ensures opened { OnOk result (opens self.now path.now true) }
@@ -54,7 +54,7 @@ pub trait Archive {
     fn look(&self, path: &str) -> Place
         ensures { IsPlaceOf (names_of self.now path.now) result };
 
-    /// The names in a folder, in no order, each ended by a NUL.
+    /// The names in a folder, in no order, each ended by a NUL; or why they can't be read.
     fn names(&self, alloc: Global, folder: &str) -> io::Result<Vec<u8>>
         ensures names { IfOk result (λ names. AreNamesOf (names_of self.now folder.now) names.items) }
         ensures opened { OnOk result (opens self.now folder.now true) }
@@ -105,7 +105,7 @@ impl<F: Read> Read for SystemFile<F> {
     }
 }
 
-/// The whole of a file, in a buffer of its length.
+/// The whole of a file, in a buffer of its length, or why it can't be read.
 pub fn read_whole<A: Archive>(alloc: Global, archive: &A, path: &str) -> io::Result<Vec<u8>>
     ensures whole { IfOk result (λ text. AreAllOf (A.bytes_of archive.now path.now) text.items) }
     ensures opened { OnOk result (A.opens archive.now path.now true) }
@@ -148,8 +148,8 @@ pub fn feed_files<'p, A: Archive, L: LineReader>(
     Ok(())
 }
 
-/// Feeds all bytes that a source has left as one daily file. A read that was interrupted is tried
-/// again.
+/// Feeds all bytes that a source has left as one daily file, or returns why a read failed or that
+/// the buffer is empty. A read that was interrupted is tried again.
 pub fn feed<L: LineReader, S: Read>(
     intake: &mut Intake<L>,
     source: &mut S,
@@ -193,7 +193,7 @@ fn read_names<S: Read>(alloc: Global, folder: &mut S) -> io::Result<Vec<u8>> {
     Err(io::Error::from(io::ErrorKind::FileTooLarge))
 }
 
-/// Room for a piece of a file.
+/// Room for a piece of a file, 64 KiB.
 pub fn piece_room(alloc: Global) -> Result<Vec<u8>, AllocError> {
     vec![in alloc; 0u8; PIECE]
 }

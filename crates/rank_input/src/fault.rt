@@ -7,10 +7,11 @@ use rank_query::QueryFault;
 use std::fmt;
 use thiserror::Error;
 
-/// The first error of an input, in the order: the number of workers, the guess, the
-/// query, the stations, the daily files.
+/// The first error of an input, in the order: the number of workers, the guess, the query, the
+/// stations, the daily files.
 ///
-/// Words, lines and files count from 1.
+/// The errors of the query, the stations and the daily files are those of `QueryFault`,
+/// `StationsFault` and `DataFault`. Words, lines and files count from 1.
 #[derive(Clone, Copy, Debug, PartialEq, Eq, Error)]
 pub enum Fault {
     StationLine { line: u64, why: StationWhy },

@@ -27,7 +27,8 @@ pub struct Intake<L> {
 }
 
 impl<L: LineReader> Intake<L> {
-    /// Takes the whole station list; no byte of a daily file came yet. The values of a set of elements are kept.
+    /// Takes the whole station list; no byte of a daily file came yet, so `bytes` is 0. The values of a set of elements
+    /// are kept. An error of the list is kept, and reported at the end.
     pub fn new(alloc: Global, stations: &[u8], keep: Keep) -> Self
         ensures taken { HasTaken L.has_read result (file_input keep stations.now []) }
         ensures going { HasTakenSome L.has_read result }
@@ -38,8 +39,8 @@ impl<L: LineReader> Intake<L> {
         }
     }
 
-    /// Takes the stations of a list that was read; no byte of a daily file came yet. The values of a set of elements are
-    /// kept.
+    /// Takes the stations of a list that was read; no byte of a daily file came yet, so `bytes` is 0. The values of a
+    /// set of elements are kept.
     pub(crate) fn over(alloc: Global, stations: Stations, keep: Keep) -> Self
         ensures { (text : List ℕ) → listed text ≡ Ok stations → HasTaken L.has_read result (file_input keep text []) }
     {
@@ -49,7 +50,8 @@ impl<L: LineReader> Intake<L> {
         }
     }
 
-    /// Reads nothing, as if memory had run out, whatever it is given.
+    /// Reads nothing, as if memory had run out, whatever it is given; `bytes` is 0 at first, and counts what it is
+    /// given.
     pub(crate) fn closed() -> Self
         ensures taken { (s : FileInput) → HasTaken L.has_read result s }
     {

@@ -32,7 +32,8 @@ fn may_be_guessed(guess: Option<i64>) -> bool
     }
 }
 
-/// Tests the options of a run, the number of workers first.
+/// Tests the options of a run, first that there are 1 to 64 workers, and then that the guess is
+/// from -2^31 to 2^31.
 pub fn check_words(workers: u64, guess: Option<i64>) -> Result<(), Fault>
     ensures workers { IfOk result (λ _. is_crew workers ≡ true) }
     ensures guess { IfOk result (λ _. is_guess guess ≡ true) }

@@ -19,6 +19,7 @@ pub enum NotNamed {
     Empty(String),
     /// The name of a daily file of the folder isn't UTF-8, or the list isn't.
     NotText(String),
+    /// Out of memory.
     Memory,
 }
 
@@ -44,8 +45,9 @@ impl<T: Drop> From<AllocFailed<T>> for NotNamed {
     }
 }
 
-/// The paths of the files that words stand for, and then the names of a list, if there is one. Its names are lines, or
-/// ended by NULs. If there is neither a folder nor a list, the paths are the words.
+/// The paths of the files that words stand for, and then the names of a list, if there is one; or why the first of
+/// these that stands for nothing does so. The names of a list are lines, or ended by NULs. If there is neither a
+/// folder nor a list, the paths are the words.
 pub fn name_files<A: Archive>(
     alloc: Global,
     archive: &A,
@@ -70,7 +72,7 @@ pub fn name_files<A: Archive>(
     Ok(paths)
 }
 
-/// The path of a list. A list `-` is standard input.
+/// The path of a list, or of a file of reports. `-` is standard input.
 pub fn list_path(list: &str) -> &str
     ensures { result.now ≡ named.list_path list.now }
 {

@@ -21,6 +21,7 @@ use std::thread::Threads;
 /// What a run is asked, and what was read of all that it was given.
 #[derive(Drop)]
 pub struct TakenInput {
+    /// What is asked.
     pub query: Query,
     /// What the query needs of the data.
     pub dataset: Data,

@@ -15,8 +15,8 @@ use std::alloc::Global;
 use std::io::Read;
 use std::thread::{Threads, join};
 
-/// So many bytes of daily files are worth a thread that reads them, if the station list has no more: each share has room
-/// for what it reads of each station.
+/// How many bytes of daily files are worth a thread that reads them, if the station list has no more: each share
+/// has room for what it reads of each station.
 const WORTH_A_SHARE: u64 = 1 << 23;
 
 /// The most shares.
@@ -29,6 +29,7 @@ pub struct Daily<'s, 'p> {
     pub stations: &'s [u8],
     /// The elements whose values are kept.
     pub keep: Keep,
+    /// Their paths, in the order in which they are read.
     pub paths: &'p [String],
 }
 
@@ -94,9 +95,9 @@ fn fill<'s, 'p, A: Archive, L: LineReader>(
     Ok(intake)
 }
 
-/// Takes them in shares. Nothing if one share is as good, and if the files have to be taken one after the other:
-/// the station list has an error, a file isn't a regular file, is named twice, can't be read or has an error, there are
-/// too many files, or two shares have months of one station.
+/// Takes them in shares. Nothing if one share is as good, and if the files have to be taken one after the other: the
+/// station list has an error, a file isn't a regular file, is named twice, can't be read or has an error, there are too
+/// many files, two shares have months of one station, or memory runs out.
 fn take_shares<R: Threads + Sync, A: Archive<File: Send> + Sync, L: JoinLines<Done: Send> + Send>(
     rt: &R,
     alloc: Global,

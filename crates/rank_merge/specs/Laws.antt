@@ -1,4 +1,4 @@
--- What merged reports and certificates are worth, as statements for the contract of a public function.
+-- What is true of merged reports and certificates, as statements for the contract of a public function.
 use Rattle.std.specs.Prelude.{◌≡◌, ℕ, List, Result, Ok, Err, map}
 use Rattle.std.specs.List.{flat_map, AllByRecursion, AllZip, IsDistinct}
 use Rattle.ghcn_files.specs.declared.station.Station.{Station}

@@ -1,4 +1,4 @@
-//! What merged reports and certificates are worth, as laws over the definitions.
+//! What is true of merged reports and certificates, as laws over the definitions.
 
 ghost use Rattle.rank_merge.specs.Laws as laws;
 

@@ -21,7 +21,7 @@ use rank_papers::{Line, Row, certificate_of_best, report_of_rows};
 use rank_query::Query;
 use std::alloc::Global;
 
-/// The report and the certificate of all files.
+/// The report and the certificate of all files, as texts.
 #[derive(Debug, Drop)]
 pub struct Merged {
     pub report: Vec<u8>,

@@ -25,7 +25,7 @@ pub record Begun {V : Type 0} (read : Reader V) (ls : Lines) : Type 0 where
   pub is : read (ls ++ more) ≡ Ok value
 
 -- the reading of these lines, counted from a number on, ends at the line of this number, whatever comes after it, or
--- where the lines stop; the lines before it are read with some after them
+-- after the last of the lines; the lines before it are read with some after them
 pub record EndsAt {V : Type 0} (read : Reader V) (first : ℕ) (ls : Lines) (n : ℕ) : Type 0 where
   pub before : Lines
   pub begun : Begun read before
@@ -38,7 +38,7 @@ pub record IsInOrder {V : Type 0} (read : Reader V) (first : ℕ) : Type 0 where
   pub begun : Begun read []
   pub ends : (ls : Lines) (n : ℕ) → read ls ≡ Err n → EndsAt read first ls n
 
--- what is made of what was read goes wrong where that does, and nowhere else
+-- what is made of what was read goes wrong at the number at which that does, and only if that does
 pub record Keeps {V W : Type 0} (onto : Result V ℕ → Result W ℕ) : Type 0 where
   pub wrong : (n : ℕ) → onto (Err n) ≡ Err n
   pub right : (v : V) → (w : W) × (onto (Ok v) ≡ Ok w)
@@ -82,7 +82,7 @@ module _ {V W : Type 0} (rest : Reader V) (read : Reader W) (l : List ℕ) (onto
     is = is (ls ++ b.more) ∙ ap onto b.is ∙ (keeps.right b.value).1;
   }
 
-  -- and goes wrong where it does
+  -- and goes wrong at the number at which it does
   ends_behind : (first n : ℕ) (ls : Lines) → EndsAt rest (suc first) ls n → EndsAt read first (l ∷ ls) n
   ends_behind first n ls e = record {
     before = l ∷ e.before;

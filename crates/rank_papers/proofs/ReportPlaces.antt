@@ -30,7 +30,7 @@ abbrev version_in : List ℕ → Option ℕ
 version_in l = cond (same_bytes l title) (Some 1) None
 
 -- and with a title before them
-in_order : IsInOrder reported_lines 1
+pub in_order : IsInOrder reported_lines 1
 in_order = by_line version_in (λ w. behind_report_title) (λ w r. r) reported_lines 1 (record {
   none = refl;
   some = λ l ls. elim (same_bytes l title) as (λ b. cond b (behind_report_title ls) (Err 1)

@@ -109,7 +109,7 @@ lines-written v is =
 -- ---- an end line isn't a row's
 
 -- the first byte of a text is a digit
-abbrev starts_by_digit : List ℕ → Bool
+abbrev pub starts_by_digit : List ℕ → Bool
 starts_by_digit bytes = is_ascii_digit (slice_index_or bytes 0 0)
 
 -- the byte of a digit is a digit
@@ -140,7 +140,7 @@ unfolding digits
 decimal_starts n rest = onto_starts 63 n [] rest
 
 -- so does a row's line
-row_starts : (q : Asked) (rank : ℕ) (row : Named) → starts_by_digit (row_line q rank row) ≡ true
+pub row_starts : (q : Asked) (rank : ℕ) (row : Named) → starts_by_digit (row_line q rank row) ≡ true
 row_starts q rank row =
     let behind : List ℕ = 32 ∷ join_with_byte 32 (row.0.id.0 ∷ date_text row.0.first ∷ date_text row.0.last
     ∷ value_text (measure_of_score q.score) (value_of q.score row.0.score) ∷ unit_text (measure_of_score q.score)

@@ -17,7 +17,8 @@ use Rattle.rank_papers.specs.Report.{text_line, query_line}
 
 -- ---- the text
 
--- what a certificate says of one series: its ID, a bound, and whether it was skipped
+-- what a certificate says of one series: its ID, a bound, and whether it was skipped, so that its candidates weren't
+-- looked for
 abbrev pub Entry : Type 0
 Entry = Line
 
@@ -30,7 +31,7 @@ pub record Certified : Type 0 where
   pub entries : List Entry
   pub counts : List ℕ
 
--- the first line of a version
+-- the first line of a certificate, which names the version of its format, 1 or 2
 abbrev pub title_line : ℕ → List ℕ
 title_line version =
     text_line ((if version == 1 then codes "extremes certificate 1" else codes "extremes certificate 2") ∷ [])
@@ -45,7 +46,7 @@ counted [] counts = []
 counted (e ∷ es) [] = record { entry = e; count = 0 } ∷ counted es []
 counted (e ∷ es) (n ∷ counts) = record { entry = e; count = n } ∷ counted es counts
 
--- the line of an entry ends by a count: in version 2, if the series wasn't skipped
+-- the line of an entry ends by a count: only in version 2, and only if the series wasn't skipped
 abbrev pub has_count : ℕ → Line → Bool
 has_count version e = version == 2 && not e.skipped
 
@@ -57,7 +58,7 @@ entry_line version l = text_line (
     ∷ (signed_decimal l.entry.bound ++ (if has_count version l.entry then 32 ∷ decimal l.count else []))
     ∷ [])
 
--- the last line, of that many entries
+-- the last line of a certificate with that many entries
 abbrev pub end_line : ℕ → List ℕ
 end_line n = text_line (codes "end" ∷ decimal n ∷ [])
 

@@ -1,4 +1,4 @@
--- What the texts of reports and certificates are worth, as statements for the contract of a public function.
+-- What is true of the texts of reports and certificates, as statements for the contract of a public function.
 use Rattle.std.specs.Prelude.{◌≡◌, ◌↔◌, ℕ, List, Ok, Err}
 use Rattle.ghcn_series.specs.Series.{Contents}
 use Rattle.ghcn_series.specs.Held.{IsContents}

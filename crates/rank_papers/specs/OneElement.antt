@@ -17,7 +17,7 @@ abbrev pub CertificateStays : Type 0
 CertificateStays = (q : Asked) (c : Contents) (bytes : List ℕ) →
     IsCertificate q (data_for q c) bytes ↔ IsCertificate q c bytes
 
--- so it is if each bound is the bound of its series
+-- the same is true of right certificates whose bounds are those of the series
 abbrev pub MeasuredStays : Type 0
 MeasuredStays = (q : Asked) (c : Contents) (bytes : List ℕ) →
     IsMeasuredCertificate q (data_for q c) bytes ↔ IsMeasuredCertificate q c bytes

@@ -30,13 +30,13 @@ pub record IsAdmittedSeries (q : Asked) (stations : List Station) (files : List 
   pub of_element : s.element ≡ score_element q.score
   pub made : IsMadeOf (facts_said stations files) s
 
--- x is a candidate of the query, in one of these series
+-- x is a candidate of the query, in one of the series of which `IsOne` is true
 abbrev pub IsOfQuery : Asked → (Usable → Type 0) → Candidate → Type 0
 IsOfQuery q IsOne x = (s : Usable) × IsOne s × IsCandidateOf q s x
 
--- the best of a query in these series: k of its candidates at most, in order, none twice; a candidate that isn't among
--- them comes after all of them, and then they are k. Candidates of one query never tie, so that the last day, which
--- `full_cmp` adds, decides nothing.
+-- these are the best candidates of a query in the series of which `IsOne` is true: at most k, each before all those
+-- after it. A candidate that isn't among them comes after all of them, and then there are k of them. Candidates of one
+-- query never tie, so the last day, which `full_cmp` adds, makes no difference.
 pub record AreBest (q : Asked) (IsOne : Usable → Type 0) (best : List Candidate) : Type 0 where
   pub few : length best ≤ q.k
   pub of_query : AllByRecursion (IsOfQuery q IsOne) best
@@ -44,7 +44,8 @@ pub record AreBest (q : Asked) (IsOne : Usable → Type 0) (best : List Candidat
   pub others : (x : Candidate) → IsOfQuery q IsOne x
       → Contains best x ⊎ ((length best ≡ q.k) × AllByRecursion (λ b. full_cmp b x ≡ Less) best)
 
--- the right report of a query: its rows are the best in these series, each with its listed station
+-- the right report of a query: its rows are the best candidates in the series of which `IsOne` is true, each with its
+-- listed station
 pub record IsRightReport (q : Asked) (stations : List Station) (IsOne : Usable → Type 0) (bytes : List ℕ)
     : Type 0 where
   pub rows : List (Candidate × Station)
@@ -52,7 +53,8 @@ pub record IsRightReport (q : Asked) (stations : List Station) (IsOne : Usable �
   pub listed : AllByRecursion (λ row. find (is_station_of row.0.id) stations ≡ Some row.1) rows
   pub text : bytes ≡ report_text q (map (λ row. (row.0, trimmed row.1.name)) rows)
 
--- these are the series of the query: of these series those that have an admitted day, by increasing ID
+-- these are the series of the query, by increasing ID: of those of which `IsOne` is true, all that have a day that the
+-- query admits, and no others
 pub record AreSeriesOf (q : Asked) (IsOne : Usable → Type 0) (series : List Usable) : Type 0 where
   pub are : (s : Usable) → Contains series s ↔ (IsOne s × (0 < length (admitted q s)))
   pub by_id : IsStrictlySortedBy (on (λ s. s.id.0) (slice_cmp nat_cmp)) series

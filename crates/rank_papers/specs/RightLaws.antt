@@ -35,7 +35,7 @@ BestAreFound = (q : Asked) (c : Contents) (best : List Candidate) → IsAsked q 
 abbrev pub HaveOneBest : Asked → (Usable → Type 0) → Type 0
 HaveOneBest q IsOne = (a b : List Candidate) → AreBest q IsOne a → AreBest q IsOne b → a ≡ b
 
--- so it is with any data, and with what any files say
+-- there is one list of the best in any data, and in what any files say
 abbrev pub BestAreOne : Type 0
 BestAreOne = (q : Asked) → ((c : Contents) → HaveOneBest q (IsHeldSeries q c))
     × ((stations : List Station) (files : List (List ℕ)) → HaveOneBest q (IsAdmittedSeries q stations files))
@@ -56,7 +56,7 @@ ReportsAreSaid = (q : Asked) (stations : List Station) (files : List (List ℕ))
     → data_of stations files ≡ Ok c
     → IsRightReportFor q c bytes ↔ IsRightReport q stations (IsAdmittedSeries q stations files) bytes
 
--- so it is with right certificates
+-- right certificates for the data of files are right for what the files say, and the other way round
 abbrev pub CertificatesAreSaid : Type 0
 CertificatesAreSaid = (version : ℕ) (q : Asked) (stations : List Station) (files : List (List ℕ)) (c : Contents)
     (bytes : List ℕ) → data_of stations files ≡ Ok c
@@ -67,7 +67,7 @@ abbrev pub RightReportStays : Type 0
 RightReportStays = (q : Asked) (c : Contents) (bytes : List ℕ)
     → IsRightReportFor q (data_for q c) bytes ↔ IsRightReportFor q c bytes
 
--- and so are right certificates
+-- right certificates for what a query needs of any data are right for all of them, and the other way round
 abbrev pub RightCertificateStays : Type 0
 RightCertificateStays = (version : ℕ) (q : Asked) (c : Contents) (bytes : List ℕ)
     → IsRightCertificateFor version q (data_for q c) bytes ↔ IsRightCertificateFor version q c bytes

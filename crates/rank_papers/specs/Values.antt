@@ -17,7 +17,7 @@ element_measure Snwd = WholeMillimetres
 element_measure Tmax = Degrees
 element_measure Tmin = Degrees
 
--- how what is ranked is printed
+-- how the values of a score are printed
 abbrev pub measure_of_score : Score → Measure
 measure_of_score (Highest e) = element_measure e
 measure_of_score (Lowest e) = element_measure e
@@ -27,7 +27,8 @@ measure_of_score Wet = Days
 measure_of_score (Hot t) = Days
 measure_of_score (Cold t) = Days
 
--- that many raw units, in the unit that is printed: tenths have one decimal
+-- a value in raw units as it is printed, without its unit: tenths of a degree or of a millimetre with one decimal,
+-- whole millimetres and days as whole numbers
 abbrev pub value_text : Measure → ℤ → List ℕ
 value_text Degrees v = tenths v
 value_text Millimetres v = tenths v

@@ -7,5 +7,6 @@ use ghcn_fields::Memory;
 pub enum PaperFault {
     BadReport { line: u64 },
     BadCertificate { line: u64 },
+    /// Out of memory. It can come at any allocation.
     Memory(Memory),
 }

@@ -1,4 +1,4 @@
-//! What the texts of reports and certificates are worth, as laws over their definitions.
+//! What is true of the texts of reports and certificates, as laws over their definitions.
 
 ghost use Rattle.rank_papers.specs.Laws as laws;
 ghost use Rattle.rank_papers.specs.OneElement as one_element;

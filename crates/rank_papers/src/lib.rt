@@ -1,9 +1,9 @@
 //! The report and the certificate of a ranking, as texts: the report of a query's best candidates,
 //! and the certificate that accounts for each of its series.
 //!
-//! The program writes them. It is proved that the report of the best candidates of a query
-//! is the right one, that the certificate of a plan's answer is a right one, and that a text is read
-//! as a report or a certificate if and only if it is one.
+//! The program writes them, and the crate of tables reads reports again. It is proved that the report
+//! of the best candidates of a query is the right one, that the certificate of a plan's answer is a
+//! right one, and that a text is read as a report or a certificate if and only if it is one.
 #![tactic(auto)]
 
 mod certificate_lines;
@@ -29,6 +29,9 @@ pub use laws::{
     certificates_are_read, papers_are_found, papers_are_said, papers_of_one_element,
     reports_are_read,
 };
+pub use lines::first_line;
+pub use measure::unit_of;
+pub use number::{push_number, push_tenths, push_value};
 pub use paper::{Certificate, Report, Row};
 pub use rank_sched::Line;
 pub use report_lines::read_report;

@@ -16,7 +16,7 @@ use memchr::memchr;
 const GREATEST: u64 = 1 << 63;
 
 /// The first line of a text, with its line feed if it has one, and what follows it.
-pub(crate) fn first_line(text: &[u8]) -> Option<(&[u8], &[u8])>
+pub fn first_line(text: &[u8]) -> Option<(&[u8], &[u8])>
     ensures { lines.IsFirstLineCut text.now (option_map (λ cut. (cut.0.now, cut.1.now)) result) }
 {
     if text.is_empty() {

@@ -9,12 +9,21 @@ use rank_query::Score;
 /// The unit in which values are printed, and how many decimals they have.
 #[derive(Clone, Copy, Debug, PartialEq, Eq)]
 pub(crate) enum Measure {
-    /// From tenths, with one decimal.
+    /// Degrees Celsius with one decimal, from tenths.
     Degrees,
-    /// From tenths, with one decimal.
+    /// Millimetres with one decimal, from tenths.
     Millimetres,
+    /// Whole millimetres, as the data have them.
     WholeMillimetres,
+    /// Days, as a whole number.
     Days,
+}
+
+/// The unit in which the values of a score are printed.
+pub fn unit_of(score: Score) -> &'static [u8]
+    ensures { result.now ≡ values.unit_text (values.measure_of_score score) }
+{
+    measure_of(score).unit()
 }
 
 /// How what is ranked is printed.

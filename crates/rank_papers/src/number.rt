@@ -12,7 +12,7 @@ use rank_query::Score;
 
 /// Adds the value of a score as it is printed, without its unit.
 #[tactic(auto, using(crate::proofs::ValueTexts::value_signed))]
-pub(crate) fn push_value(paper: &mut Vec<u8>, score: Score, number: i64) -> Result<(), Memory>
+pub fn push_value(paper: &mut Vec<u8>, score: Score, number: i64) -> Result<(), Memory>
     ensures { OnOk result (paper.new.items ≡ paper.old.items
         ++ values.value_text (values.measure_of_score score) (values.value_of score number)) }
 {
@@ -44,7 +44,7 @@ fn push_magnitude(paper: &mut Vec<u8>, measure: Measure, magnitude: u64) -> Resu
 }
 
 /// Adds that many tenths with one decimal.
-fn push_tenths(paper: &mut Vec<u8>, tenths: u64) -> Result<(), Memory>
+pub fn push_tenths(paper: &mut Vec<u8>, tenths: u64) -> Result<(), Memory>
     ensures { OnOk result (paper.new.items ≡ paper.old.items ++ tenths_of tenths) }
 {
     push_number(paper, tenths / 10)?;
@@ -63,7 +63,7 @@ pub(crate) fn push_whole(paper: &mut Vec<u8>, number: i64) -> Result<(), Memory>
 }
 
 /// Adds a number in decimal digits.
-pub(crate) fn push_number(paper: &mut Vec<u8>, number: u64) -> Result<(), Memory>
+pub fn push_number(paper: &mut Vec<u8>, number: u64) -> Result<(), Memory>
     ensures { OnOk result (paper.new.items ≡ paper.old.items ++ decimal number) }
 {
     let mut buffer = Buffer::new();

@@ -5,7 +5,7 @@ ghost use Rattle.std.specs.List.{flat_map};
 ghost use Rattle.rank_papers.specs.Values as values;
 ghost use Rattle.rank_papers.specs.Report as report;
 
-use crate::measure::measure_of;
+use crate::measure::unit_of;
 use crate::number::{push_number, push_value};
 use ghcn_fields::{Memory, write_date};
 use ghcn_files::Station;
@@ -64,7 +64,7 @@ fn push_value_and_unit(paper: &mut Vec<u8>, score: Score, number: i64) -> Result
 {
     paper.push(b' ')?;
     push_value(paper, score, number)?;
-    push_field(paper, measure_of(score).unit())
+    push_field(paper, unit_of(score))
 }
 
 /// Adds a blank and a name, if that isn't empty.

@@ -97,7 +97,7 @@ same_tests q st u v e n rows worst same morsel h =
 
 module _ (q : Asked) (c : Contents) (ds : List Contents) (right : IsContents c) (cut : IsCut q c ds) (r : Reported)
     (z : Certified) (ns : List ℕ) (m : ℕ) (seen : AllZip (λ d n. SeesNothing q d r z n m) ds ns) where
-  -- the morsel of a part that serves for one of all data
+  -- the morsel of a part that takes the place of one of all data
   record PartOf (v : Usable) : Type 0 where
     part : Contents
     among : In ds part

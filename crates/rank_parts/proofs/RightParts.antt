@@ -59,7 +59,7 @@ none_refused reason (e ∷ es) n h =
 
 module _ (q : Asked) (c : Contents) (ds : List Contents) (dataset : IsContents c) (cut : IsCut q c ds) (r : Reported)
     (z : Certified) (pieces : AreRightPieces q c r (recounted r.rows z)) where
-  -- the morsel of all data that a part's morsel serves for
+  -- the morsel of all data whose place a part's morsel takes
   record WholeOf (u : Usable) : Type 0 where
     whole : Usable
     morsel : In (morsels q c) whole
@@ -84,7 +84,7 @@ module _ (q : Asked) (c : Contents) (ds : List Contents) (dataset : IsContents c
     here : series_of c st.id (score_element q.score) ≡ Some whole
     also : is_morsel q st (own_series q c st) ≡ true
 
-  -- its series in the part serves for the one in all data
+  -- its series in the part takes the place of the one in all data
   own_of : (d : Contents) → In ds d → (st : Station) → In d.stations st → is_own q d st ≡ true → OwnOf d st
   own_of d h st k own =
       let u = morsel_of q d st k own in

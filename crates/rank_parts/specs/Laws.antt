@@ -1,4 +1,4 @@
--- What the verdicts of all parts are worth.
+-- What the verdicts of all parts guarantee.
 use Rattle.std.specs.Prelude.{◌≡◌, ◌↔◌, ℕ, ◌<◌, List, length, Ok}
 use Rattle.std.specs.List.{sum, flat_map, AllZip, IsDistinct}
 use Rattle.ghcn_files.specs.declared.station.Station.{Station}

@@ -30,7 +30,7 @@ use Rattle.rank_parts.specs.declared.verdict.PartVerdict.TheVariants.{Accepted, 
 
 -- ---- the head
 
--- the refusal that an error of the head comes to
+-- the refusal for an error of the head
 abbrev pub refusal_of : HeadFault → PartVerdict
 refusal_of OtherReportQuery = Refused Report 2 why.OtherQuery
 refusal_of OtherCertificateQuery = Refused Certificate 2 why.OtherQuery

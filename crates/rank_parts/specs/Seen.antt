@@ -15,6 +15,6 @@ pub record IsSeen (q : Asked) (rows : List Named) (e : Entry) : Type 0 where
   pub few : length rows ≤ q.k
   pub none : count_of (of_rows rows) e ≡ 0 → rows_with e.id rows ≡ []
 
--- so it is with each line
+-- the same is true of each line
 abbrev pub AreSeen : Asked → List Named → List Entry → Type 0
 AreSeen q rows es = AllByRecursion (IsSeen q rows) es

@@ -52,7 +52,7 @@ pub(crate) fn judge(
     })
 }
 
-/// The refusal that an error of the head comes to.
+/// The refusal for an error of the head.
 fn refusal_of(fault: HeadFault) -> PartVerdict
     ensures { result ≡ parts.refusal_of fault }
 {

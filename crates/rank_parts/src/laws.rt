@@ -1,4 +1,4 @@
-//! What the verdicts of all parts are worth, as laws over the definitions.
+//! What the verdicts of all parts guarantee, as laws over the definitions.
 
 ghost use Rattle.rank_parts.specs.Laws as laws;
 

@@ -1,4 +1,4 @@
--- What the definitions of pools are worth. Each is a statement for the contract of a public function.
+-- What is true of pools. Each is a statement for the contract of a public function.
 use Rattle.std.specs.Prelude.{◌≡◌, ◌↔◌, ℕ, ◌<◌, ◌≤◌, true, List, [], ◌∷◌, ◌++◌, ℤ, ◌≤ℤ◌, fold}
 use Rattle.std.specs.List.{AllByRecursion}
 use Rattle.std.specs.List.Sorted.{IsPermutation}

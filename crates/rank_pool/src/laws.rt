@@ -1,4 +1,4 @@
-//! What the definitions of pools are worth, as laws.
+//! What is true of pools, as laws over the definitions.
 
 ghost use Rattle.rank_pool.specs.Laws as laws;
 

@@ -112,14 +112,14 @@ two_read a b is =
     ap (λ o. both o (day_of_2000 (drop 5 (date_text b)))) (written_2000 a each.0)
     ∙ ap (both (Some a)) (written_2000 b each.1)
 
--- a word of another length than twelve bytes is no two days
+-- a word of another length than twelve bytes isn't two days
 pub other_length : (word : List ℕ) → (length word ≡ 12 → ⊥) → two_days word ≡ None
 other_length word other = by_value (two_days word) refl where
   by_value : (o : Option (ℤ × ℤ)) → two_days word ≡ o → o ≡ None
   by_value None e = refl
   by_value (Some s) e = absurd (other (ap length (two_written word s e).1))
 
--- without two points after five bytes it is none either
+-- without two points after five bytes it isn't two days either
 pub no_points : (word : List ℕ) → says (codes "..") (slice_range word 5 7) ≡ false → two_days word ≡ None
 unfolding says
 no_points word e = ap (λ b. cond b (both (day_of_2000 (take 5 word)) (day_of_2000 (drop 7 word))) None) e

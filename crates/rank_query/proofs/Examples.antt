@@ -227,7 +227,7 @@ unfolding read_query read_words keyword says number dates score_at no_score_at r
     days_from_civil day_count days_of_years days_of_months
 days_read = (refl, refl, refl, refl)
 
--- another word is no two days, whatever form it has; a season comes once, before a period
+-- another word isn't two days, whatever form it has; a season comes once, before a period
 days_refused : (read_query (codes "top 1 dry days 02-30..03-01") ≡ Err (BadDate 5))
     × (read_query (codes "top 1 dry days 07-01") ≡ Err (BadDate 5))
     × (read_query (codes "top 1 dry days 7-1..7-31") ≡ Err (BadDate 5))

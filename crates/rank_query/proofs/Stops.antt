@@ -119,7 +119,7 @@ pub same_follows : {C : Type 0} (whole part : Reading C) (front : List Word)
     → ((more : List Word) → whole (front ++ more) ≡ part more) → Follows (λ x. x) whole front part
 same_follows whole part front same = record { ok = λ more x e. same more ∙ e; err = λ more fault e. same more ∙ e }
 
--- it stops where the part does
+-- it stops at the word at which the part does
 at_follows : {A C : Type 0} (whole : Reading C) (part : Reading A) (front : List Word) (fault : QueryFault)
     (before left : List Word) → ((more : List Word) → part more ≡ Err fault → whole (front ++ more) ≡ Err fault)
     → StopsAt part fault before left → StopsAt whole fault (front ++ before) left
@@ -129,7 +129,7 @@ at_follows whole part front fault before (w ∷ behind) err at = (
   λ more. ap whole (append_assoc front before (w ∷ more)) ∙ err (before ++ w ∷ more) (at.1 more),
 )
 
--- goes on where it does
+-- goes on after the words after which it does
 pub on_follows : {A C : Type 0} (GoodA : A → Type 0) (Good : C → Type 0) (make : A → C) (whole : Reading C)
     (part : Reading A) (front before : List Word) → ((x : A) → GoodA x → Good (make x)) → Follows make whole front part
     → GoesOn A GoodA (λ tail. part (before ++ tail)) → GoesOn C Good (λ tail. whole ((front ++ before) ++ tail))
@@ -141,7 +141,7 @@ on_follows GoodA Good make whole part front before good follows on = record {
   reads = ap whole (append_assoc front before on.tail) ∙ follows.ok (before ++ on.tail) on.value on.reads;
 }
 
--- and has its errors where it has them
+-- and has its errors at the words at which it has them
 pub stops_follows : {A C : Type 0} (GoodA : A → Type 0) (Good : C → Type 0) (make : A → C) (whole : Reading C)
     (part : Reading A) (front ws : List Word) (fault : QueryFault)
     → ((x : A) → GoodA x → Good (make x)) → Follows make whole front part

@@ -15,8 +15,9 @@ use Rattle.rank_query.specs.declared.per.Per.TheVariants.{Each}
 use Rattle.rank_query.specs.declared.season.Season.{Season}
 use Rattle.rank_query.specs.declared.season.Season.TheVariants.{AllYear, Months, Dates}
 
--- the k best of a score, of the stations of a region, in a season of each year, within a period of a first and a last
--- day; all days if there is no period; of each group the best alone, or each candidate
+-- what a query asks for: the k best by a score, of the stations of a region, over the days that lie in a season of each
+-- year and in a period, which is a first and a last day. If there is no period, the days of all years count. `per` says
+-- of which groups only the best counts.
 pub record Asked : Type 0 where
   pub k : ℕ
   pub score : Score
@@ -39,7 +40,7 @@ score_element Wet = Prcp
 score_element (Hot t) = Tmax
 score_element (Cold t) = Tmin
 
--- an element whose lowest values are ranked
+-- the element is a temperature, the only kind of element whose lowest values can be asked for
 abbrev pub is_temperature : Element → Bool
 is_temperature Prcp = false
 is_temperature Snow = false
@@ -47,7 +48,8 @@ is_temperature Snwd = false
 is_temperature Tmax = true
 is_temperature Tmin = true
 
--- an element whose values are added up
+-- the element is an amount that falls on a day, precipitation or snowfall, the only kind of element whose sums can be
+-- asked for
 abbrev pub is_fall : Element → Bool
 is_fall Prcp = true
 is_fall Snow = true
@@ -55,11 +57,12 @@ is_fall Snwd = false
 is_fall Tmax = false
 is_fall Tmin = false
 
--- a number of tenths of a degree by which a day can be called hot or cold: from -100 to 100 degrees
+-- a number of tenths of a degree that can be asked for in hot or cold spells: from -100 to 100 degrees
 abbrev pub is_heat : ℤ → Bool
 is_heat t = int_le (neg_ℤ (pos 1_000)) t && int_le t (pos 1_000)
 
--- a score that can be asked for: sums are of 1 to 366 days, and the degrees of hot and cold days are within their limits
+-- a score that can be asked for: sums are of 1 to 366 days, and the degrees of hot and cold spells are within their
+-- limits
 abbrev pub is_score : Score → Bool
 is_score (Highest e) = true
 is_score (Lowest e) = is_temperature e
@@ -69,7 +72,7 @@ is_score Wet = true
 is_score (Hot t) = is_heat t
 is_score (Cold t) = is_heat t
 
--- that many visible bytes
+-- a code is that many visible bytes
 abbrev pub is_code : ℕ → List ℕ → Bool
 is_code len bytes = (length bytes == len) && list_all is_visible bytes
 
@@ -77,7 +80,8 @@ is_code len bytes = (length bytes == len) && list_all is_visible bytes
 abbrev pub is_longitude : ℤ → Bool
 is_longitude z = int_le (neg_ℤ (pos 1_800_000)) z && int_le z (pos 1_800_000)
 
--- a region that can be asked for: of a box the northern edge isn't below the southern one
+-- a region that can be asked for: the edges of a box are latitudes and longitudes, and its northern edge isn't below
+-- its southern one; a code has two visible bytes, and an ID eleven
 abbrev pub is_region : Region → Bool
 is_region Everywhere = true
 is_region (Inside south west north east) =
@@ -114,7 +118,7 @@ abbrev pub is_period : Option (ℤ × ℤ) → Bool
 is_period None = true
 is_period (Some p) = is_day p.0 && is_day p.1 && int_le p.0 p.1
 
--- what is true of every query
+-- a query can be asked: its k is from 1 to 1000, and its score, region, season and period can be asked for
 pub record IsAsked (q : Asked) : Type 0 where
   pub k : IsTrue (is_within 1 1000 q.k)
   pub score : IsTrue (is_score q.score)

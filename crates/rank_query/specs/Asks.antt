@@ -1,4 +1,4 @@
--- Which query a text denotes, without an order of its reading.
+-- Which query a text denotes, and not how it is read.
 use Rattle.std.specs.Prelude.{ℕ, ◌≤◌, List, length}
 use Rattle.rank_query.specs.Asked.{Asked, IsAsked}
 use Rattle.rank_query.specs.Spelling.{IsSpelling}

@@ -67,18 +67,18 @@ abbrev pub is_next_behind : List ℕ → List (List ℕ) → Bool
 is_next_behind text [] = false
 is_next_behind text (w ∷ past) = same_bytes w text
 
--- they are "box" and at most that many numbers after it, and any words before
+-- the words end by "box" and at most that many numbers
 abbrev pub is_behind_box : ℕ → List (List ℕ) → Bool
 is_behind_box n [] = false
 is_behind_box zero (w ∷ past) = same_bytes w (codes "box")
 is_behind_box (suc n) (w ∷ past) = same_bytes w (codes "box") || (is_decimal w && is_behind_box n past)
 
--- they are "from" and a date, and any words before
+-- the words end by "from" and a date
 abbrev pub is_behind_first_day : List (List ℕ) → Bool
 is_behind_first_day [] = false
 is_behind_first_day (w ∷ past) = is_date_word w && is_next_behind (codes "from") past
 
--- they are "from", or "from", a date and "to", and any words before
+-- the words end by "from", or by "from", a date and "to"
 abbrev pub is_behind_from : List (List ℕ) → Bool
 is_behind_from [] = false
 is_behind_from (w ∷ past) = same_bytes w (codes "from") || (same_bytes w (codes "to") && is_behind_first_day past)

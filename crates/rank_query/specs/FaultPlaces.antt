@@ -23,11 +23,11 @@ pub record IsFirstWrong (ws before : List (List ℕ)) (word : List ℕ) : Type 0
   pub begun : BeginQuery before
   pub ended : BeginQuery (before ++ word ∷ []) → ⊥
 
--- it is the word of this number
+-- the word of this number is the first of these with which no query goes on
 abbrev pub IsFirstWrongAt : List (List ℕ) → ℕ → Type 0
 IsFirstWrongAt ws n = (before : List (List ℕ)) × (word : List ℕ) × IsFirstWrong ws before word × (n ≡ length before + 1)
 
--- it is the date of a day, and before it come the date of a later one and "to"
+-- the word is the date of a day, and before it come the date of a later one and "to"
 pub record EndsTooEarly (before : List (List ℕ)) (word : List ℕ) : Type 0 where
   pub earlier : List (List ℕ)
   pub first : ℤ

@@ -17,6 +17,6 @@ pub record IsShortLine (text : List ℕ) : Type 0 where
   pub short : length text ≤ 256
   pub printable : list_all is_printable text ≡ true
 
--- so it is with the canonical text of each query that can be asked
+-- the canonical text of each query that can be asked is such a text
 abbrev pub TextsArePrintable : Type 0
 TextsArePrintable = (q : Asked) → IsAsked q → IsShortLine (query_text q)

@@ -15,8 +15,8 @@ use Rattle.rank_query.specs.declared.season.Season.{Season}
 use Rattle.rank_query.specs.declared.season.Season.TheVariants.{AllYear, Months, Dates}
 use Rattle.rank_query.specs.Asked.{Asked}
 
--- a word of a query: bytes as they are; or a number, which has more than one spelling: of rows or days, of tenths of
--- a degree, of ten-thousandths of a degree at an edge of a box; or the numbers of a first and a last month
+-- a word of a query: these very bytes; or a number, which has several spellings: a count of rows or days, tenths of a
+-- degree, or ten-thousandths of a degree at an edge of a box; or the numbers of a first and a last month
 pub data QueryWord : Type 0 where
   Exactly : List ℕ → QueryWord
   Count : ℕ → QueryWord
@@ -59,7 +59,7 @@ period_words None = []
 period_words (Some p) =
     Exactly (codes "from") ∷ Exactly (date_text p.0) ∷ Exactly (codes "to") ∷ Exactly (date_text p.1) ∷ []
 
--- the words of a group; none if each candidate is ranked
+-- the words of a group; none if there are no groups
 abbrev pub per_words : Per → List QueryWord
 per_words Each = []
 per_words Station = Exactly (codes "per") ∷ Exactly (codes "station") ∷ []

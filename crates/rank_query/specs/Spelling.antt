@@ -14,8 +14,9 @@ pub record IsNumeralOf (digits : List ℕ) (n : ℕ) : Type 0 where
   pub digits_alone : list_all is_ascii_digit digits ≡ true
   pub value : n ≡ digits_value 10 digits
 
--- what is in a text spells a word: the very bytes, a numeral, a number with at most one or four decimals, or two
--- numerals with two points between them
+-- a word of a text spells a word of a query: it has the same bytes; or it writes the same number, with leading zeros or
+-- without, tenths with at most one decimal and an edge with at most four; or it writes the numbers of the two months,
+-- with two points between them
 abbrev pub SpellsWord : List ℕ → QueryWord → Type 0
 SpellsWord word (Exactly text) = word ≡ text
 SpellsWord word (Count n) = IsNumeralOf word n

@@ -38,7 +38,7 @@ degrees low high w =
 abbrev pub tenths_in : List ℕ → Option ℤ
 tenths_in word = signed_by (decimal_number 1) word
 
--- a number of degrees by which a day is hot or cold, in tenths, within its limits
+-- a number of degrees for hot or cold spells, in tenths, within its limits
 unfoldable pub heat : Word → Result ℤ QueryFault
 heat w = do
   t ← or_fault (UnexpectedWord w.0) (tenths_in w.1)
@@ -102,6 +102,6 @@ group_of word =
     else if same_bytes word (codes "year") then Some Year
     else None
 
--- what the best alone is ranked of
+-- the group that a word names; any other word has an error
 unfoldable pub group : Word → Result Per QueryFault
 group w = or_fault (UnexpectedWord w.0) (group_of w.1)

@@ -3,8 +3,8 @@ use Rattle.std.specs.Prelude.{ℕ, Bool, ◌==◌, not, if◌then◌else◌, Lis
 use Rattle.std.specs.List.{slice_split, enumerate_from}
 use Rattle.ghcn_fields.specs.Bytes.{blank_byte, same_bytes}
 
--- the words of a text: the longest runs of bytes other than blanks,
--- which are the parts between blanks that aren't empty
+-- the words of a text: its longest runs of bytes other than blanks, which are the parts between blanks that aren't
+-- empty
 abbrev pub words_of : List ℕ → List (List ℕ)
 words_of text = filter (λ part. not (length part == 0)) (slice_split (λ b. b == blank_byte) text)
 

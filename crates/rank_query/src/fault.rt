@@ -14,7 +14,8 @@ pub enum QueryFault {
     QueryEnds,
     /// The word of this number is a number, and out of its limits.
     OutOfLimits(u64),
-    /// The word of this number isn't the date of a day of the years 1 to 9999.
+    /// The word of this number isn't a date where the grammar has one: that of a day of the years 1
+    /// to 9999, or `D..D`, two days of a leap year, of which each D is `MM-DD`.
     BadDate(u64),
     /// The word of this number can't be that edge of a box.
     BadBox(u64),

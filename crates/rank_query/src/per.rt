@@ -1,12 +1,13 @@
-//! Which candidates a query ranks of those that it could.
+//! How a query groups what it ranks.
 
-/// What the best alone is ranked of.
+/// How a query groups contenders, which are days of a station with their score. Of each group only
+/// the best is a candidate.
 #[derive(Clone, Copy, Debug, PartialEq, Eq)]
 pub enum Per {
-    /// Nothing: each candidate is ranked.
+    /// Not at all: each contender is a candidate.
     Each,
-    /// Each station: of its candidates the best is ranked.
+    /// By station.
     Station,
-    /// Each year of each station, by the first day of the candidates.
+    /// By station, and by the year of the first day.
     Year,
 }

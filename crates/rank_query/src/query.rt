@@ -10,7 +10,7 @@ use ghcn_fields::Day;
 use ghcn_files::{Element, Station};
 use std::marker::Model;
 
-/// What is asked: the k best of a score, in a region, a season and a period, or the best of each group alone.
+/// What is asked: the k best by a score, in a region, a season and a period, and of which groups only the best counts.
 #[derive(Clone, Copy, Debug)]
 pub struct Query {
     pub(crate) k: u64,
@@ -103,14 +103,14 @@ impl Query {
         }
     }
 
-    /// The first and the last day of the period, if one is given.
+    /// The first and the last day of the period, both included, if one is given.
     pub fn period(&self) -> Option<(Day, Day)>
         ensures { result ≡ self.now.period }
     {
         self.period
     }
 
-    /// What the best alone is ranked of.
+    /// How contenders are grouped: of each group only the best is ranked.
     pub fn per(&self) -> Per
         ensures { result ≡ self.now.per }
     {

@@ -8,19 +8,21 @@ use ghcn_files::{Station, StationId};
 /// The stations that a query admits.
 #[derive(Clone, Copy, Debug, PartialEq, Eq)]
 pub enum Region {
+    /// All stations.
     Everywhere,
     /// A box of latitudes and longitudes, edges included, in ten-thousandths of a degree. If
-    /// the west is greater than the east, it lies over the date line.
+    /// the west is greater than the east, it crosses the date line.
     Inside {
         south: i32,
         west: i32,
         north: i32,
         east: i32,
     },
-    /// The first two bytes of the ID.
+    /// The stations of a country, by the first two bytes of their IDs.
     Country([u8; 2]),
-    /// The two bytes of the state.
+    /// The stations of a state, by the two bytes of its code in the station list.
     State([u8; 2]),
+    /// One station.
     Only(StationId),
 }
 

@@ -7,18 +7,19 @@ use ghcn_files::Element;
 pub enum Score {
     /// Single days, by their value.
     Highest(Element),
-    /// Single days, by their value negated; of a temperature alone.
+    /// Single days, by their value negated; only of a temperature.
     Lowest(Element),
-    /// That many consecutive days, 1 to 366, by the sum of their values; of rain or snow alone.
+    /// Windows of this many consecutive days, 1 to 366, by the sum of their values; only of
+    /// precipitation or snowfall.
     Sum(u16, Element),
     /// Spells of days with less than 1 mm of precipitation, by their length (ETCCDI).
     Dry,
     /// Spells of days with at least 1 mm of precipitation, by their length (ETCCDI).
     Wet,
-    /// Spells of days with a maximum temperature of at least that many tenths of a degree, -1000 to
-    /// 1000, by their length.
+    /// Spells of days with a maximum temperature of at least this many tenths of a degree Celsius,
+    /// -1000 to 1000, by their length.
     Hot(i32),
-    /// Spells of days with a minimum temperature of at most that many tenths of a degree, -1000 to
-    /// 1000, by their length.
+    /// Spells of days with a minimum temperature of at most this many tenths of a degree Celsius,
+    /// -1000 to 1000, by their length.
     Cold(i32),
 }

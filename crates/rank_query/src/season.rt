@@ -10,6 +10,7 @@ use ghcn_fields::{Day, days_in_month};
 /// The days of each year that a query admits.
 #[derive(Clone, Copy, Debug, PartialEq, Eq)]
 pub enum Season {
+    /// All days.
     AllYear,
     /// From a first to a last month, 1 to 12. If the first is greater, the season goes over the turn
     /// of the year.

@@ -99,7 +99,7 @@ pub(crate) fn temperature(words: &mut Words) -> Result<Element, QueryFault>
     }
 }
 
-/// Rain or snow, whichever the next word names.
+/// Precipitation or snowfall, whichever the next word names.
 #[tactic(auto, unfolding(crate::specs::WordValues::element))]
 pub(crate) fn fall(words: &mut Words) -> Result<Element, QueryFault>
     ensures read { Gives (λ e. (e, words.new)) result (one_word (values.element is_fall) words.old) }
@@ -280,7 +280,7 @@ pub(crate) fn date(words: &mut Words) -> Result<Day, QueryFault>
     read_date(word).ok_or(QueryFault::BadDate(at))
 }
 
-/// What the next word says that the best alone is ranked of.
+/// The group that the next word names.
 #[tactic(auto, unfolding(crate::specs::WordValues::group))]
 pub(crate) fn group(words: &mut Words) -> Result<Per, QueryFault>
     ensures { Gives (λ g. (g, words.new)) result (one_word values.group words.old) }

@@ -1,4 +1,4 @@
--- What plans, runs and answers are worth. Each is a statement for the contract of a public function.
+-- What is true of plans, runs and answers. Each is a statement for the contract of a public function.
 use Rattle.std.specs.Prelude.{◌≡◌, ◌↔◌, ◌⊎◌, ℕ, ◌+◌, ◌*◌, ◌<◌, ◌≤◌, Bool, true, false, List, [], ◌∷◌, ◌++◌, length}
 use Rattle.std.specs.Prelude.{Option, None, Some, Result, ℤ, ◌≤ℤ◌, slice_get, int_lt, All, count_by, IfSome, IsSomeAnd}
 use Rattle.std.specs.List.{AllByRecursion}

@@ -11,7 +11,7 @@ use crate::{Answer, Event, Machine, Plan, StepFault, finish};
 use ghcn_fields::Memory;
 use std::alloc::Global;
 
-/// The answer of one worker that runs a plan to its end, under a guess or none.
+/// The answer of one worker that runs a plan to its end, under a guess from -2^31 to 2^31 or none.
 pub fn run_alone(alloc: Global, plan: &Plan<'_>, guess: Option<i64>) -> Result<Answer, Memory>
     requires { IfSome guess IsScore }
     ensures answer { IfOk result (IsAnswerOfCrew plan.now guess 1) }

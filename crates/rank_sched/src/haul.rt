@@ -1,4 +1,4 @@
-//! What a worker brings home.
+//! The result of one worker.
 
 ghost use Rattle.std.specs.Prelude.{◌≡◌, ◌<◌, ◌≤◌, if◌then◌else◌, None, IfOk, OnOk, OnErr};
 ghost use Rattle.rank_pool.specs.Pools.{last_score};
@@ -31,7 +31,8 @@ impl Haul {
         })
     }
 
-    /// Writes a record, scans its morsel unless it was skipped, and returns the score to raise.
+    /// Writes a record, scans its morsel unless it was skipped, and returns the score to raise, if
+    /// there is one. If memory runs out, nothing changes.
     pub fn settle(&mut self, plan: &Plan<'_>, written: Record) -> Result<Option<i64>, Memory>
         ensures settled { OnOk result (run.HasSettled (task_of plan.now) self.old written self.new) }
         ensures raised { IfOk result (λ raised.

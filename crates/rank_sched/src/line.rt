@@ -7,6 +7,7 @@ use ghcn_files::StationId;
 #[derive(Clone, Copy, Debug, PartialEq, Eq)]
 pub struct Line {
     pub id: StationId,
+    /// In the raw unit of the score.
     pub bound: i64,
     pub skipped: bool,
 }

@@ -54,7 +54,7 @@ impl<'a> Model for Machine<'a> {
 }
 
 impl<'a> Machine<'a> {
-    /// Some workers that have done nothing, 1 to 64, under a guess or none.
+    /// Some workers that have done nothing, 1 to 64, under a guess from -2^31 to 2^31 or none.
     pub fn new(
         alloc: Global,
         plan: &'a Plan<'a>,

@@ -12,7 +12,8 @@ use rank_query::Query;
 use rank_scores::morsel_at;
 use std::alloc::Global;
 
-/// The bound of the station at a place in the list, or `None` if it has no morsel.
+/// The bound of the station at a place in the list, from 0, in the raw unit of the score, or `None`
+/// if it has no morsel.
 #[tactic(auto, using(crate::proofs::Measures::measured_there))]
 pub fn measure(
     alloc: Global,

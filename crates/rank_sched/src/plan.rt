@@ -28,7 +28,8 @@ pub(crate) struct Morsel<'a> {
     pub(crate) bound: i64,
 }
 
-/// The morsels of a query, the greatest bound first, and then by increasing ID.
+/// The morsels of a query, the greatest bound first, and then by increasing ID. They are numbered
+/// from 0 in this order.
 #[derive(Drop)]
 pub struct Plan<'a> {
     data: &'a Data,
@@ -100,7 +101,7 @@ impl<'a> Plan<'a> {
         Some(found.series.id())
     }
 
-    /// The bound of a morsel, or `None` past the last.
+    /// The bound of a morsel, in the raw unit of the score, or `None` past the last.
     pub fn bound(&self, morsel: u64) -> Option<i64>
         ensures { result ≡ option_map (λ m. m.bound) (slice_get self.now.morsels morsel) }
     {

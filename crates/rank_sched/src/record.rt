@@ -10,8 +10,11 @@ use rank_scores::bound_is_below;
 /// What one worker did with one morsel: the floor that it saw, and whether it skipped the morsel.
 #[derive(Clone, Copy, Debug, PartialEq, Eq)]
 pub struct Record {
+    /// The number of the morsel in the plan, from 0.
     pub morsel: u64,
+    /// The number of the worker, from 0.
     pub worker: u64,
+    /// The floor: a score in its raw unit, or none.
     pub seen: Option<i64>,
     pub skipped: bool,
 }

@@ -3,6 +3,7 @@
 /// Where a worker is in its turn: it claims a number, looks at the floor, and settles.
 #[derive(Clone, Copy, Debug, PartialEq, Eq)]
 pub enum Turn {
+    /// It claims a number next.
     Idle,
     /// It has drawn this morsel.
     Claimed(u64),

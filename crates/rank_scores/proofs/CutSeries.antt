@@ -77,7 +77,7 @@ module _ (q : Asked) where
             ∙ candidates-seen ss
       ] refl
 
-  -- series of which the same is seen, one by one, serve for one another
+  -- series of which the same is seen, one by one, can take each other's place
   pub same_seen : (us vs : List Usable) → map seen us ≡ map seen vs → AllZip (IsSameFor q) us vs
   same_seen [] [] e = tt
   same_seen [] (v ∷ vs) e = absurd cc

@@ -53,7 +53,7 @@ module _ {X : Type 0} (R P : X → X → Bool) where
         let bc = and_parts (R b c) (P b c) second in
         and_from (R a c) (P a c) (joined a b c ab.0 bc.0) (on a b c ab.1 bc.1)
 
-    -- one that is outdone by another of them is no leader, and others don't need it
+    -- one that is outdone by another of them isn't a leader, and others don't need it
     pub leaders-first_outdone : (o c : X) (rest : List X) → In rest c → (R c o && P c o) ≡ true
         → Leaders (o ∷ rest) ≡ Leaders rest
     leaders-first_outdone o c rest has outdone =

@@ -70,7 +70,7 @@ Later (c ∷ cs) = AllByRecursion (λ d. c.first <ℤ d.first) cs × Later cs
 later-unlike : (a b : Candidate) → a.first <ℤ b.first → begin_alike a b ≡ false
 later-unlike a b lt = grind (arith, ints)
 
--- if one precedes an earlier rival, that one is no leader
+-- if one precedes an earlier rival, that one isn't a leader
 leaders-better : (per : Per) (o c : Candidate) (cs : List Candidate) → are_rivals per o c ≡ true
     → begin_alike o c ≡ false → leaders per (o ∷ c ∷ cs) ≡ leaders per (better o c ∷ cs)
 leaders-better per o c cs rivals unlike = elim (cases_Bool (precedes c o)) [

@@ -18,15 +18,16 @@ use Rattle.rank_scores.specs.Order.{precedes}
 use Rattle.rank_scores.specs.Groups.{are_rivals, leaders}
 use Rattle.rank_scores.specs.Runs.{run_len, begins_run, IsRun}
 
--- the test that the values of a spell's days pass: less than one millimetre, at least one, at least that many tenths of
--- a degree, at most that many
+-- the test that the values of a spell's days pass: less than 1 mm, at least 1 mm, at least that many tenths of a
+-- degree, at most that many; precipitation is in tenths of a millimetre
 abbrev pub test_of : Spell → ℤ → Bool
 test_of spells.Dry v = int_lt v (pos 10)
 test_of spells.Wet v = int_le (pos 10) v
 test_of (spells.Hot t) v = int_le t v
 test_of (spells.Cold t) v = int_le v t
 
--- what a score ranks: days by a number made of their value, windows of n days by their total, or spells by a test
+-- what a score ranks: single days by a number made of their value, windows of n days by the sum of their values, or
+-- spells of days whose values pass a test, by their length
 pub data Shape : Type 0 where
   Days : (ℤ → ℤ) → Shape
   Windows : ℕ → Shape
@@ -72,11 +73,12 @@ pub record IsWindow (days : List DayValue) (n : ℕ) (first last score : ℤ) : 
   pub whole : length (days_within first last days) ≡ n
   pub sum : score ≡ sum_of_values (days_within first last days)
 
--- the day has a value, and it passes
+-- the day has a value, and the value passes the test
 abbrev pub is_such : (ℤ → Bool) → List DayValue → ℤ → Bool
 is_such test days a = option_map_or test (value_on days a) false
 
--- if these are the admitted usable days: from this first to this last day there is a contender with this score
+-- if these are the admitted usable days: from this first to this last day there is a contender with this score, which
+-- is a day, a window of n days or a whole spell
 abbrev pub IsContender : Shape → List DayValue → ℤ → ℤ → ℤ → Type 0
 IsContender (Days f) days first last score = (last ≡ first) × (v : ℤ) × (value_on days first ≡ Some v) × (score ≡ f v)
 IsContender (Windows n) days first last score = IsWindow days n first last score

@@ -12,7 +12,7 @@ use Rattle.rank_query.specs.Asked.{Asked}
 use Rattle.rank_scores.specs.Candidates.{candidates}
 use Rattle.rank_scores.specs.Morsels.{admitted_series, all_candidates, morsels, id_comes_first}
 
--- a series of a part serves for one of the whole: it has its ID and its candidates
+-- a series of a part can take the place of one of the whole: it has its ID and its candidates
 pub record IsSameFor (q : Asked) (a b : Usable) : Type 0 where
   pub id : a.id ≡ b.id
   pub candidates : candidates q a ≡ candidates q b

@@ -61,10 +61,10 @@ best_of_query q c = best q.k (all_candidates q c)
 abbrev pub kth_of_query : Asked → Contents → Option ℤ
 kth_of_query q c = kth_score q.k (all_candidates q c)
 
--- no candidate of the series has a score above this number
+-- no listed candidate of the series has a score above this number
 abbrev pub IsAbove : Asked → Usable → ℤ → Type 0
 IsAbove q s bound = AllByRecursion (λ c. c.score ≤ℤ bound) (candidates q s)
 
--- whatever is a candidate of the series has no score above this number
+-- no candidate of the series has a score above this number
 abbrev pub NoneIsAbove : Asked → Usable → ℤ → Type 0
 NoneIsAbove q s bound = (c : Candidate) → IsCandidateOf q s c → c.score ≤ℤ bound

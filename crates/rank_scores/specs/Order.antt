@@ -8,16 +8,16 @@ use Rattle.std.specs.Cmp.Lexicographic.{slice_cmp}
 use Rattle.ghcn_files.specs.Ids.{same_id}
 use Rattle.rank_scores.specs.declared.candidate.Candidate.{Candidate}
 
--- by greater score, then by smaller ID, then by earlier first day
+-- the order of candidates: by greater score, then by smaller ID, then by earlier first day
 abbrev pub rank_cmp : Candidate → Candidate → Ordering
 rank_cmp = then_cmp (on (λ c. c.score) (flip_args int_cmp))
     (then_cmp (on (λ c. c.id.0) (slice_cmp nat_cmp)) (on (λ c. c.first) int_cmp))
 
--- a comes before b
+-- a comes before b in this order
 abbrev pub precedes : Candidate → Candidate → Bool
 precedes a b = is_lt (rank_cmp a b)
 
--- the order of all candidates, whatever their query: ties by the last day
+-- the same order, and if two candidates tie in it, the earlier last day comes first
 abbrev pub full_cmp : Candidate → Candidate → Ordering
 full_cmp = then_cmp rank_cmp (on (λ c. c.last) int_cmp)
 

@@ -115,7 +115,7 @@ impl Stretch {
     }
 
     /// The stretch that a day begins.
-    // It is asked for once a month at most, and has no place in the loops over days.
+    // It is asked for once a month at most, so it isn't built into the loops over days.
     #[inline(never)]
     fn of(query: &Query, day: Day) -> Stretch
         ensures on { day ≤ℤ result.last }

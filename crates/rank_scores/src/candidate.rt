@@ -89,7 +89,7 @@ fn rank_cmp(a: &Candidate, b: &Candidate) -> Ordering
 }
 
 /// The order of candidates with one score, by ID and first day.
-// It has no place in the loops that compare scores.
+// It isn't built into the loops that compare scores.
 #[inline(never)]
 fn tie_cmp(a: &Candidate, b: &Candidate) -> Ordering
     ensures { result ≡ then_cmp (on (λ c. c.id.0) (slice_cmp nat_cmp)) (on (λ c. c.first) int_cmp) a.now b.now }

@@ -46,9 +46,10 @@ pub fn own_element_among_others()
 {}
 
 /// Files that are cut into parts are cut as a query sees them, if no station has morsels in two
-/// parts: the candidates of all files are those of the parts, and the morsels serve for those of
-/// the parts. If no station has a series of the query's element in two parts, they are the same
-/// series. What all files say is what the parts say, and so are all series if they are apart.
+/// parts: the candidates of all files are those of the parts, and the morsels can take the place of
+/// those of the parts. If no station has a series of the query's element in two parts, they are the
+/// same series. What all files say is what the parts say, and if no station and element has a series
+/// in two parts, all series are those of the parts.
 pub fn files_in_parts()
     ensures cut { cut.CutByFiles }
     ensures morsels { cut.MorselsOfParts }

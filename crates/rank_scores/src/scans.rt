@@ -61,7 +61,8 @@ fn scan_contenders<S: Sink>(series: &Series, query: &Query, sink: &mut S)
     }
 }
 
-/// Offers each contender of the series, but the days of parts that don't reach the sink's floor by their number.
+/// Offers each contender of the series, except for those of parts of which no day reaches the
+/// sink's floor: of these parts the sink is given the number of days.
 fn scan_contenders_to_floor<S: FloorSink>(series: &Series, query: &Query, sink: &mut S)
     ensures { sink.new ≡ fold S.taken sink.old (meaning.contenders query.now series.now) }
 {
@@ -112,7 +113,8 @@ fn scan_days<S: Sink>(id: StationId, series: &Series, query: &Query, extreme: Ex
     }
 }
 
-/// Offers each admitted day, but the days of parts that don't reach the sink's floor by their number.
+/// Offers each admitted day, except for those of parts of which no day reaches the sink's floor: of
+/// these parts the sink is given the number of days.
 fn scan_blocks<S: FloorSink>(
     id: StationId,
     series: &Series,

@@ -25,9 +25,9 @@ pub enum Spell {
     Dry,
     /// At least 1 mm.
     Wet,
-    /// At least that many tenths of a degree.
+    /// At least this many tenths of a degree Celsius.
     Hot(i32),
-    /// At most that many tenths of a degree.
+    /// At most this many tenths of a degree Celsius.
     Cold(i32),
 }
 

@@ -39,7 +39,7 @@ const DAYS: [Row; 18] = [
     (&[(18_444, 1, "  250   ")], "top 1 highest TMAX", 250),
     (&[(18_444, 1, "  -50   ")], "top 1 highest TMIN", -50),
     (&[(18_444, 1, "   -5   "), (18_445, 1, "    3   ")], "top 2 lowest TMIN", 5),
-    // A whole block, a block but for one day, and one day of a block.
+    // A whole block, a block without one of its days, and one day of a block.
     (&[(18_432, 32, "  -50   ")], "top 1 highest TMIN", -50),
     (&[(18_432, 31, "  -50   ")], "top 1 highest TMIN", -50),
     (&[(18_432, 32, "   70   ")], "top 1 lowest TMIN", -70),

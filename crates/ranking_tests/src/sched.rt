@@ -1,7 +1,7 @@
 //! Worked plans, runs and answers.
 //!
 //! Data, plans and answers live in helpers that return plain facts, and nothing if memory is
-//! refused: a test that holds them is dear to prove.
+//! refused: a test that holds them takes long to prove.
 
 ghost use Rattle.std.specs.Prelude.{◌<◌, ◌≤◌, IfSome};
 ghost use Rattle.ghcn_fields.specs.Floor.{IsScore};

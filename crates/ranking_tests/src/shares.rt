@@ -108,7 +108,7 @@ fn push_values(text: &mut String, dataset: &Data, id: &StationId) -> Result<(), 
     Ok(())
 }
 
-/// What files hold for a query, read by at most so many readers, or why they hold nothing; and how many files were
+/// What files hold for a query, read by at most this many readers, or why they hold nothing; and how many files were
 /// opened.
 fn shown<R: Threads + AllocGlobal + Sync>(
     rt: &R,

@@ -1,4 +1,4 @@
-//! Files in pieces of which `examples/grow` refuses one allocation after the other.
+//! Files in pieces of which `tests/grow` refuses one allocation after the other.
 //!
 //! A test prints `memory` if the reader met the refusal, and `answered` if it returned what it
 //! has to. It prints nothing if the station list met it.

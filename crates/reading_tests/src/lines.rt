@@ -3,7 +3,7 @@
 use ghcn_fields::Memory;
 use std::alloc::Global;
 
-/// A line of 269 columns whose days are missing, but for the groups that are given.
+/// A line of 269 columns whose days are missing, except for the groups that are given.
 pub(crate) fn line_of(head: &[u8; 21], groups: &[(usize, &[u8; 8])]) -> [u8; 269] {
     let mut line = [b' '; 269];
     line[..21].copy_from_slice(head);

@@ -70,7 +70,7 @@ fn seasons_of_queries(rt: HostRuntime) {
     }
 }
 
-/// What the best alone is ranked of, in a query.
+/// The groups of a query.
 fn group_of(text: &str) -> Option<Per> {
     Some(Query::parse(text).ok()?.per())
 }

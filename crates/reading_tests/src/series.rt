@@ -1,6 +1,6 @@
 //! Worked examples of daily files and the series that they hold.
 //!
-//! Data and readers live in helpers that return plain facts: a test that holds them is dear to prove.
+//! Data and readers live in helpers that return plain facts: a test that holds them takes long to prove.
 
 mod blocks;
 mod cutters;

@@ -20,7 +20,7 @@ struct Meeting {
     /// How many places were measured, and how many morsels were claimed.
     measured: AtomicU64,
     claimed: AtomicU64,
-    /// Some worker was held in vain.
+    /// Some worker was held, and the other didn't come as far.
     missed: AtomicBool,
 }
 

@@ -1,4 +1,4 @@
-//! Rankings and checks of which `examples/grow` refuses one allocation after the other.
+//! Rankings and checks of which `tests/grow` refuses one allocation after the other.
 //!
 //! A test prints `memory` if the call that it is about met the refusal, and `answered` if it
 //! returned what it has to.

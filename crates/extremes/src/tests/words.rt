@@ -179,6 +179,24 @@ fn commands_to_describe_by_some(rt: HostRuntime) -> Result<(), Fail> {
     Ok(())
 }
 
+#[test]
+fn commands_to_make_tables(rt: HostRuntime) -> Result<(), Fail> {
+    let cases: [(&[&str], Option<&str>, &[&str]); 3] = [
+        (&["table"], None, &["-"]),
+        (&["table", "a", "--stations=s", "-"], Some("s"), &["a", "-"]),
+        (&["table", "--", "--stations"], None, &["--stations"]),
+    ];
+    for (words, list, paths) in cases {
+        let given = words_of(rt.alloc(), words)?;
+        let Ok(Command::Table(asked)) = command(rt.alloc(), given) else {
+            return Err(Fail::from("no command to make a table"));
+        };
+        assert_eq!(rt; asked.stations.as_deref(), list, "at {words:?}");
+        assert!(rt; are_words(asked.reports.as_slice(), paths), "at {words:?}");
+    }
+    Ok(())
+}
+
 /// The daily files that a command names.
 fn files_of(command: Command) -> Option<NamedFiles> {
     match command {
@@ -187,6 +205,7 @@ fn files_of(command: Command) -> Option<NamedFiles> {
         Command::Describe(asked) => Some(asked.files),
         Command::Sample => None,
         Command::Merge(_) => None,
+        Command::Table(_) => None,
     }
 }
 
@@ -271,7 +290,7 @@ fn shown(alloc: Global, words: &[&str]) -> Result<String, Fail> {
 fn texts_of_words(rt: HostRuntime) -> Result<(), Fail> {
     let odd = "error: each report is followed by its certificate, and the last one has none\n";
     let null = "error: --null says how the names of a list end, and --files-from names no list\n";
-    let cases: [(&[&str], &str); 14] = [
+    let cases: [(&[&str], &str); 15] = [
         (&["rank", "--stations=s", "--query=q", "--null", "a"], null),
         (
             &[
@@ -302,6 +321,7 @@ fn texts_of_words(rt: HostRuntime) -> Result<(), Fail> {
         ),
         (&["merge", "--query=q", "--files-from=l"], "'--files-from'"),
         (&["merge", "--query=q", "-0"], "'-0'"),
+        (&["table", "--query=q"], "'--query'"),
         (&["merge", "--query=q", "r"], odd),
         (&["merge", "r", "c", "s", "--query=q"], odd),
         (
@@ -352,6 +372,10 @@ fn helps_of_commands(rt: HostRuntime) -> Result<(), Fail> {
         ("rank", "--files-from <LIST>"),
         ("check", "-0, --null"),
         ("describe", "A folder stands for its .dly files"),
+        (
+            "table",
+            "\n  refused file F line L NotListed   the station of the row",
+        ),
     ];
     for (command, part) in cases {
         let text = shown(rt.alloc(), &[command, "--help"])?;

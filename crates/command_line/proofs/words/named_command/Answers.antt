@@ -6,7 +6,7 @@ use Rattle.clap.specs.declared.error.ErrorKind.TheVariants.{DisplayVersion}
 use Rattle.clap.proofs.CallerLemmas.{subcommand_required}
 use Rattle.clap.proofs.OnLiterals.{clap_on_literals}
 use Rattle.command_line.specs.CommandLine.{extremes_app, all_words, FitTogether, IsName, MayAskVersion, OnVersion}
-use Rattle.command_line.proofs.CommandLines.{only_memory, only_version, version_among, never_told, not_asked, only_four}
+use Rattle.command_line.proofs.CommandLines.{only_memory, only_version, version_among, never_told, not_asked, only_name}
 use Rattle.command_line.proofs.CommandLines.{met_one, some_met, command-met}
 use Rattle.command_line.proofs.words.named_command.Goals as goal
 
@@ -49,7 +49,7 @@ returns-clause-asked c =
     (version_among _ _ c.fault_of.result c.fault_of.ensures.asked
     (c.in-Err.ensures.kinds (ap is_simple_and_free app_is ∙ is_free_app)))
 
--- a command line without an error has met `rank`, `merge`, `check` or `describe`
+-- a command line without an error has met `rank`, `merge`, `check`, `describe` or `table`
 pub command_of-requires : goal.command_of-requires
 command_of-requires c =
     let words_are : map (λ s. s.now) c.as_slice.result.now ≡ all_words c.args.words.now
@@ -62,7 +62,7 @@ command_of-requires c =
     c.in_ok-program.ensures.local needs in
     let rows_are : subcommand_rows_of m ≡ subcommand_of extremes_app (all_words c.args.words.now)
     = (c.in-Ok.ensures.matches (ap is_simple app_is ∙ is_simple_app)).1 ∙ ap₂ subcommand_of app_is words_are in
-    met_one IsName _ _ has rows_are (only_four (all_words c.args.words.now))
+    met_one IsName _ _ has rows_are (only_name (all_words c.args.words.now))
 
 -- what is read of the subcommand is the command
 pub returns-in-Ok-clause-ok : goal.returns-in-Ok-clause-ok
@@ -80,7 +80,7 @@ returns-in-Ok-clause-ok c =
     let has : has_subcommand m ≡ true = subcommand_required c.in_ok-program.field-0 m c.in-Ok.ensures.parsed
     c.in_ok-program.ensures.local needs in
     let some = some_met IsName (subcommand_rows_of m)
-    (met_one IsName _ _ has rows_are (only_four (all_words c.args.words.now))) in
+    (met_one IsName _ _ has rows_are (only_name (all_words c.args.words.now))) in
     IfOk-weaker c.command_of.result _ _ (λ command is. command-met _ _ command read rows_are some is)
     c.command_of.ensures.ok
 

@@ -33,19 +33,22 @@ returns c =
     let merge_local = c.in_ok-merge_words.ensures.local in
     let check_local = c.in_ok-check_words.ensures.local in
     let describe_local = c.in_ok-describe_words.ensures.local in
-    let checks = c.in_ok-subcommand-3.ensures.shape check_local
+    let table_local = c.in_ok-table_words.ensures.local in
+    let describes = c.in_ok-subcommand-4.ensures.shape describe_local
+    ∙ ap₂ with_subcommand (c.in_ok-subcommand-3.ensures.shape check_local
     ∙ ap₂ with_subcommand (c.in_ok-subcommand-2.ensures.shape merge_local
     ∙ ap₂ with_subcommand (c.in_ok-subcommand.ensures.shape rank_local
     ∙ ap₂ with_subcommand made (ap (λ (a : App). a.top) c.in_ok-rank_words.ensures.app))
     (ap (λ (a : App). a.top) c.in_ok-merge_words.ensures.app))
-    (ap (λ (a : App). a.top) c.in_ok-check_words.ensures.app) in
-    let without = c.in_ok-subcommand-3.ensures.globals ∙ ap₂ either (c.in_ok-subcommand-2.ensures.globals
-    ∙ ap₂ either (c.in_ok-subcommand.ensures.globals ∙ ap₂ either plain rank_local) merge_local) check_local in
+    (ap (λ (a : App). a.top) c.in_ok-check_words.ensures.app))
+    (ap (λ (a : App). a.top) c.in_ok-describe_words.ensures.app) in
+    let without = c.in_ok-subcommand-4.ensures.globals ∙ ap₂ either (c.in_ok-subcommand-3.ensures.globals ∙ ap₂ either (c.in_ok-subcommand-2.ensures.globals
+    ∙ ap₂ either (c.in_ok-subcommand.ensures.globals ∙ ap₂ either plain rank_local) merge_local) check_local) describe_local in
     record {
-      app = IfOk-weaker c.subcommand-4.result _ _
-          (λ r h. h.shape describe_local
-          ∙ ap₂ with_subcommand checks (ap (λ (a : App). a.top) c.in_ok-describe_words.ensures.app))
-          c.subcommand-4.ensures;
-      local = IfOk-weaker c.subcommand-4.result _ _
-          (λ r h. h.globals ∙ ap₂ either without describe_local) c.subcommand-4.ensures;
+      app = IfOk-weaker c.subcommand-5.result _ _
+          (λ r h. h.shape table_local
+          ∙ ap₂ with_subcommand describes (ap (λ (a : App). a.top) c.in_ok-table_words.ensures.app))
+          c.subcommand-5.ensures;
+      local = IfOk-weaker c.subcommand-5.result _ _
+          (λ r h. h.globals ∙ ap₂ either without table_local) c.subcommand-5.ensures;
     }

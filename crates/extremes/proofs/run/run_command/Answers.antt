@@ -2,7 +2,7 @@ use Rattle.std.proofs.Common.{◌≡◌, [], refl, sym, subst}
 use Rattle.std.specs.Prelude.{None, Result}
 use Rattle.rank_input.specs.declared.fault.Fault.{Fault}
 use Rattle.command_line.specs.declared.asked.Command.{Command}
-use Rattle.command_line.specs.declared.asked.Command.TheVariants.{Sample, Rank, Merge, Check, Describe}
+use Rattle.command_line.specs.declared.asked.Command.TheVariants.{Sample, Rank, Merge, Check, Describe, Table}
 use Rattle.extremes.specs.declared.papers.Papers.{Papers}
 use Rattle.extremes.specs.declared.ending.Ending.{Ending}
 use Rattle.extremes.specs.Printed.{IsPrinted}
@@ -43,3 +43,8 @@ returns-in-Check g c = as-asked _ _ (Check c.in-Check.asked) _ c.in-Check.is (re
 pub returns-in-Describe : goal.returns-in-Describe
 returns-in-Describe g c =
     as-asked _ _ (Describe c.in-Describe.asked) _ c.in-Describe.is (refl, c.run_describing.ensures)
+
+-- or a table is made of reports
+pub returns-in-Table : goal.returns-in-Table
+returns-in-Table g c =
+    as-asked _ _ (Table c.in-Table.asked) _ c.in-Table.is (refl, c.run_tabling.ensures)

@@ -31,7 +31,7 @@ returns-else-has_form-clause-read g c =
     (ap is_blank (sym c.without_return-bytes.ensures) ∙ sym c.is_blank.ensures ∙ c.if-is_blank.false)
     (rw c.without_return-bytes.ensures at c.in_ok-of_element.ensures.read)
 
--- its error is that of the line as it stands
+-- its error is that of the line as it is
 pub returns-in_err-of_element-clause-fault : goal.returns-in_err-of_element-clause-fault
 returns-in_err-of_element-clause-fault g c =
     let p = err_from_is_err_and c.from_residual.result c.from_residual.ensures.1 in

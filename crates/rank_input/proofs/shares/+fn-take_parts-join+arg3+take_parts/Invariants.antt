@@ -5,6 +5,6 @@ use Rattle.rank_input.proofs.shares.+fn-take_parts-join+arg3+take_parts.Given as
 abbrev pub decreases-join+arg3 : goal.decreases-join+arg3
 decreases-join+arg3 g l = 2 * l.before + 1
 
--- there are so many shares
+-- there are that many shares
 abbrev pub decreases-take_parts : goal.decreases-take_parts
 decreases-take_parts g l = 2 * l.shares

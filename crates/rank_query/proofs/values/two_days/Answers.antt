@@ -3,7 +3,7 @@ use Rattle.std.specs.Option.{option_zip}
 use Rattle.rank_query.proofs.DaysOfYear.{other_length, no_points, points}
 use Rattle.rank_query.proofs.values.two_days.Goals as goal
 
--- a word of another length is no two days
+-- a word of another length isn't two days
 pub returns-then-word-ne12-clause-days : goal.returns-then-word-ne12-clause-days
 returns-then-word-ne12-clause-days c = sym (other_length c.args.word.now c.if-word-ne12.true)
 

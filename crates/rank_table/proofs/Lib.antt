@@ -1,0 +1,16 @@
+pub mod Examples
+pub mod Cuts
+pub mod FirstReports
+pub mod ReportLines
+pub mod Shifts
+pub mod InOrder
+pub mod ManyReports
+pub mod Texts
+pub mod Written
+pub mod RowsOfReports
+pub mod Adding
+pub mod FilesRead
+pub mod ReadBack
+pub mod NumberTexts
+pub mod Unlisted
+pub mod Places
