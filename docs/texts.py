@@ -122,7 +122,7 @@ def shapes(text, by_type):
     for name in pieces[1::2]:
         kind = text.inside.get(name, "")
         inner = [it for other in by_type.get(kind, ()) for it in shapes(other, by_type)]
-        choices.append(inner or [(r"-?\d+" if re.fullmatch(r"[iu]\d+|[iu]size", kind) else r".+", ())])
+        choices.append(inner or [(r"-?\d+" if re.fullmatch(r"[iu]\d+|[iu]size", kind) else r".*", ())])
     for chosen in product(*choices):
         words = [re.escape(it) for it in pieces[::2]]
         expression = words[0] + "".join(one[0] + word for one, word in zip(chosen, words[1:]))

@@ -1,6 +1,6 @@
 /* Preloaded before a program, lets one of its calls of the system end otherwise. The environment says which:
-   FAIL_CALL   open, read, write or thread, which is the start of one; calls that write to standard error
-               aren't meant
+   FAIL_CALL   open, read, write, rename, close or thread, which is the start of one; calls that write to
+               standard error aren't meant, and none that closes a standard descriptor
    FAIL_AT     the number of that call, from 1; 0 for each of them
    FAIL_HOW    fail: it ends with an error; one: it takes or gives one byte; signal: it is interrupted;
                full: writes take this many bytes in all, and then there is no space; FAIL_AT is that number;
@@ -157,6 +157,22 @@ ssize_t write(int file, const void *from, size_t size) {
 
 ssize_t __write(int file, const void *from, size_t size) {
     return write(file, from, size);
+}
+
+int rename(const char *from, const char *to) {
+    if (is_met("rename", from, -1))
+        return -1;
+    return (int)syscall(SYS_renameat2, AT_FDCWD, from, AT_FDCWD, to, 0);
+}
+
+/* The file is closed even if the call ends with an error, as Linux does it. */
+int close(int file) {
+    int is_failed = file > 2 && is_met("close", NULL, file), error = errno;
+    int status = (int)syscall(SYS_close, file);
+    if (!is_failed)
+        return status;
+    errno = error;
+    return -1;
 }
 
 int statx(int folder, const char *path, int flags, unsigned wanted, struct statx *found) {

@@ -499,3 +499,42 @@ def rank(query_text, stations, daily, workers=4, guess=None):
     everyone = sorted((it for its in found.values() for it in its), key=in_order)
     told = warnings(daily) + (b"unlisted %d\n" % unlisted if unlisted else b"")
     return 0, report(query, everyone), told
+
+
+def query_lines(text):
+    """The lines of a list of queries; if it has none, an empty one."""
+    pieces = text.split(b"\n")
+    pieces = pieces if pieces[-1] or len(pieces) == 1 else pieces[:-1]
+    return [it[:-1] if it.endswith(b"\r") else it for it in pieces]
+
+
+def bad_query(path, text):
+    """The status and the outputs of a run over a list of queries that has a bad line; None if it has none."""
+    for number, line in enumerate(query_lines(text), 1):
+        at = b"at %s:%d\n" % (path, number)
+        try:
+            line.decode()
+            read_query(line)
+        except UnicodeDecodeError:
+            return 3, b"", b"file not read %s\n" % path + at
+        except Refused as refusal:
+            return 1, b"", f"{refusal}\n".encode() + at
+    return None
+
+
+def rank_each(path, queries, stations, daily, workers=4, there=(), folder=b"papers"):
+    """The status and the outputs of `extremes rank --queries PATH`, and the report of each query. With `--papers`, the
+    folder has these files before the run."""
+    if not 1 <= workers <= 64:
+        return (1, b"", b"refused 18 BadWorkers\n"), []
+    wrong = bad_query(path, queries)
+    if wrong is not None:
+        return wrong, []
+    for number, _ in enumerate(query_lines(queries), 1):
+        for name in (f"{number}.certificate", f"{number}.report"):
+            if name in there:
+                return (3, b"", b"file not written %s/%s\n" % (folder, name.encode())), []
+    answers = [rank(line, stations, daily) for line in query_lines(queries)]
+    status, _, told = answers[0]
+    reports = [it[1] for it in answers] if status == 0 else []
+    return (status, b"".join(reports), told), reports

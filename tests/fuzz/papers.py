@@ -177,6 +177,37 @@ def check(query_text, stations, daily, report, certificate):
     return 1, f"refused {paper} line {wrong[0]} {wrong[1]}\n".encode(), formats.warnings(daily)
 
 
+def check_each(queries, stations, daily, folder, texts, part=False):
+    """The status and the outputs of `extremes check --queries`, with `--part` or without it: of a list of queries, by
+    its path and its text, and of a folder, by its path and the texts of its files."""
+    wrong = formats.bad_query(*queries)
+    if wrong is not None:
+        return wrong
+    lines = formats.query_lines(queries[1])
+    names = [[f"{number}.{paper}" for paper in ("report", "certificate")] for number in range(1, len(lines) + 1)]
+    for name in sum(names, []):
+        if name not in texts:
+            return 3, b"", b"file not read %s/%s\n" % (folder, name.encode())
+    try:
+        read = [formats.read_all(line, stations, daily) for line in lines]
+    except Refused as refusal:
+        return 1, b"", f"{refusal}\n".encode()
+    answers = [judged(query, found, *(texts[it] for it in both), part) for (query, found, _), both in zip(read, names)]
+    return max(it[0] for it in answers), b"".join(it[1] for it in answers), formats.warnings(daily)
+
+
+def judged(query, found, report, certificate, part):
+    """The status and the line of a verdict on a report and a certificate, as those of a whole or of a part."""
+    if part:
+        paper, wrong = part_verdict(query, found, report, certificate)
+        accepted = None if isinstance(paper, str) else f"accepted {paper} of {wrong}\n"
+    else:
+        everyone = sorted((it for its in found.values() for it in its), key=formats.in_order)
+        paper, wrong = verdict(query, found, everyone, report, certificate)
+        accepted = None if wrong else "accepted\n"
+    return (0, accepted.encode()) if accepted else (1, f"refused {paper} line {wrong[0]} {wrong[1]}\n".encode())
+
+
 def papers(query_text, stations, daily, version=2):
     """A right report, and a certificate of a version with the smallest bounds."""
     query, found, _ = formats.read_all(query_text, stations, daily)

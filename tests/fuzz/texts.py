@@ -235,3 +235,12 @@ def case(number):
         bad_words, group = GROUP_BAD_WORDS, rng.choice(GROUPS)
     whole = query(rng, names, asked, bad_words, group)
     return Case(whole, text(rng, stations), [text(rng, it) for it in files], options(rng))
+
+
+def queries(number, case_of_number):
+    """A list of queries: that of the case of this number, and up to three of other cases, now and then with a change."""
+    rng = random.Random(f"queries {number}")
+    others = (case(number + 100_000 * step).query for step in range(1, rng.randint(1, 4)))
+    found = [case_of_number.query, *others]
+    rng.shuffle(found)
+    return text(rng, found if rng.random() < 0.9 else changed(rng, found))

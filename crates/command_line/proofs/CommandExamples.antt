@@ -4,7 +4,8 @@ use Rattle.clap.specs.Words.{Text, fault_of, subcommand_of, first_of, one_of, al
 use Rattle.clap.specs.declared.error.ErrorKind.TheVariants.{DisplayVersion, MissingRequiredArgument, ValueValidation, UnknownArgument}
 use Rattle.clap.specs.declared.error.ErrorKind.TheVariants.{ArgumentConflict}
 use Rattle.clap.proofs.OnLiterals.{clap_on_literals}
-use Rattle.command_line.specs.CommandLine.{extremes_app, papers_to_merge, FitTogether}
+use Rattle.command_line.specs.CommandLine.{extremes_app}
+use Rattle.command_line.specs.Fitting.{papers_to_merge, FitTogether}
 
 -- a command line with both options, a guess and two files
 abbrev words : List Text
@@ -61,12 +62,6 @@ check_report : option_map (λ p. first_of (codes "report") p.1) (subcommand_of e
     ≡ Some (Some (codes "r"))
 unfolding clap_on_literals
 check_report = refl
-
--- a report can't be checked without a certificate
-check_without : fault_of extremes_app (codes "extremes" ∷ codes "check" ∷ codes "--query=q" ∷ codes "--stations=s"
-    ∷ codes "--report=r" ∷ []) ≡ MissingRequiredArgument ∷ []
-unfolding clap_on_literals
-check_without = refl
 
 -- its files aren't a part
 check_whole : option_map (λ p. one_of (codes "part") p.1) (subcommand_of extremes_app to_check)
@@ -256,7 +251,7 @@ null_alone_read = refl
 -- but what it is given doesn't fit together
 null_without_list : IfSome (subcommand_of extremes_app null_alone) (λ met. FitTogether met.0 met.1) → ⊥
 unfolding clap_on_literals
-null_without_list fit = let bad : false ≡ true = fit.1 (λ same. absurd cc, λ same. absurd cc) refl in absurd cc
+null_without_list fit = let bad : false ≡ true = fit.describe refl refl in absurd cc
 
 -- a command line that asks for progress
 abbrev with_progress : List Text

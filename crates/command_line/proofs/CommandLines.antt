@@ -1,14 +1,18 @@
 -- What is read of a parse, by the words of its meaning.
 use Rattle.std.proofs.Common.{◌≡◌, Bool, true, false, List, ◌∷◌, Option, Some, None, IsSomeAnd, unwrap_or, option_map}
-use Rattle.std.proofs.Common.{is_some, IsSome, IfSome, true≢false, codes, refl, sym, ap, ap₂, subst, arith, length, ◌%◌, map, get_or, ◌∙◌, ◌⊎◌, inl, inr, ◌||◌}
+use Rattle.std.proofs.Common.{is_some, IsSome, IfSome, true≢false, codes, refl, sym, ap, ap₂, subst, arith, length, ◌%◌, map, get_or, ◌∙◌, ◌⊎◌, ◌↔◌, inl, inr, ◌||◌}
 use Rattle.std.specs.Prelude.{Box, if◌then◌else◌, ℤ, ℕ, [], Result, Ok, Err}
 use Rattle.std.specs.Box.{box_value}
+use Rattle.std.specs.Option.{option_eq}
+use Rattle.std.specs.Str.{bytes_eq}
 use Rattle.std.proofs.lemmas.List.{length-map}
+use Rattle.std.proofs.lemmas.Option.{none-some}
+use Rattle.std.proofs.lemmas.Slice.Eq.{bytes_eq-Decides}
 use denote.Ref.{Bor}
 use Rattle.std.specs.Int.{w64}
 use Rattle.std.specs.Str.Parse.{ParsesSigned, ParsesUnsigned, ParsesBool}
 use Rattle.clap.specs.declared.builder.ValueParser.{ValueParser}
-use Rattle.clap.specs.Words.{Row, Rule, Text, Shape, Kinds, IsAmong, ReadsOne, fault_of, subcommand_of, subcommand_rows}
+use Rattle.clap.specs.Words.{Row, Rule, Text, Shape, Kinds, IsAmong, ReadsOne, subcommand_of, subcommand_rows}
 use Rattle.clap.specs.declared.error.ErrorKind.{ErrorKind}
 use Rattle.clap.specs.declared.error.ErrorKind.TheVariants.{OutOfMemory, DisplayVersion}
 use Rattle.command_line.specs.declared.asked.CommandFault.{CommandFault}
@@ -18,12 +22,8 @@ use Rattle.clap.specs.Walk.{answers_to, stop_after}
 use Rattle.clap.specs.Simple.{argument_words, built, entered, names_of, rows_at}
 use Rattle.clap.specs.declared.parser.matches.SubCommand.{SubCommand}
 use Rattle.clap.specs.declared.parser.matches.ArgMatches.TheViews.{out-SubCommand}
-use Rattle.command_line.specs.declared.asked.Part.{Part}
-use Rattle.command_line.specs.declared.asked.Command.{Command}
-use Rattle.command_line.specs.declared.asked.Command.TheVariants.{Sample, Rank, Merge, Check, Describe, Table}
-use Rattle.command_line.specs.CommandLine.{extremes_app, paths_of, papers_to_merge, AreInPairs, IsGuess, IsCount, IsFlag}
-use Rattle.command_line.specs.CommandLine.{IsName, IsCommand, IsCommandOf, FitTogether, HasListIfNull, AreFiles, ReadsDailyFiles}
-use Rattle.command_line.specs.declared.asked.NamedFiles.{NamedFiles}
+use Rattle.command_line.specs.CommandLine.{extremes_app, IsGuess, IsCount, IsFlag, IsName}
+use Rattle.command_line.specs.Fitting.{papers_to_merge, AreInPairs}
 
 -- what is some value is it
 pub some_is : {X : Type 0} (o : Option X) (v : X) → IsSomeAnd o (λ r. r ≡ v) → o ≡ Some v
@@ -154,44 +154,9 @@ module _ (P : Text → List Row → Type 0) (o : Option (Text × List Row)) (nam
   pub met-fact : IfSome o (λ m. P m.0 m.1) → P name rows
   met-fact fact = subst (λ (q : Option (Text × List Row)). IfSome q (λ m. P m.0 m.1)) e fact
 
--- each part has a report and a certificate
-pub paths-even : (parts : List Part) → length (paths_of parts) % 2 ≡ 0
-paths-even [] = refl
-paths-even (p ∷ ps) = let rest = paths-even ps in omega (arith, rest)
-
 -- equal texts begin alike
 first_code : (a : ℕ) (more bs : List ℕ) → a ∷ more ≡ bs → a ≡ get_or bs 0 a
 first_code a more bs e = ap (λ (t : List ℕ). get_or t 0 a) e
-
--- a name that begins otherwise isn't another
-other_name : (name : Text) (first letter : ℕ) (rest : List ℕ) → (first ≡ letter → ⊥) → get_or name 0 letter ≡ first
-    → name ≡ letter ∷ rest → ⊥
-other_name name first letter rest other begins e = other (sym begins ∙ ap (λ (t : List ℕ). get_or t 0 letter) e)
-
--- so one that begins neither as `merge` nor as `table` is that of a subcommand that reads daily files
-pub reads_files : (name : Text) (first : ℕ) → (first ≡ 109 → ⊥) → (first ≡ 116 → ⊥) → get_or name 0 109 ≡ first
-    → get_or name 0 116 ≡ first → ReadsDailyFiles name
-reads_files name first not_m not_t begins_m begins_t =
-    (other_name name first 109 _ not_m begins_m, other_name name first 116 _ not_t begins_t)
-
--- so the reports and certificates of a command that merges come in pairs
-merges-pairs : (name : Text) (rows : List Row) (c : Command) → IsCommand name rows c → name ≡ codes "merge"
-    → AreInPairs rows
-merges-pairs name rows c (inl is) e = let bad : 109 ≡ 114 = first_code _ _ _ (sym e ∙ is.0) in absurd
-    (omega (arith, bad))
-merges-pairs name rows c (inr (inr (inl is))) e = let bad : 109 ≡ 99 = first_code _ _ _ (sym e ∙ is.0) in absurd
-    (omega (arith, bad))
-merges-pairs name rows c (inr (inr (inr (inl is)))) e = let bad : 109 ≡ 100 = first_code _ _ _ (sym e ∙ is.0) in
-    absurd (omega (arith, bad))
-merges-pairs name rows c (inr (inr (inr (inr is)))) e = let bad : 109 ≡ 116 = first_code _ _ _ (sym e ∙ is.0) in
-    absurd (omega (arith, bad))
-merges-pairs name rows Sample (inr (inl is)) e = absurd is.1
-merges-pairs name rows (Rank asked) (inr (inl is)) e = absurd is.1
-merges-pairs name rows (Check asked) (inr (inl is)) e = absurd is.1
-merges-pairs name rows (Describe asked) (inr (inl is)) e = absurd is.1
-merges-pairs name rows (Table asked) (inr (inl is)) e = absurd is.1
-merges-pairs name rows (Merge asked) (inr (inl is)) e =
-    ap (λ (ps : List Text). length ps % 2) (sym is.1.2) ∙ paths-even asked.parts.items
 
 -- of two that are read as one the second is there if the first is
 pub mapped_some : {X Y Z : Type 0} (f : X → Z) (g : Y → Z) (a : Option X) (b : Option Y) → option_map f a ≡ option_map g b
@@ -200,8 +165,27 @@ mapped_some f g a (Some y) e some = refl
 mapped_some f g (Some x) None e some = absurd cc
 mapped_some f g None None e some = some
 
+module _ {X Z : Type 0} (f : X → Z) where
+  -- what is read of a value is there if and only if that is
+  pub is_some-read : (o : Option X) (t : Option Z) → option_map f o ≡ t → is_some o ≡ is_some t
+  is_some-read (Some x) t e = ap (λ q. is_some q) e
+  is_some-read None t e = ap (λ q. is_some q) e
+
+-- a text that may be lent is this one if and only if their bytes are equal
+pub is_text : (o : Option (Bor Text)) (l : Bor Text) (t : Option Text) (b : Bool)
+    → b ≡ option_eq (λ x y. bytes_eq x.now y.now) o (Some l) → option_map (λ s. s.now) o ≡ t
+    → (b ≡ true) ↔ (t ≡ Some l.now)
+is_text None l t b is same = (
+  λ yes. absurd (true≢false (sym yes ∙ is)),
+  λ e. absurd (none-some l.now (same ∙ e)),
+)
+is_text (Some x) l t b is same = let decides = bytes_eq-Decides x.now l.now in (
+  λ yes. sym same ∙ ap (λ (y : Text). Some y) (decides.0 (sym is ∙ yes)),
+  λ e. is ∙ decides.1 (ap (λ (q : Option Text). unwrap_or q x.now) (same ∙ e)),
+)
+
 -- a value that is read of another is there if that is
-some_read : {X Z : Type 0} (f : X → Z) (a : Option X) (b : Option Z) → option_map f a ≡ b → IsSome a → IsSome b
+pub some_read : {X Z : Type 0} (f : X → Z) (a : Option X) (b : Option Z) → option_map f a ≡ b → IsSome a → IsSome b
 some_read f (Some x) b e some = subst (λ o. IsSome o) e refl
 some_read f None b e some = absurd cc
 
@@ -210,53 +194,7 @@ pub read_some : {X Z : Type 0} (f : X → Z) (a : Option X) (b : Option Z) → o
 read_some f (Some x) b e some = refl
 read_some f None b e some = subst (λ o. IsSome o) (sym e) some
 
--- files that are named with `--null` are named by a list too
-files-listed : (rows : List Row) (files : NamedFiles) → AreFiles rows files → HasListIfNull rows
-files-listed rows files are given =
-    some_read _ files.list _ are.list (are.listed (are.null.1 given))
-
--- so is it with the files of each command that has files
-lists-null : (name : Text) (rows : List Row) (c : Command) → IsCommand name rows c → ReadsDailyFiles name
-    → HasListIfNull rows
-lists-null name rows c (inr (inl is)) other = absurd (other.0 is.0)
-lists-null name rows c (inr (inr (inr (inr is)))) other = absurd (other.1 is.0)
-lists-null name rows Sample (inl is) other = absurd is.1
-lists-null name rows (Rank asked) (inl is) other = files-listed rows asked.files is.1.5
-lists-null name rows (Merge asked) (inl is) other = absurd is.1
-lists-null name rows (Check asked) (inl is) other = absurd is.1
-lists-null name rows (Describe asked) (inl is) other = absurd is.1
-lists-null name rows (Table asked) (inl is) other = absurd is.1
-lists-null name rows Sample (inr (inr (inl is))) other = absurd is.1
-lists-null name rows (Rank asked) (inr (inr (inl is))) other = absurd is.1
-lists-null name rows (Merge asked) (inr (inr (inl is))) other = absurd is.1
-lists-null name rows (Check asked) (inr (inr (inl is))) other = files-listed rows asked.files is.1.6
-lists-null name rows (Describe asked) (inr (inr (inl is))) other = absurd is.1
-lists-null name rows (Table asked) (inr (inr (inl is))) other = absurd is.1
-lists-null name rows Sample (inr (inr (inr (inl is)))) other = absurd is.1
-lists-null name rows (Rank asked) (inr (inr (inr (inl is)))) other = absurd is.1
-lists-null name rows (Merge asked) (inr (inr (inr (inl is)))) other = absurd is.1
-lists-null name rows (Check asked) (inr (inr (inr (inl is)))) other = absurd is.1
-lists-null name rows (Table asked) (inr (inr (inr (inl is)))) other = absurd is.1
-lists-null name rows (Describe asked) (inr (inr (inr (inl is)))) other = files-listed rows asked.files is.1.2
-
--- arguments without an error that name a subcommand name the command that is read of it
-pub command-met : (words : List Text) (met : Option (Text × List Row)) (c : Command) → fault_of extremes_app words ≡ []
-    → met ≡ subcommand_of extremes_app words → IsSome met → IfSome met (λ m. IsCommand m.0 m.1 c)
-    → IsCommandOf words c
-command-met words None c read same some is = absurd cc
-command-met words (Some m) c read same some is = record {
-  name = m.0;
-  rows = m.1;
-  right = record {
-    read = read;
-    together = subst (λ (o : Option (Text × List Row)). IfSome o (λ r. FitTogether r.0 r.1)) same
-        (merges-pairs m.0 m.1 c is, lists-null m.0 m.1 c is);
-  };
-  entered = sym same;
-  named = is;
-}
-
--- so do reports and certificates that are lent, if those of the rows do
+-- reports and certificates that are lent come in pairs if those of the rows do
 pub lent-pairs : (papers : List (Bor Text)) (rows : List Row) → map (λ s. s.now) papers ≡ papers_to_merge rows
     → AreInPairs rows → length papers % 2 ≡ 0
 lent-pairs papers rows same pairs =

@@ -1,3 +1,5 @@
 pub mod CommandLines
+pub mod Fitting
 pub mod Pairs
 pub mod CommandExamples
+pub mod QueryExamples

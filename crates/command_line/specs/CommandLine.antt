@@ -1,7 +1,7 @@
 -- What the arguments ask for, in the terms of `clap`.
-use Rattle.std.specs.Prelude.{◌≡◌, ◌≢◌, ◌↔◌, ◌⊎◌, IsSome, IfSome, List, [], ◌∷◌, map, codes, Option, Some, None, unwrap_or, Bool, true}
+use Rattle.std.specs.Prelude.{◌≡◌, ◌↔◌, ◌⊎◌, IsSome, IfSome, List, [], ◌∷◌, map, codes, Option, Some, None, unwrap_or, Bool, true}
 use Rattle.std.specs.Prelude.{String, string_bytes, ⊤}
-use Rattle.std.specs.Prelude.{length, ◌%◌, ℕ, ◌<◌, ◌^◌, ℤ, pos, negsuc, FitsSigned}
+use Rattle.std.specs.Prelude.{ℕ, ◌<◌, ◌^◌, ℤ, pos, negsuc, FitsSigned}
 use Rattle.std.specs.Option.{option_map}
 use Rattle.std.specs.List.{flat_map}
 use Rattle.clap.specs.declared.builder.Arg.{Arg}
@@ -15,13 +15,14 @@ use Rattle.clap.specs.Lexer.{usize_max}
 use Rattle.clap.specs.declared.builder.ArgAction.TheVariants.{Set, SetTrue, Append}
 use Rattle.clap.specs.declared.builder.ValueParser.{ValueParser}
 use Rattle.clap.specs.declared.builder.ValueParser.TheVariants.{Signed, Unsigned}
+use Rattle.command_line.specs.Fitting.{FitTogether, RanksOne, RanksEach, ChecksOne, ChecksEach, papers_to_merge}
 use Rattle.command_line.specs.declared.asked.Part.{Part}
 use Rattle.command_line.specs.declared.asked.TableArguments.{TableArguments}
 use Rattle.command_line.specs.declared.asked.NamedFiles.{NamedFiles}
 use Rattle.command_line.specs.declared.asked.CommandFault.{CommandFault}
 use Rattle.command_line.specs.declared.asked.CommandFault.TheVariants as fault
 use Rattle.command_line.specs.declared.asked.Command.{Command}
-use Rattle.command_line.specs.declared.asked.Command.TheVariants.{Sample, Rank, Merge, Check, Describe, Table}
+use Rattle.command_line.specs.declared.asked.Command.TheVariants.{Sample, Rank, RankEach, Merge, Check, CheckEach, Describe, Table}
 
 -- `--NAME VALUE`: an option with one value, which may be given once
 abbrev pub option_of : Text → Rule
@@ -74,11 +75,13 @@ and_files app = with_rule (with_rule (with_rule (with_rule app
     (short_by 48 (flag_of (codes "null"))))
     (flag_of (codes "progress"))) (many_of (codes "files"))
 
--- `rank` with its options and files
+-- `rank` with its options, of which the station list must be given, and files
 abbrev pub rank_app : App
-rank_app = and_files (with_rule (with_rule (with_rule (with_rule (with_rule (new_app (codes "rank"))
+rank_app = and_files (with_rule (with_rule (with_rule (with_rule (with_rule (with_rule (with_rule (new_app (codes "rank"))
     (required (option_of (codes "stations"))))
-    (required (option_of (codes "query"))))
+    (option_of (codes "query")))
+    (option_of (codes "queries")))
+    (option_of (codes "papers")))
     (parsed whole_count (option_of (codes "workers"))))
     (parsed whole_number (option_of (codes "guess"))))
     (option_of (codes "certificate")))
@@ -89,13 +92,16 @@ merge_app = with_rule (with_rule (with_rule (new_app (codes "merge"))
     (required (option_of (codes "query"))))
     (option_of (codes "certificate"))) (many_of (codes "papers"))
 
--- `check` with its options, of which all but the number of workers must be given, its flag and files
+-- `check` with its options, of which the station list must be given, its flag and files
 abbrev pub check_app : App
-check_app = and_files (with_rule (with_rule (with_rule (with_rule (with_rule (with_rule (new_app (codes "check"))
+check_app = and_files (with_rule (with_rule (with_rule (with_rule (with_rule (with_rule (with_rule (with_rule
+    (new_app (codes "check"))
     (required (option_of (codes "stations"))))
-    (required (option_of (codes "query"))))
-    (required (option_of (codes "report"))))
-    (required (option_of (codes "certificate"))))
+    (option_of (codes "query")))
+    (option_of (codes "report")))
+    (option_of (codes "certificate")))
+    (option_of (codes "queries")))
+    (option_of (codes "papers")))
     (flag_of (codes "part")))
     (parsed few_readers (option_of (codes "workers"))))
 
@@ -124,27 +130,6 @@ extremes_app = with_subcommand (with_subcommand (with_subcommand (with_subcomman
 -- all arguments, the program's name first
 abbrev pub all_words : {A : Type 0} → List (String A) → List Text
 all_words words = codes "extremes" ∷ map (λ w. string_bytes w) words
-
--- the reports and certificates that `merge` is given, in their order
-abbrev pub papers_to_merge : List Row → List Text
-papers_to_merge rows = unwrap_or (all_of (codes "papers") rows) []
-
--- there are two of each part
-abbrev pub AreInPairs : List Row → Type 0
-AreInPairs rows = length (papers_to_merge rows) % 2 ≡ 0
-
--- if `--null` is given, so is a list
-abbrev pub HasListIfNull : List Row → Type 0
-HasListIfNull rows = one_of (codes "null") rows ≡ Some (codes "true") → IsSome (first_of (codes "files-from") rows)
-
--- the subcommand of this name reads daily files
-abbrev pub ReadsDailyFiles : Text → Type 0
-ReadsDailyFiles name = (name ≢ codes "merge") × (name ≢ codes "table")
-
--- what a subcommand is given fits together: reports and certificates to merge come in pairs, and if it reads daily
--- files, `--null` comes with a list
-abbrev pub FitTogether : Text → List Row → Type 0
-FitTogether name rows = (name ≡ codes "merge" → AreInPairs rows) × (ReadsDailyFiles name → HasListIfNull rows)
 
 -- the arguments are a valid command line: `clap` reports no error, and what the subcommand is given fits together
 pub record AreRightWords (words : List Text) : Type 0 where
@@ -187,13 +172,21 @@ abbrev pub IsRank : List Row → Command → Type 0
 IsRank rows Sample = ⊥
 IsRank rows (Merge asked) = ⊥
 IsRank rows (Check asked) = ⊥
+IsRank rows (CheckEach asked) = ⊥
 IsRank rows (Describe asked) = ⊥
 IsRank rows (Table asked) = ⊥
-IsRank rows (Rank asked) = (string_bytes asked.stations ≡ unwrap_or (first_of (codes "stations") rows) [])
+IsRank rows (Rank asked) = RanksOne rows
+    × (string_bytes asked.stations ≡ unwrap_or (first_of (codes "stations") rows) [])
     × (string_bytes asked.query ≡ unwrap_or (first_of (codes "query") rows) [])
     × AreWorkers (one_of (codes "workers") rows) asked.workers
     × IsGuess (one_of (codes "guess") rows) asked.guess
     × (option_map (λ s. string_bytes s) asked.certificate ≡ first_of (codes "certificate") rows)
+    × AreFiles rows asked.files
+IsRank rows (RankEach asked) = RanksEach rows
+    × (string_bytes asked.stations ≡ unwrap_or (first_of (codes "stations") rows) [])
+    × (string_bytes asked.queries ≡ unwrap_or (first_of (codes "queries") rows) [])
+    × (option_map (λ s. string_bytes s) asked.papers ≡ first_of (codes "papers") rows)
+    × AreWorkers (one_of (codes "workers") rows) asked.workers
     × AreFiles rows asked.files
 
 -- the paths of the reports and certificates of parts, those of a part side by side
@@ -204,7 +197,9 @@ paths_of parts = flat_map (λ p. string_bytes p.report ∷ string_bytes p.certif
 abbrev pub IsMerge : List Row → Command → Type 0
 IsMerge rows Sample = ⊥
 IsMerge rows (Rank asked) = ⊥
+IsMerge rows (RankEach asked) = ⊥
 IsMerge rows (Check asked) = ⊥
+IsMerge rows (CheckEach asked) = ⊥
 IsMerge rows (Describe asked) = ⊥
 IsMerge rows (Table asked) = ⊥
 IsMerge rows (Merge asked) = (string_bytes asked.query ≡ unwrap_or (first_of (codes "query") rows) [])
@@ -216,12 +211,21 @@ abbrev pub IsCheck : List Row → Command → Type 0
 IsCheck rows Sample = ⊥
 IsCheck rows (Merge asked) = ⊥
 IsCheck rows (Rank asked) = ⊥
+IsCheck rows (RankEach asked) = ⊥
 IsCheck rows (Describe asked) = ⊥
 IsCheck rows (Table asked) = ⊥
-IsCheck rows (Check asked) = (string_bytes asked.stations ≡ unwrap_or (first_of (codes "stations") rows) [])
+IsCheck rows (Check asked) = ChecksOne rows
+    × (string_bytes asked.stations ≡ unwrap_or (first_of (codes "stations") rows) [])
     × (string_bytes asked.query ≡ unwrap_or (first_of (codes "query") rows) [])
     × (string_bytes asked.report ≡ unwrap_or (first_of (codes "report") rows) [])
     × (string_bytes asked.certificate ≡ unwrap_or (first_of (codes "certificate") rows) [])
+    × IsFlag (one_of (codes "part") rows) asked.part
+    × AreWorkers (one_of (codes "workers") rows) asked.workers
+    × AreFiles rows asked.files
+IsCheck rows (CheckEach asked) = ChecksEach rows
+    × (string_bytes asked.stations ≡ unwrap_or (first_of (codes "stations") rows) [])
+    × (string_bytes asked.queries ≡ unwrap_or (first_of (codes "queries") rows) [])
+    × (string_bytes asked.papers ≡ unwrap_or (first_of (codes "papers") rows) [])
     × IsFlag (one_of (codes "part") rows) asked.part
     × AreWorkers (one_of (codes "workers") rows) asked.workers
     × AreFiles rows asked.files
@@ -230,8 +234,10 @@ IsCheck rows (Check asked) = (string_bytes asked.stations ≡ unwrap_or (first_o
 abbrev pub IsDescribe : List Row → Command → Type 0
 IsDescribe rows Sample = ⊥
 IsDescribe rows (Rank asked) = ⊥
+IsDescribe rows (RankEach asked) = ⊥
 IsDescribe rows (Merge asked) = ⊥
 IsDescribe rows (Check asked) = ⊥
+IsDescribe rows (CheckEach asked) = ⊥
 IsDescribe rows (Table asked) = ⊥
 IsDescribe rows (Describe asked) = (string_bytes asked.stations ≡ unwrap_or (first_of (codes "stations") rows) [])
     × AreWorkers (one_of (codes "workers") rows) asked.workers
@@ -251,8 +257,10 @@ pub record IsTable (rows : List Row) (asked : TableArguments) : Type 0 where
 abbrev pub IsTabling : List Row → Command → Type 0
 IsTabling rows Sample = ⊥
 IsTabling rows (Rank asked) = ⊥
+IsTabling rows (RankEach asked) = ⊥
 IsTabling rows (Merge asked) = ⊥
 IsTabling rows (Check asked) = ⊥
+IsTabling rows (CheckEach asked) = ⊥
 IsTabling rows (Describe asked) = ⊥
 IsTabling rows (Table asked) = IsTable rows asked
 

@@ -8,8 +8,10 @@ pub enum Command {
     /// Without arguments: the ranking of the texts that are built in.
     Sample,
     Rank(RankArguments),
+    RankEach(RankEachArguments),
     Merge(MergeArguments),
     Check(CheckArguments),
+    CheckEach(CheckEachArguments),
     Describe(DescribeArguments),
     Table(TableArguments),
 }
@@ -28,6 +30,20 @@ pub struct RankArguments {
     pub guess: Option<i64>,
     /// The path of the certificate's file, if a certificate is wanted.
     pub certificate: Option<String>,
+    pub files: NamedFiles,
+}
+
+/// What is ranked at one reading of files: the candidates of each query of a list.
+#[derive(Debug, Drop)]
+pub struct RankEachArguments {
+    /// The path of the station list.
+    pub stations: String,
+    /// The path of the list of queries, one a line. `-` is standard input.
+    pub queries: String,
+    /// The folder for the report and the certificate of each query, if they are wanted.
+    pub papers: Option<String>,
+    /// How many threads may read the files, and then look for records; 1 to 64 may run.
+    pub workers: u64,
     pub files: NamedFiles,
 }
 
@@ -55,6 +71,22 @@ pub struct CheckArguments {
     /// The path of the certificate.
     pub certificate: String,
     /// Whether the files are a part of those that the report and the certificate cover.
+    pub part: bool,
+    /// How many threads may read the files, 1 to 64.
+    pub workers: u64,
+    pub files: NamedFiles,
+}
+
+/// What is checked at one reading of files: the report and the certificate of each query of a list.
+#[derive(Debug, Drop)]
+pub struct CheckEachArguments {
+    /// The path of the station list.
+    pub stations: String,
+    /// The path of the list of queries, one a line. `-` is standard input.
+    pub queries: String,
+    /// The folder with the report and the certificate of each query.
+    pub papers: String,
+    /// Whether the files are a part of those that the reports and the certificates cover.
     pub part: bool,
     /// How many threads may read the files, 1 to 64.
     pub workers: u64,

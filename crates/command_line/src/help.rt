@@ -9,6 +9,16 @@ pub const STATIONS_HELP: &str = "The station list, ghcnd-stations.txt";
 /// The help of `--query`.
 pub const QUERY_HELP: &str = "What to rank, in quotes: 'top 10 highest TMAX'";
 
+/// The help of `--queries` of `rank`.
+pub const QUERIES_HELP: &str =
+    "A list of queries, one on each line, in place of --query. The daily files are read once for all
+          of them, and the reports are printed in the order of the lines. - is standard input";
+
+/// The help of `--papers` of `rank`.
+pub const FOLDER_HELP: &str =
+    "A folder for the report and the certificate of each query of --queries. Those of line N are
+          the files N.report and N.certificate; no file that is there is overwritten";
+
 /// The help of `--guess`.
 pub const GUESS_HELP: &str =
     "A score that the k-th best record should reach, in tenths of a degree or of a
@@ -29,6 +39,19 @@ pub const CERTIFICATE_HELP: &str =
     "A file to write the certificate to: new, empty or an earlier certificate, and not one that
           the run reads. It has a line for each station series of the query, with a bound on the
           series' records";
+
+/// The help of `--query` of `check`.
+pub const CHECKED_QUERY_HELP: &str = "What was ranked, in quotes: 'top 10 highest TMAX'";
+
+/// The help of `--queries` of `check`.
+pub const CHECKED_QUERIES_HELP: &str =
+    "A list of queries, one on each line, in place of --query. The daily files are read once for all
+          of them, and the verdicts are printed in the order of the lines. - is standard input";
+
+/// The help of `--papers` of `check`.
+pub const FOLDER_TO_CHECK_HELP: &str =
+    "The folder with the report and the certificate of each query of --queries. Those of line N
+          are the files N.report and N.certificate";
 
 /// The help of `--certificate` of `merge`.
 pub const MERGED_CERTIFICATE_HELP: &str =
@@ -70,8 +93,10 @@ pub const REPORTS_HELP: &str =
 
 /// The forms of a command line.
 pub const USAGE: &str = "extremes rank --stations <FILE> --query <QUERY> [FILE]...
+       extremes rank --stations <FILE> --queries <FILE> [--papers <FOLDER>] [FILE]...
        extremes merge --query <QUERY> [--certificate <OUT>] [REPORT CERTIFICATE]...
        extremes check [--part] --stations <FILE> --query <QUERY> --report <FILE> --certificate <FILE> [FILE]...
+       extremes check [--part] --stations <FILE> --queries <FILE> --papers <FOLDER> [FILE]...
        extremes describe --stations <FILE> [FILE]...
        extremes table [--stations <FILE>] [REPORT]...
        extremes --version
@@ -80,6 +105,15 @@ pub const USAGE: &str = "extremes rank --stations <FILE> --query <QUERY> [FILE].
        extremes check --help
        extremes describe --help
        extremes table --help";
+
+/// The forms of a command line of `rank`.
+pub const RANK_USAGE: &str = "extremes rank [OPTIONS] --stations <FILE> --query <QUERY> [FILE]...
+       extremes rank [OPTIONS] --stations <FILE> --queries <FILE> [--papers <FOLDER>] [FILE]...";
+
+/// The forms of a command line of `check`.
+pub const CHECK_USAGE: &str =
+    "extremes check [OPTIONS] --stations <FILE> --query <QUERY> --report <FILE> --certificate <FILE> [FILE]...
+       extremes check [OPTIONS] --stations <FILE> --queries <FILE> --papers <FOLDER> [FILE]...";
 
 /// The form of a command line of `merge`.
 pub const MERGE_USAGE: &str =
@@ -100,6 +134,31 @@ pub const NULL_WITHOUT_LIST: &str =
 
 For more information, try '--help'.
 ";
+
+/// What is wrong if `rank` has neither a query nor a list of queries.
+pub const NO_QUERY: &str = "rank needs --query <QUERY>, or --queries <FILE>";
+
+/// What is wrong if there is a folder for reports and certificates, but no list of queries.
+pub const FOLDER_WITHOUT_QUERIES: &str =
+    "--papers names a folder for the reports and certificates of --queries, and --queries names no list";
+
+/// What is wrong if `rank` has a list of queries and an option of the ranking of one query.
+pub const QUERIES_AND_A_QUERY: &str =
+    "--queries cannot be used with --query, --guess or --certificate";
+
+/// What is wrong if `check` has neither all of the check of one query nor a list of queries.
+pub const NO_PAPERS_TO_CHECK: &str =
+    "check needs --query, --report and --certificate, or --queries and --papers";
+
+/// What is wrong if `check` has a list of queries and no folder with reports and certificates.
+pub const NO_FOLDER_TO_CHECK: &str = "--queries needs --papers <FOLDER>";
+
+/// What is wrong if `check` has a list of queries and an option of the check of one query.
+pub const QUERIES_AND_PAPERS: &str =
+    "--queries cannot be used with --query, --report or --certificate";
+
+/// What is wrong if two lists are standard input.
+pub const TWO_INPUTS: &str = "--queries and --files-from cannot both be standard input";
 
 /// The help after the subcommands.
 pub const HELP: &str = "Without arguments, extremes prints the report of a built-in sample.
@@ -141,13 +200,22 @@ Examples:
   extremes rank --stations ghcnd-stations.txt --query 'top 5 sum 3 PRCP country GM' GM*.dly
   extremes rank --stations ghcnd-stations.txt \\
       --query 'top 3 dry box 36 -115 42 -109 from 1991-01-01 to 2020-12-31' US*.dly
+  extremes rank --stations ghcnd-stations.txt --queries queries.txt --papers records ghcnd_all
+
+Lists of queries:
+  Line N of the list of --queries is query N. All queries are read before the station list and the daily
+  files, and an error of query N is followed by 'at FILE:N' on a line of its own. The daily files are
+  read once. The reports are printed in the order of the lines, each as --query prints it. With --papers
+  the report and the certificate of query N are the files N.report and N.certificate in FOLDER, which
+  has to be there. If one of these files is there already, it isn't overwritten, and the run ends before
+  the daily files are read. --guess and --certificate are for --query alone.
 
 Exit statuses:
-  0        done: the report is on standard output
+  0        done: the report, or that of each query, is on standard output
   1        refused: standard error says why
   2        the command line isn't valid, or asks for help
   3        a file, a folder or a list can't be read, a folder has no daily files, a list has no names,
-           or the report or the certificate can't be written
+           or a report or a certificate can't be written
 
 All files are read to the end before an error is reported; an unreadable one is reported first. OUT
 is a file, even if its name is -. 'file not written -' means that standard output can't be written.
@@ -263,10 +331,18 @@ Examples:
       --report report.txt --certificate certificate.txt ghcnd_all
   extremes check --part --stations ghcnd-stations.txt --query 'top 10 highest TMAX' \\
       --report report.txt --certificate certificate.txt GM*.dly
+  extremes check --stations ghcnd-stations.txt --queries queries.txt --papers records ghcnd_all
+
+Lists of queries:
+  Line N of the list of --queries is query N. All queries are read before the station list and the daily
+  files, and an error of query N is followed by 'at FILE:N' on a line of its own. Then each
+  report and certificate is opened; if one can't be, the run ends before the daily files are read. The
+  daily files are read once. Line N of standard output is the verdict on the report and the certificate
+  of query N.
 
 Exit statuses:
-  0        accepted
-  1        refused: the report or the certificate, by a line on standard output, or the input, by
+  0        accepted, each of them
+  1        refused: a report or a certificate, by a line on standard output, or the input, by
            standard error
   2        the command line isn't valid, or asks for help
   3        a file, a folder or a list can't be read, a folder has no daily files, a list has no names,

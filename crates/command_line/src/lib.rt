@@ -4,11 +4,12 @@
 #![tactic(auto)]
 
 mod asked;
+mod given;
 mod help;
 mod words;
 
 pub use asked::{
-    CheckArguments, Command, CommandFault, DescribeArguments, MergeArguments, NamedFiles, Part,
-    RankArguments, TableArguments,
+    CheckArguments, CheckEachArguments, Command, CommandFault, DescribeArguments, MergeArguments,
+    NamedFiles, Part, RankArguments, RankEachArguments, TableArguments,
 };
 pub use words::command;

@@ -1,26 +1,34 @@
 //! Reading the arguments of a command line.
 
-ghost use Rattle.std.specs.Prelude.{◌≡◌, ◌≢◌, IfOk, IfErr, IfSome, IsSomeAnd, [], Ok, map, option_map, unwrap_or, false, string_bytes, length, ◌%◌, codes};
-ghost use Rattle.clap.specs.Words.{app_of, first_of, one_of, kind_of, found_of, rows_of, rule_of, subcommand_rows_of};
+ghost use Rattle.std.specs.Prelude.{◌≡◌, ◌≢◌, ◌↔◌, IfOk, IfErr, IfSome, IsSomeAnd, IsSome, IsNone, [], Ok, map, false, length, ◌%◌, codes};
+ghost use Rattle.clap.specs.Words.{app_of, first_of, kind_of, found_of, rows_of, rule_of, subcommand_rows_of};
 ghost use Rattle.clap.specs.declared.builder.Command.TheViews.{out-Command as fields_of};
 ghost use Rattle.command_line.specs.CommandLine.{extremes_app, rank_app, merge_app, check_app, describe_app, table_app};
 ghost use Rattle.command_line.specs.CommandLine.{option_of, flag_of, required, parsed, many_of, is_global, and_files, few_readers};
-ghost use Rattle.command_line.specs.CommandLine.{all_words, AreRightWords, FitTogether, AreInPairs, HasListIfNull};
+ghost use Rattle.command_line.specs.CommandLine.{all_words, AreRightWords};
 ghost use Rattle.command_line.specs.CommandLine.{IsCommandOf, IsName, IsCommand, IsRank, IsMerge, IsCheck, IsDescribe, IsTable};
-ghost use Rattle.command_line.specs.CommandLine.{AreFiles, IsFlag, or_input, paths_of};
+ghost use Rattle.command_line.specs.CommandLine.{or_input, paths_of};
 ghost use Rattle.command_line.specs.CommandLine.{AskVersion, MayAskVersion, TellsVersion, OnVersion};
+ghost use Rattle.command_line.specs.Fitting.{FitTogether, FitToRank, FitToCheck, AreInPairs, HasListIfNull};
 ghost use Rattle.command_line.specs.declared.asked.Command.TheVariants as commands;
 ghost use Rattle.command_line.specs.declared.asked.CommandFault.TheVariants as faults;
 
 use crate::asked::{
-    CheckArguments, Command, CommandFault, DescribeArguments, MergeArguments, NamedFiles, Part,
-    RankArguments, TableArguments,
+    CheckArguments, CheckEachArguments, Command, CommandFault, DescribeArguments, MergeArguments,
+    NamedFiles, Part, RankArguments, RankEachArguments, TableArguments,
+};
+use crate::given::{
+    are_both_input, copies, copy, files_of, has_all_of_one_check, has_part_of_one_check,
+    has_part_of_one_ranking, has_value, is_given, misfit, text,
 };
 use crate::help::{
-    CERTIFICATE_HELP, CHECK_HELP, DESCRIBE_HELP, FILES_HELP, GUESS_HELP, HELP, LIST_HELP,
-    MERGE_HELP, MERGE_USAGE, MERGED_CERTIFICATE_HELP, NULL_HELP, NULL_WITHOUT_LIST, ODD_PAPERS,
-    PAPERS_HELP, PART_HELP, PLACES_HELP, PROGRESS_HELP, QUERY_HELP, RANK_HELP, READERS_HELP,
-    REPORTS_HELP, STATIONS_HELP, TABLE_HELP, USAGE, VERSION, WORKERS_HELP,
+    CERTIFICATE_HELP, CHECK_HELP, CHECK_USAGE, CHECKED_QUERIES_HELP, CHECKED_QUERY_HELP,
+    DESCRIBE_HELP, FILES_HELP, FOLDER_HELP, FOLDER_TO_CHECK_HELP, FOLDER_WITHOUT_QUERIES,
+    GUESS_HELP, HELP, LIST_HELP, MERGE_HELP, MERGE_USAGE, MERGED_CERTIFICATE_HELP,
+    NO_FOLDER_TO_CHECK, NO_PAPERS_TO_CHECK, NO_QUERY, NULL_HELP, ODD_PAPERS, PAPERS_HELP,
+    PART_HELP, PLACES_HELP, PROGRESS_HELP, QUERIES_AND_A_QUERY, QUERIES_AND_PAPERS, QUERIES_HELP,
+    QUERY_HELP, RANK_HELP, RANK_USAGE, READERS_HELP, REPORTS_HELP, STATIONS_HELP, TABLE_HELP,
+    TWO_INPUTS, USAGE, VERSION, WORKERS_HELP,
 };
 use clap::builder::ValueParser;
 use clap::error::ErrorKind;
@@ -152,10 +160,13 @@ fn rank_words<'a>(alloc: Global) -> Result<clap::Command<'a>, AllocError>
     let workers = option(alloc, "workers", "N", WORKERS_HELP).value_parser(value_parser!(u64));
     let guess = option(alloc, "guess", "SCORE", GUESS_HELP).value_parser(value_parser!(i64));
     let rank = clap::Command::new(alloc, "rank")
-        .about("Prints the k best records of a query")
+        .about("Prints the k best records of a query, or those of each query of a list")
+        .override_usage(RANK_USAGE)
         .after_help(RANK_HELP)
         .arg(needed(alloc, "stations", "FILE", STATIONS_HELP))?
-        .arg(needed(alloc, "query", "QUERY", QUERY_HELP))?
+        .arg(option(alloc, "query", "QUERY", QUERY_HELP))?
+        .arg(option(alloc, "queries", "FILE", QUERIES_HELP))?
+        .arg(option(alloc, "papers", "FOLDER", FOLDER_HELP))?
         .arg(workers)?
         .arg(guess)?
         .arg(option(alloc, "certificate", "OUT", CERTIFICATE_HELP))?;
@@ -182,12 +193,15 @@ fn check_words<'a>(alloc: Global) -> Result<clap::Command<'a>, AllocError>
     ensures local { IfOk result (λ c. (fields_of c).has_globals ≡ false) }
 {
     let check = clap::Command::new(alloc, "check")
-        .about("Checks a report and a certificate, whatever program made them")
+        .about("Checks reports and certificates, whatever program made them")
+        .override_usage(CHECK_USAGE)
         .after_help(CHECK_HELP)
         .arg(needed(alloc, "stations", "FILE", STATIONS_HELP))?
-        .arg(needed(alloc, "query", "QUERY", QUERY_HELP))?
-        .arg(needed(alloc, "report", "FILE", "The report"))?
-        .arg(needed(alloc, "certificate", "FILE", "The certificate"))?
+        .arg(option(alloc, "query", "QUERY", CHECKED_QUERY_HELP))?
+        .arg(option(alloc, "report", "FILE", "The report"))?
+        .arg(option(alloc, "certificate", "FILE", "The certificate"))?
+        .arg(option(alloc, "queries", "FILE", CHECKED_QUERIES_HELP))?
+        .arg(option(alloc, "papers", "FOLDER", FOLDER_TO_CHECK_HELP))?
         .arg(flag(alloc, "part", PART_HELP))?
         .arg(readers(alloc))?;
     with_files(alloc, check)
@@ -285,12 +299,32 @@ fn many<'a>(alloc: Global, name: &'a str, value: &'a str, help: &'a str) -> Arg<
         .action(ArgAction::Append)
 }
 
-/// The command that the matches of `rank` name, or the error of `--null` without a list.
+/// The command that the matches of `rank` name, or the error of options that don't fit together.
 fn rank_of(alloc: Global, matches: &ArgMatches) -> Result<Command, CommandFault>
     ensures ok { IfOk result (IsRank (rows_of (found_of matches.now))) }
-    ensures listed { HasListIfNull (rows_of (found_of matches.now)) → IfErr result (λ f. f ≡ faults.Memory) }
+    ensures fit { FitToRank (rows_of (found_of matches.now)) → IfErr result (λ f. f ≡ faults.Memory) }
     ensures asked { IfErr result (OnVersion ⊥) }
 {
+    if has_value(matches, "queries") {
+        rank_each_of(alloc, matches)
+    } else {
+        rank_one_of(alloc, matches)
+    }
+}
+
+/// The command of `rank` without a list of queries.
+fn rank_one_of(alloc: Global, matches: &ArgMatches) -> Result<Command, CommandFault>
+    requires { IsNone (first_of (codes "queries") (rows_of (found_of matches.now))) }
+    ensures ok { IfOk result (IsRank (rows_of (found_of matches.now))) }
+    ensures fit { FitToRank (rows_of (found_of matches.now)) → IfErr result (λ f. f ≡ faults.Memory) }
+    ensures asked { IfErr result (OnVersion ⊥) }
+{
+    if !has_value(matches, "query") {
+        return Err(misfit(alloc, NO_QUERY, RANK_USAGE));
+    }
+    if has_value(matches, "papers") {
+        return Err(misfit(alloc, FOLDER_WITHOUT_QUERIES, RANK_USAGE));
+    }
     let files = files_of(alloc, matches)?;
     Ok(Command::Rank(RankArguments {
         stations: text(alloc, matches, "stations")?,
@@ -298,6 +332,29 @@ fn rank_of(alloc: Global, matches: &ArgMatches) -> Result<Command, CommandFault>
         workers: matches.get_one("workers").unwrap_or(WORKERS),
         guess: matches.get_one("guess"),
         certificate: copy(alloc, matches.get_str("certificate"))?,
+        files,
+    }))
+}
+
+/// The command of `rank` with a list of queries.
+fn rank_each_of(alloc: Global, matches: &ArgMatches) -> Result<Command, CommandFault>
+    requires { IsSome (first_of (codes "queries") (rows_of (found_of matches.now))) }
+    ensures ok { IfOk result (IsRank (rows_of (found_of matches.now))) }
+    ensures fit { FitToRank (rows_of (found_of matches.now)) → IfErr result (λ f. f ≡ faults.Memory) }
+    ensures asked { IfErr result (OnVersion ⊥) }
+{
+    if has_part_of_one_ranking(matches) {
+        return Err(misfit(alloc, QUERIES_AND_A_QUERY, RANK_USAGE));
+    }
+    if are_both_input(matches) {
+        return Err(misfit(alloc, TWO_INPUTS, RANK_USAGE));
+    }
+    let files = files_of(alloc, matches)?;
+    Ok(Command::RankEach(RankEachArguments {
+        stations: text(alloc, matches, "stations")?,
+        queries: text(alloc, matches, "queries")?,
+        papers: copy(alloc, matches.get_str("papers"))?,
+        workers: matches.get_one("workers").unwrap_or(WORKERS),
         files,
     }))
 }
@@ -319,18 +376,65 @@ fn merge_of(alloc: Global, matches: &ArgMatches) -> Result<Command, CommandFault
     }))
 }
 
-/// The command that the matches of `check` name, or the error of `--null` without a list.
+/// The command that the matches of `check` name, or the error of options that don't fit together.
 fn check_of(alloc: Global, matches: &ArgMatches) -> Result<Command, CommandFault>
     ensures ok { IfOk result (IsCheck (rows_of (found_of matches.now))) }
-    ensures listed { HasListIfNull (rows_of (found_of matches.now)) → IfErr result (λ f. f ≡ faults.Memory) }
+    ensures fit { FitToCheck (rows_of (found_of matches.now)) → IfErr result (λ f. f ≡ faults.Memory) }
     ensures asked { IfErr result (OnVersion ⊥) }
 {
+    if has_value(matches, "queries") {
+        check_each_of(alloc, matches)
+    } else {
+        check_one_of(alloc, matches)
+    }
+}
+
+/// The command of `check` without a list of queries.
+fn check_one_of(alloc: Global, matches: &ArgMatches) -> Result<Command, CommandFault>
+    requires { IsNone (first_of (codes "queries") (rows_of (found_of matches.now))) }
+    ensures ok { IfOk result (IsCheck (rows_of (found_of matches.now))) }
+    ensures fit { FitToCheck (rows_of (found_of matches.now)) → IfErr result (λ f. f ≡ faults.Memory) }
+    ensures asked { IfErr result (OnVersion ⊥) }
+{
+    if !has_all_of_one_check(matches) {
+        return Err(misfit(alloc, NO_PAPERS_TO_CHECK, CHECK_USAGE));
+    }
+    if has_value(matches, "papers") {
+        return Err(misfit(alloc, FOLDER_WITHOUT_QUERIES, CHECK_USAGE));
+    }
     let files = files_of(alloc, matches)?;
     Ok(Command::Check(CheckArguments {
         stations: text(alloc, matches, "stations")?,
         query: text(alloc, matches, "query")?,
         report: text(alloc, matches, "report")?,
         certificate: text(alloc, matches, "certificate")?,
+        part: is_given(matches, "part"),
+        workers: matches.get_one("workers").unwrap_or(WORKERS),
+        files,
+    }))
+}
+
+/// The command of `check` with a list of queries.
+fn check_each_of(alloc: Global, matches: &ArgMatches) -> Result<Command, CommandFault>
+    requires { IsSome (first_of (codes "queries") (rows_of (found_of matches.now))) }
+    ensures ok { IfOk result (IsCheck (rows_of (found_of matches.now))) }
+    ensures fit { FitToCheck (rows_of (found_of matches.now)) → IfErr result (λ f. f ≡ faults.Memory) }
+    ensures asked { IfErr result (OnVersion ⊥) }
+{
+    if has_part_of_one_check(matches) {
+        return Err(misfit(alloc, QUERIES_AND_PAPERS, CHECK_USAGE));
+    }
+    if !has_value(matches, "papers") {
+        return Err(misfit(alloc, NO_FOLDER_TO_CHECK, CHECK_USAGE));
+    }
+    if are_both_input(matches) {
+        return Err(misfit(alloc, TWO_INPUTS, CHECK_USAGE));
+    }
+    let files = files_of(alloc, matches)?;
+    Ok(Command::CheckEach(CheckEachArguments {
+        stations: text(alloc, matches, "stations")?,
+        queries: text(alloc, matches, "queries")?,
+        papers: text(alloc, matches, "papers")?,
         part: is_given(matches, "part"),
         workers: matches.get_one("workers").unwrap_or(WORKERS),
         files,
@@ -370,61 +474,6 @@ fn or_input<'a>(paths: &'a [&'a str]) -> &'a [&'a str]
         [] => &["-"],
         paths => paths,
     }
-}
-
-/// The daily files that the matches of a subcommand name, or the error of `--null` without a list.
-fn files_of(alloc: Global, matches: &ArgMatches) -> Result<NamedFiles, CommandFault>
-    ensures ok { IfOk result (AreFiles (rows_of (found_of matches.now))) }
-    ensures listed { HasListIfNull (rows_of (found_of matches.now)) → IfErr result (λ f. f ≡ faults.Memory) }
-    ensures asked { IfErr result (OnVersion ⊥) }
-{
-    let list = matches.get_str("files-from");
-    let null = is_given(matches, "null");
-    if null && list.is_none() {
-        return Err(CommandFault::Words(String::from_str(alloc, NULL_WITHOUT_LIST)?));
-    }
-    Ok(NamedFiles {
-        paths: copies(alloc, matches.get_strs("files").unwrap_or(&[]))?,
-        list: copy(alloc, list)?,
-        null,
-        progress: is_given(matches, "progress"),
-    })
-}
-
-/// Whether a flag is given.
-fn is_given(matches: &ArgMatches, flag: &str) -> bool
-    ensures { IsFlag (one_of flag.now (rows_of (found_of matches.now))) result }
-{
-    matches.get_one(flag).unwrap_or(false)
-}
-
-/// The text that is given under a name, or the empty text.
-fn text(alloc: Global, matches: &ArgMatches, name: &str) -> Result<String, AllocError>
-    ensures { IfOk result (λ text. string_bytes text
-        ≡ unwrap_or (first_of name.now (rows_of (found_of matches.now))) []) }
-{
-    String::from_str(alloc, matches.get_str(name).unwrap_or(""))
-}
-
-/// The same text, owned, if there is one.
-fn copy(alloc: Global, text: Option<&str>) -> Result<Option<String>, AllocError>
-    ensures { IfOk result (λ copy. option_map (λ s. string_bytes s) copy ≡ option_map (λ s. s.now) text.entry) }
-{
-    match text {
-        None => Ok(None),
-        Some(text) => Ok(Some(String::from_str(alloc, text)?)),
-    }
-}
-
-/// The same texts, owned.
-fn copies(alloc: Global, texts: &[&str]) -> Result<Vec<String>, AllocError>
-    ensures { IfOk result (λ copies. map (λ s. string_bytes s) copies.items ≡ map (λ s. s.now) texts.now) }
-{
-    let mut copies = Vec::new(alloc);
-    for text in texts {
-        copies.push(String::from_str(alloc, text)?)?;
-    }
-    Ok(copies)
 }
 
 /// The parts whose reports and certificates these are, two of each part.

@@ -20,9 +20,15 @@ pub const NO_NAMES: &str = "a folder without .dly files, or a list without names
 /// What is wrong with a folder or a list of daily files that has a name which isn't UTF-8.
 pub const NOT_TEXT: &str = "a name in it isn't UTF-8 text";
 
+/// What is wrong with a list of queries that has a line which isn't UTF-8.
+pub const LINE_NOT_TEXT: &str = "a line in it isn't UTF-8 text";
+
 /// What is wrong with a file that a certificate can't be written to.
 pub const IN_USE: &str =
     "this run reads it or prints to it, or it holds something other than a certificate";
+
+/// What is wrong with a file that a run was to make.
+pub const THERE: &str = "it is there already, and nothing is written over it";
 
 /// What it means that a file isn't written.
 pub const UNWRITTEN: &str =

@@ -13,7 +13,8 @@ use crate::explanation::Explanation;
 use crate::input::{Given, of_input, of_query};
 use crate::merge::of_merge;
 use crate::notice::{
-    COMPRESSED, FOREIGN, IN_USE, NO_MEMORY, NO_NAMES, NOT_TEXT, ODD, UNLISTED, UNWRITTEN,
+    COMPRESSED, FOREIGN, IN_USE, LINE_NOT_TEXT, NO_MEMORY, NO_NAMES, NOT_TEXT, ODD, THERE,
+    UNLISTED, UNWRITTEN,
 };
 use crate::table::of_table;
 use command_line::Part;
@@ -164,12 +165,28 @@ impl ForPeople {
         }
     }
 
+    /// Explains that a list of queries isn't text.
+    pub fn explain_not_text(&mut self, alloc: Global, path: &str)
+        ensures { Adds self.old self.new (Some (file_text path.now
+            (codes "a line in it isn't UTF-8 text"))) }
+    {
+        self.explain_file(alloc, path, LINE_NOT_TEXT);
+    }
+
     /// Explains that a certificate's file is in use.
     pub fn explain_use(&mut self, alloc: Global, path: &str)
         ensures { Adds self.old self.new (Some (file_text path.now
             (codes "this run reads it or prints to it, or it holds something other than a certificate"))) }
     {
         self.explain_file(alloc, path, IN_USE);
+    }
+
+    /// Explains that a file is there which a run was to make.
+    pub fn explain_there(&mut self, alloc: Global, path: &str)
+        ensures { Adds self.old self.new (Some (file_text path.now
+            (codes "it is there already, and nothing is written over it"))) }
+    {
+        self.explain_file(alloc, path, THERE);
     }
 
     /// Explains that a file wasn't written whole.

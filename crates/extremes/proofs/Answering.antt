@@ -72,7 +72,7 @@ accepted_right q c report certificate v reports certificates asked right accepte
     (λ is. are.0 (accepted.0 is), λ is. accepted.1 (are.1 is))
 
 -- a report and a certificate are right for what a query needs of some data if and only if they are for these data
-right_for : (query : Asked) (dataset whole : Contents) (report certificate : List ℕ) → RightReportStays
+pub right_for : (query : Asked) (dataset whole : Contents) (report certificate : List ℕ) → RightReportStays
     → RightCertificateStays → dataset ≡ data_for query whole
     → AreRightTextsFor query dataset report certificate ↔ AreRightTextsFor query whole report certificate
 right_for query dataset whole report certificate reports certificates needed =
@@ -149,7 +149,7 @@ judges_part t query dataset report certificate v verdicts holds is = record {
 }
 
 -- a report and a certificate that are right for what a query needs of some data are right for these data
-papers_for : (query : Asked) (dataset whole : Contents) (papers : Papers) → RightReportStays → RightCertificateStays
+pub papers_for : (query : Asked) (dataset whole : Contents) (papers : Papers) → RightReportStays → RightCertificateStays
     → dataset ≡ data_for query whole → AreRightFor query dataset papers → AreRightFor query whole papers
 papers_for query dataset whole papers reports certificates needed are =
     let of : AreRightFor query (data_for query whole) papers =
@@ -171,14 +171,14 @@ right_papers query dataset papers reports certificates asked right are = record 
 }
 
 -- a certificate with the bounds of what a query needs of some data has those of these data
-measured_for : (query : Asked) (dataset whole : Contents) (bytes : List ℕ) → MeasuredStays
+pub measured_for : (query : Asked) (dataset whole : Contents) (bytes : List ℕ) → MeasuredStays
     → dataset ≡ data_for query whole
     → IsMeasuredCertificate query dataset bytes → IsMeasuredCertificate query whole bytes
 measured_for query dataset whole bytes certificates needed is =
     (certificates query whole bytes).0 (subst (λ (h : Contents). IsMeasuredCertificate query h bytes) needed is)
 
 -- a report and a certificate that are right for a query and the data of files are right for what the files say
-right_said : ReportsAreSaid → CertificatesAreSaid → (query : Asked) (stations : List Station) (files : List (List ℕ))
+pub right_said : ReportsAreSaid → CertificatesAreSaid → (query : Asked) (stations : List Station) (files : List (List ℕ))
     (dataset : Contents) (papers : Papers) → data_of stations files ≡ Ok dataset → AreRightFor query dataset papers
     → AreRight query stations files papers
 right_said reports certificates query stations files dataset papers is are = record {
@@ -220,7 +220,7 @@ plan_of q stations series = record {
 }
 
 -- the plan of what a query needs of some data is that of these data
-plan_for : (q : Asked) (dataset whole : Contents) → MorselsStay → dataset ≡ data_for q whole
+pub plan_for : (q : Asked) (dataset whole : Contents) → MorselsStay → dataset ≡ data_for q whole
     → planned q dataset ≡ planned q whole
 plan_for q dataset whole stay needed =
     ap (planned q) needed ∙ ap (plan_of q whole.stations) (stay q whole)

@@ -22,7 +22,7 @@ module _ {X : Type 0} (P : X → Type 0) where
   any-here xs i x lt at is = (i, x, lt, at, is)
 
   -- as many as there are, or more, are all
-  take-whole : (xs : List X) (i : ℕ) → length xs ≤ i → take i xs ≡ xs
+  pub take-whole : (xs : List X) (i : ℕ) → length xs ≤ i → take i xs ≡ xs
   take-whole [] zero le = refl
   take-whole [] (suc i) le = refl
   take-whole (x ∷ xs) zero le = absurd (omega arith)

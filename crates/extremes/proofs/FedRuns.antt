@@ -161,7 +161,7 @@ describes-files bytes_of opens d t keep list stations answer same_list whole tak
     }
 
 -- there are files whose bytes are all of those that are known
-some_files : (known : List (Option (List ℕ))) → (files : List (List ℕ)) × AreFilesOf known files
+pub some_files : (known : List (Option (List ℕ))) → (files : List (List ℕ)) × AreFilesOf known files
 some_files [] = ([], tt)
 some_files (None ∷ ks) = let rest = some_files ks in ([] ∷ rest.0, (tt, rest.1))
 some_files (Some bytes ∷ ks) = let rest = some_files ks in (bytes ∷ rest.0, (refl, rest.1))

@@ -5,6 +5,12 @@ pub mod PrintedLines
 pub mod Examples
 pub mod PlanAnswers
 pub mod Answering
+pub mod PaperPaths
+pub mod Puttings
+pub mod EachRanked
+pub mod EachAnswers
+pub mod EachPrinting
+pub mod EachRuns
 pub mod FedRuns
 pub mod PartsRead
 pub mod ReportsRead
@@ -12,3 +18,7 @@ pub mod Readings
 pub mod RankedParts
 pub mod SerialPapers
 pub mod JudgedParts
+pub mod JudgeEachPapers
+pub mod JudgeEachAnswers
+pub mod JudgeEachRuns
+pub mod JudgeEachPrinting

@@ -251,7 +251,7 @@ other-place arguments paths fault are same is = place-by arguments paths fault a
     ∙ ap (λ (b : Bool). if b then [] else place_lines paths fault) is
 
 -- the text of a place, from its end
-place-nested : (line : ℕ) (path : List ℕ)
+pub place-nested : (line : ℕ) (path : List ℕ)
     → place_text line path ≡ codes "at " ++ (shown_text path ++ (codes ":" ++ decimal line))
 place-nested line path = append_assoc (codes "at " ++ shown_text path) (codes ":") (decimal line)
     ∙ append_assoc (codes "at ") (shown_text path) (codes ":" ++ decimal line)

@@ -9,10 +9,11 @@ use Rattle.command_line.specs.declared.asked.NamedFiles.{NamedFiles}
 use Rattle.command_line.specs.declared.asked.Part.{Part}
 use Rattle.command_line.specs.declared.asked.RankArguments.{RankArguments}
 use Rattle.command_line.specs.declared.asked.TableArguments.{TableArguments}
-use Rattle.command_line.specs.declared.asked.Command.TheVariants.{Sample, Rank, Merge, Check, Describe, Table}
+use Rattle.command_line.specs.declared.asked.Command.TheVariants.{Sample, Rank, RankEach, Merge, Check, CheckEach}
+use Rattle.command_line.specs.declared.asked.Command.TheVariants.{Describe, Table}
 use Rattle.ghcn_series.specs.declared.counts.Warnings.{Warnings}
 use Rattle.rank_input.specs.declared.fault.Fault.{Fault}
-use Rattle.rank_input.specs.Feeding.{Opening, StopsAt}
+use Rattle.rank_input.specs.Feeding.{Opening}
 use Rattle.extremes.specs.declared.papers.Papers.{Papers}
 use Rattle.extremes.specs.declared.judgement.Judgement.{Judgement}
 use Rattle.extremes.specs.declared.merge.MergingFault.{MergingFault}
@@ -20,9 +21,11 @@ use Rattle.extremes.specs.declared.table.TableText.{TableText}
 use Rattle.extremes.specs.declared.table.TablingFault.{TablingFault}
 use Rattle.extremes.specs.declared.ending.Ending.{Ending}
 use Rattle.extremes.specs.declared.ending.Ending.TheVariants.{File}
+use Rattle.extremes.specs.EachRuns.{IsRankEachRun}
 use Rattle.extremes.specs.Environments.{Environment, Folders}
-use Rattle.extremes.specs.Messages.{Line, Streams, input_lines, not_read_line, not_written_line, only_line, warning_lines}
-use Rattle.extremes.specs.NamedRuns.{EndsUnnamed, RunsOver, arguments_of, list_of}
+use Rattle.extremes.specs.JudgeEachRuns.{IsCheckEachRun}
+use Rattle.extremes.specs.Messages.{Line, Streams, input_lines, not_written_line, only_line, warning_lines}
+use Rattle.extremes.specs.NamedRuns.{EndsAtAFile, EndsUnnamed, RunsOver, arguments_of, list_of}
 use Rattle.extremes.specs.Targets.{Holding, IsInUse, IsPaperOrOutput, PutsNothing, Sharing}
 use Rattle.extremes.specs.FaultTexts.{tabling_line}
 use Rattle.extremes.specs.Printed.{IsPrinted, IsTold, IsTextShown, IsTableShown}
@@ -35,15 +38,6 @@ use Rattle.extremes.specs.declared.files.Ranking.{Ranking}
 use Rattle.extremes.specs.declared.files.Judging.{Judging}
 use Rattle.extremes.specs.Merges.{Known, parts_paths, MergesFiles}
 use Rattle.extremes.specs.Tables.{TablesFiles, tabling_paths}
-
--- of the files that are named one can't be read, those before it were opened, and nothing is printed but a line on
--- standard error that names it
-pub record EndsAtAFile (opens : Opening) (s : Streams) (paths : List (List ℕ)) (ending : Ending) : Type 0 where
-  pub path : List ℕ
-  pub stops : StopsAt opens paths path
-  pub ends : ending ≡ File
-  pub unprinted : s.after ≡ s.before
-  pub said : s.says (not_read_line path ∷ [])
 
 -- whether the file of a path may be found to be in use, and whether it may be found not to be
 abbrev pub Using : Type 1
@@ -189,9 +183,12 @@ IsDescribingRun bytes_of opens names_of line s asked ending =
 abbrev pub IsCommandRun : Environment → Command → Ending → Type 0
 IsCommandRun e Sample ending = PrintsSample e ending
 IsCommandRun e (Rank asked) ending = IsRankingRun e asked ending
+IsCommandRun e (RankEach asked) ending = IsRankEachRun e asked ending
 IsCommandRun e (Merge asked) ending = IsMergingRun e asked ending
 IsCommandRun e (Check asked) ending =
     PutsNothing e.puts × IsJudgingRun e.bytes_of e.opens e.names_of e.line e.streams asked ending
+IsCommandRun e (CheckEach asked) ending =
+    PutsNothing e.puts × IsCheckEachRun e.bytes_of e.opens e.names_of e.line e.streams asked ending
 IsCommandRun e (Describe asked) ending =
     PutsNothing e.puts × IsDescribingRun e.bytes_of e.opens e.names_of e.line e.streams asked ending
 IsCommandRun e (Table asked) ending =

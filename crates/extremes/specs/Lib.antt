@@ -3,6 +3,10 @@ pub mod Ending
 pub mod Messages
 pub mod People
 pub mod Printed
+pub mod Each
+pub mod PapersFolder
+pub mod EachPrinted
+pub mod EachRuns
 pub mod Delivered
 pub mod Targets
 pub mod Judged
@@ -10,6 +14,9 @@ pub mod JudgedInParts
 pub mod Merges
 pub mod Tables
 pub mod Runs
+pub mod PaperPaths
+pub mod JudgeEach
+pub mod JudgeEachRuns
 pub mod Describes
 pub mod RankedInParts
 pub mod Environments

@@ -5,14 +5,14 @@ use Rattle.command_line.specs.declared.asked.NamedFiles.{NamedFiles}
 use Rattle.rank_input.specs.declared.named.NotNamed.{NotNamed}
 use Rattle.rank_input.specs.declared.named.NotNamed.TheVariants.{Unreadable, Empty, NotText, Memory}
 use Rattle.rank_input.specs.declared.fault.Fault.{Fault}
-use Rattle.rank_input.specs.Feeding.{Opening}
+use Rattle.rank_input.specs.Feeding.{Opening, StopsAt}
 use Rattle.rank_input.specs.Named.{StandFor}
 use Rattle.rank_input.specs.NamingStops.{StopsNaming}
 use Rattle.extremes.specs.declared.ending.Ending.{Ending}
 use Rattle.extremes.specs.declared.ending.Ending.TheVariants.{File, Refused}
 use Rattle.extremes.specs.Environments.{Folders}
 use Rattle.extremes.specs.Merges.{Known}
-use Rattle.extremes.specs.Messages.{Line, Streams, naming_line}
+use Rattle.extremes.specs.Messages.{Line, Streams, naming_line, not_read_line}
 
 -- the paths of daily files
 abbrev pub Paths : Type 0
@@ -58,3 +58,12 @@ pub record RunsOver (bytes_of : Known) (opens : Opening) (names_of : Folders) (f
   pub paths : Paths
   pub stand : StandForNamed bytes_of opens names_of files paths
   pub ran : runs paths ending
+
+-- of the files that are named one can't be read, those before it were opened, and nothing is printed but a line on
+-- standard error that names it
+pub record EndsAtAFile (opens : Opening) (s : Streams) (paths : List (List ℕ)) (ending : Ending) : Type 0 where
+  pub path : List ℕ
+  pub stops : StopsAt opens paths path
+  pub ends : ending ≡ File
+  pub unprinted : s.after ≡ s.before
+  pub said : s.says (not_read_line path ∷ [])

@@ -1,8 +1,8 @@
--- Which files a certificate may go to, and what is put into them.
+-- Which files reports and certificates may go to, and what is put into them.
 use Rattle.std.specs.Prelude.{◌≡◌, ◌⊎◌, ℕ, Bool, true, false, List, [], Option, None, Some, codes, ⊤}
 use Rattle.std.specs.Prelude.{String, string_bytes}
 use Rattle.std.specs.Io.KnownBytes.{Appends}
-use Rattle.std.specs.List.{All, Any}
+use Rattle.std.specs.List.{All, Any, FoldsTo}
 use Rattle.command_line.specs.declared.asked.Part.{Part}
 use Rattle.rank_input.specs.Named.{list_path}
 use Rattle.extremes.specs.Delivered.{HasBeginning}
@@ -103,3 +103,30 @@ Putting = Option (List ℕ) → List ℕ → Bool → Type 0
 -- no file is opened for a certificate, and nothing is written to one
 abbrev pub PutsNothing : Putting → Type 0
 PutsNothing puts = puts None [] true
+
+-- a file: its path, and its bytes
+abbrev pub NewFile : Type 0
+NewFile = List ℕ × List ℕ
+
+-- new files were made one after the other, and each was given its bytes and nothing else
+abbrev pub ArePutWhole : {T : Type 0} → TargetOpening T → Abandoning T → Given T → T → List NewFile → T → Type 0
+ArePutWhole creates abandons contents =
+    FoldsTo (λ before file after. IsPut creates abandons contents before after (Some file.0) file.1 true)
+
+-- so they were, until one wasn't made, or was given a beginning of its bytes and abandoned
+pub record ArePutUntil {T : Type 0} (creates : TargetOpening T) (abandons : Abandoning T) (contents : Given T)
+    (before : T) (files : List NewFile) (failed : NewFile) (after : T) : Type 0 where
+  pub between : T
+  pub whole : ArePutWhole creates abandons contents before files between
+  pub failing : IsPut creates abandons contents between after (Some failed.0) failed.1 false
+
+-- new files were put whole, in order, and then another one wasn't, if there is one
+abbrev pub ArePut : {T : Type 0} → TargetOpening T → Abandoning T → Given T → T → T → List NewFile → Option NewFile
+    → Type 0
+ArePut creates abandons contents before after files None = ArePutWhole creates abandons contents before files after
+ArePut creates abandons contents before after files (Some failed) =
+    ArePutUntil creates abandons contents before files failed after
+
+-- which files are put whole, in order, and which one after them isn't, if there is one
+abbrev pub Storing : Type 1
+Storing = List NewFile → Option NewFile → Type 0

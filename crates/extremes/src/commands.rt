@@ -7,7 +7,7 @@ ghost use Rattle.extremes.specs.Environments.{environment};
 ghost use Rattle.extremes.specs.FaultTexts.{fault_line, merging_line, tabling_line};
 ghost use Rattle.extremes.specs.Messages.{ArePrintedLines, naming_line, streams};
 ghost use Rattle.extremes.specs.NamedRuns.{StandForNamed, StopsNamed, naming_ending};
-ghost use Rattle.extremes.specs.Targets.{IsPut};
+ghost use Rattle.extremes.specs.Targets.{ArePut, IsPut};
 
 use crate::ending::Ending;
 use crate::explained::{
@@ -53,7 +53,8 @@ pub(crate) fn run_ranking<
 ) -> Ending
     ensures { IsRankingRun (environment (A.bytes_of archive.now) (A.opens archive.now) (A.names_of archive.now)
         (T.one_file target.old) (T.other_text target.old)
-        (IsPut T.opens T.abandons T.contents target.old target.new)
+        (IsPut T.opens T.abandons T.contents target.old target.new) (T.exists target.old)
+        (ArePut T.creates T.abandons T.contents target.old target.new)
         fault_line merging_line
         (streams (ArePrintedLines M.prints messages.old messages.new) (W.contents out.old) (W.contents out.new)))
         asked result }
@@ -111,7 +112,8 @@ fn rank_named<
 ) -> Ending
     ensures { RunsRanking (environment (A.bytes_of archive.now) (A.opens archive.now) (A.names_of archive.now)
         (T.one_file target.old) (T.other_text target.old)
-        (IsPut T.opens T.abandons T.contents target.old target.new)
+        (IsPut T.opens T.abandons T.contents target.old target.new) (T.exists target.old)
+        (ArePut T.creates T.abandons T.contents target.old target.new)
         fault_line merging_line
         (streams (ArePrintedLines M.prints messages.old messages.new) (W.contents out.old) (W.contents out.new)))
         ranking.now named.now (option_map string_bytes certificate.now) result }
@@ -153,7 +155,8 @@ pub(crate) fn run_merging<A: Archive, M: Messages, T: Target, W: Write>(
 ) -> Ending
     ensures { IsMergingRun (environment (A.bytes_of archive.now) (A.opens archive.now) (A.names_of archive.now)
         (T.one_file target.old) (T.other_text target.old)
-        (IsPut T.opens T.abandons T.contents target.old target.new)
+        (IsPut T.opens T.abandons T.contents target.old target.new) (T.exists target.old)
+        (ArePut T.creates T.abandons T.contents target.old target.new)
         fault_line merging_line
         (streams (ArePrintedLines M.prints messages.old messages.new) (W.contents out.old) (W.contents out.new)))
         asked.now result }
@@ -359,7 +362,7 @@ pub(crate) fn run_tabling<A: Archive, M: Messages, W: Write>(
 }
 
 /// The paths of the daily files that a command names.
-fn daily_files<A: Archive>(
+pub(crate) fn daily_files<A: Archive>(
     alloc: Global,
     archive: &A,
     named: &NamedFiles,
@@ -374,7 +377,7 @@ fn daily_files<A: Archive>(
 }
 
 /// The paths of daily files, and the arguments that name them.
-fn daily_paths<'p>(files: &'p [String], named: &'p NamedFiles) -> DailyPaths<'p>
+pub(crate) fn daily_paths<'p>(files: &'p [String], named: &'p NamedFiles) -> DailyPaths<'p>
     ensures paths { result.paths.now ≡ files.now }
     ensures arguments { result.arguments.now ≡ named.now.paths.items }
 {
@@ -392,7 +395,7 @@ fn path_of(named: &Option<String>) -> Option<&str>
 }
 
 /// Prints why the daily files of a command can't be named, and explains it.
-fn unnamed<A: Archive, M: Messages>(
+pub(crate) fn unnamed<A: Archive, M: Messages>(
     alloc: Global,
     archive: &A,
     why: &NotNamed,

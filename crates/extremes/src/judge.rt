@@ -116,7 +116,7 @@ pub fn judge_intake(
 }
 
 /// Checks a report and a certificate of a query against some data.
-fn judge_dataset(
+pub(crate) fn judge_dataset(
     alloc: Global,
     dataset: &Data,
     query: &Query,

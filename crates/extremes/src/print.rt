@@ -107,7 +107,11 @@ pub(crate) fn refused<M: Messages, F: Display + Drop>(messages: &mut M, fault: F
 
 /// Prints an error of the input. If the arguments aren't the paths of the files, a second line says
 /// where a bad daily line is.
-fn refused_input<M: Messages>(messages: &mut M, fault: Fault, files: DailyPaths) -> Ending
+pub(crate) fn refused_input<M: Messages>(
+    messages: &mut M,
+    fault: Fault,
+    files: DailyPaths,
+) -> Ending
     ensures ending { result ≡ endings.Refused }
     ensures lines { ArePrintedLines M.prints messages.old messages.new
         (input_lines fault_line (map string_bytes files.entry.arguments.now)
@@ -181,7 +185,7 @@ pub(crate) fn print_text<M: Messages, W: Write>(
 }
 
 /// Prints how many of the files are foreign and how many lines are odd, if there are any.
-fn print_warnings<M: Messages>(messages: &mut M, warnings: Warnings, files: &[String])
+pub(crate) fn print_warnings<M: Messages>(messages: &mut M, warnings: Warnings, files: &[String])
     ensures { ArePrintedLines M.prints messages.old messages.new
         (warning_lines (map string_bytes files.now) warnings) }
 {
@@ -217,7 +221,7 @@ fn print_odd<M: Messages>(messages: &mut M, odd: OddLines, files: &[String])
 }
 
 /// Prints how many lines of unlisted stations were skipped, if there are any.
-fn print_unlisted<M: Messages>(messages: &mut M, unlisted: u64)
+pub(crate) fn print_unlisted<M: Messages>(messages: &mut M, unlisted: u64)
     ensures { ArePrintedLines M.prints messages.old messages.new (unlisted_warning unlisted) }
 {
     if unlisted > 0 {

@@ -186,7 +186,7 @@ fn ranked_alone(
 }
 
 /// The report and the certificate of a query, from a run of some workers in threads.
-fn ranked_by_crew<R: Threads + Wait + AllocGlobal + Sync, G: Gate + Sync>(
+pub(crate) fn ranked_by_crew<R: Threads + Wait + AllocGlobal + Sync, G: Gate + Sync>(
     rt: &R,
     dataset: &Data,
     query: &Query,

@@ -3,7 +3,7 @@
 ghost use Rattle.extremes.specs.Commands.{IsCommandRun, IsSampleRanked};
 ghost use Rattle.extremes.specs.Environments.{environment};
 ghost use Rattle.extremes.specs.FaultTexts.{fault_line, merging_line};
-ghost use Rattle.extremes.specs.Targets.{IsPut};
+ghost use Rattle.extremes.specs.Targets.{ArePut, IsPut};
 ghost use Rattle.extremes.specs.Messages.{ArePrintedLines, streams};
 ghost use Rattle.extremes.specs.People.{IsForPeople, MayPrint};
 
@@ -13,6 +13,8 @@ use crate::messages::{Messages, SystemMessages};
 use crate::papers::Papers;
 use crate::print::{print_answer, print_text, refused};
 use crate::rank::rank_serial;
+use crate::run_each::run_ranking_each;
+use crate::run_judge_each::run_judging_each;
 use crate::sample;
 use crate::system_target::SystemTarget;
 use crate::target::Target;
@@ -91,7 +93,8 @@ fn run_for_people<
     ensures { IsForPeople M.prints is_read messages.new (λ between. IsCommandRun
         (environment (A.bytes_of archive.now) (A.opens archive.now) (A.names_of archive.now)
         (T.one_file target.old) (T.other_text target.old)
-        (IsPut T.opens T.abandons T.contents target.old target.new)
+        (IsPut T.opens T.abandons T.contents target.old target.new) (T.exists target.old)
+        (ArePut T.creates T.abandons T.contents target.old target.new)
         fault_line merging_line
         (streams (ArePrintedLines M.prints messages.old between) (W.contents out.old) (W.contents out.new)))
         asked result) }
@@ -134,7 +137,8 @@ pub(crate) fn run_command<
 ) -> Ending
     ensures { IsCommandRun (environment (A.bytes_of archive.now) (A.opens archive.now) (A.names_of archive.now)
         (T.one_file target.old) (T.other_text target.old)
-        (IsPut T.opens T.abandons T.contents target.old target.new)
+        (IsPut T.opens T.abandons T.contents target.old target.new) (T.exists target.old)
+        (ArePut T.creates T.abandons T.contents target.old target.new)
         fault_line merging_line
         (streams (ArePrintedLines M.prints messages.old messages.new) (W.contents out.old) (W.contents out.new)))
         asked result }
@@ -143,10 +147,14 @@ pub(crate) fn run_command<
     match asked {
         Command::Sample => print_answer(messages, rank_sample(alloc), None, target, out),
         Command::Rank(asked) => run_ranking(rt, archive, asked, messages, target, out, words),
+        Command::RankEach(asked) => {
+            run_ranking_each(rt, archive, asked, messages, target, out, words)
+        }
         Command::Merge(asked) => {
             run_merging(alloc, archive, &asked, messages, target, out, words)
         }
         Command::Check(asked) => run_judging(rt, archive, asked, messages, out, words),
+        Command::CheckEach(asked) => run_judging_each(rt, archive, asked, messages, out, words),
         Command::Describe(asked) => run_describing(rt, archive, asked, messages, out, words),
         Command::Table(asked) => run_tabling(alloc, archive, &asked, messages, out, words),
     }

@@ -1,5 +1,5 @@
-//! The certificate's file in the system. The certificate is written into a new file beside it, which
-//! takes its place when the certificate is whole.
+//! The files of reports and certificates in the system. A certificate that takes the place of an earlier
+//! one is written into a new file beside it, which takes its place when the certificate is whole.
 
 use crate::target::Target;
 use std::fs::{File, OpenFile, Permissions};
@@ -17,20 +17,20 @@ const OPEN_FILES: &str = "/dev/fd";
 /// How many names are tried for a new file.
 const NAMES: u32 = 10_000;
 
-/// A certificate's file in the system. Of its files nothing is known.
+/// The file of a report or a certificate in the system. Of its files nothing is known.
 #[derive(Drop)]
 pub struct SystemTarget<'r, R: Files> {
     rt: &'r R,
     file: Option<R::File>,
-    /// The new file, unless the certificate's file is written itself.
+    /// The new file, unless a file is written that was there.
     new: Option<NewFile>,
 }
 
-/// The path of a new file, and the path that it gets when it is whole.
+/// The path of a new file, and the path that it gets when it is whole, if that is another.
 #[derive(Drop)]
 struct NewFile {
     path: String,
-    place: String,
+    place: Option<String>,
 }
 
 /// A path that a new file can get, and the permissions that are kept.
@@ -62,7 +62,7 @@ impl<'r, R: Files + AllocGlobal> SystemTarget<'r, R> {
         self.file = Some(file);
         self.new = Some(NewFile {
             path,
-            place: place.path,
+            place: Some(place.path),
         });
         Ok(())
     }
@@ -76,6 +76,10 @@ impl<'r, R: Files + AllocGlobal> Target for SystemTarget<'r, R> {
     ghost other_text = { λ _ _ _. ⊤ };
 
     ghost opens = { λ _ _ _ _. ⊤ };
+
+    ghost exists = { λ _ _ _. ⊤ };
+
+    ghost creates = { λ _ _ _ _. ⊤ };
 
     ghost abandons = { λ _ _. ⊤ };
 
@@ -114,6 +118,19 @@ impl<'r, R: Files + AllocGlobal> Target for SystemTarget<'r, R> {
         Ok(())
     }
 
+    /// A link that leads nowhere counts as a file. If the path can't be looked at, none is found.
+    fn is_there(&self, path: &str) -> bool {
+        fs::symlink_metadata(self.rt, path).is_ok()
+    }
+
+    /// The file has its own path from the first.
+    fn create(&mut self, path: &str) -> io::Result<()> {
+        let path = String::from_str(self.rt.alloc(), path)?;
+        self.file = Some(File::create_new(self.rt, path.as_str())?);
+        self.new = Some(NewFile { path, place: None });
+        Ok(())
+    }
+
     fn abandon(&mut self) {
         if let Some(new) = self.new.take() {
             let _ = fs::remove_file(self.rt, new.path);
@@ -129,10 +146,16 @@ impl<'r, R: Files> Write for SystemTarget<'r, R> {
         }
     }
 
-    /// Puts the new file in its place.
+    /// Puts the new file in its place, if it isn't there.
     fn flush(&mut self) -> io::Result<()> {
-        if let Some(new) = &self.new {
-            fs::rename(self.rt, new.path.as_str(), new.place.as_str())?;
+        if let Some(
+            NewFile {
+                path,
+                place: Some(place),
+            },
+        ) = &self.new
+        {
+            fs::rename(self.rt, path.as_str(), place.as_str())?;
         }
         self.new = None;
         Ok(())

@@ -1,5 +1,6 @@
-//! Where the certificate goes: a file that the run neither reads nor prints to, and that holds at
-//! most an earlier certificate.
+//! Where reports and certificates go that aren't printed: the certificate to a file that the run
+//! neither reads nor prints to, and that holds at most an earlier certificate; those of a list of
+//! queries to new files.
 
 ghost use Rattle.std.specs.Prelude.{option_map};
 ghost use Rattle.extremes.specs.Targets.{IsInUse, IsList, IsPaper, IsPaperOrOutput, IsTaken};
@@ -15,7 +16,8 @@ const STANDARD_OUTPUT: &str = "/dev/stdout";
 /// Where the system shows the file of standard error.
 const STANDARD_ERROR: &str = "/dev/stderr";
 
-/// The file that a certificate is written to. It has what was written once that is flushed.
+/// The file that a report or a certificate is written to. It has what was written once that is
+/// flushed.
 pub trait Target: Write {
     ghost use Rattle.std.specs.Prelude.{◌≡◌, ℕ, Bool, true, false, List, OnOk, OnErr};
     ghost use Rattle.extremes.specs.Targets.{IsBlank};
@@ -33,6 +35,12 @@ pub trait Target: Write {
     /// How giving up what wasn't written whole may change the target.
     ghost abandons: { Self → Self → Type 0 };
 
+    /// Whether a file may be found by a path, and whether none may be found.
+    ghost exists: { Self → List ℕ → Bool → Type 0 };
+
+    /// How making the file of a path may change the target, if the file is made and if it isn't.
+    ghost creates: { Self → List ℕ → Bool → Self → Type 0 };
+
     /// Whether two paths name one file that writing would change.
     fn is_one_file(&self, one: &str, other: &str) -> bool
         ensures { one_file self.now one.now other.now result };
@@ -47,6 +55,18 @@ pub trait Target: Write {
         ensures opened { OnOk result (opens self.old path.now true self.new) }
         ensures blank { OnOk result (IsBlank (Self.contents self.new)) }
         ensures failed { OnErr result (opens self.old path.now false self.new) }
+        ensures kept { OnErr result (Self.contents self.new ≡ Self.contents self.old) };
+
+    /// Whether there is a file by a path, of whatever kind.
+    fn is_there(&self, path: &str) -> bool
+        ensures { exists self.now path.now result };
+
+    /// Makes the file of a path, to be written from its first byte, or returns why it can't be made. A
+    /// file that is there is left as it is.
+    fn create(&mut self, path: &str) -> io::Result<()>
+        ensures made { OnOk result (creates self.old path.now true self.new) }
+        ensures blank { OnOk result (IsBlank (Self.contents self.new)) }
+        ensures failed { OnErr result (creates self.old path.now false self.new) }
         ensures kept { OnErr result (Self.contents self.new ≡ Self.contents self.old) };
 
     /// Gives up what wasn't written whole.

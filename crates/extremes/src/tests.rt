@@ -1,9 +1,11 @@
 //! Worked runs of the ranking and of the command line.
 
 mod delivered;
+mod each;
 mod gated;
 mod growths;
 mod judged;
+mod judged_each;
 mod merged;
 mod messages;
 mod named;

@@ -8,13 +8,14 @@ use crate::cut::weight_of;
 use crate::places::{StationPlaces, measure_places};
 use ghcn_fields::Memory;
 use ghcn_series::Data;
-use rank_query::Query;
+use rank_query::{Query, Region};
 use rank_sched::Plan;
 use std::alloc::Global;
 use std::sync::Wait;
 use std::thread::Threads;
 
-/// The plan of a query over some data, whose stations 1 to 64 workers measure in threads.
+/// The plan of a query over some data, whose stations 1 to 64 workers measure in threads. For a query
+/// about one station no thread is started.
 ///
 /// If one worker finds no memory, the others run to their end.
 pub fn survey<'d, R: Threads + Wait + Sync, G: Gate + Sync>(
@@ -29,6 +30,9 @@ pub fn survey<'d, R: Threads + Wait + Sync, G: Gate + Sync>(
     requires few { workers ≤ 64 }
     ensures { IfOk result (λ plan. plan ≡ planned query.now dataset.now) }
 {
+    if let Region::Only(_) = query.region() {
+        return Plan::new(alloc, dataset, query);
+    }
     let places = StationPlaces {
         dataset,
         query,

@@ -9,3 +9,6 @@ pub mod Openings
 pub mod Naming
 pub mod NamingFolders
 pub mod TakenShares
+pub mod QueryLists
+pub mod QueryElements
+pub mod QueryData

@@ -133,7 +133,7 @@ same_error of (Ok a) f g fault step is = step a is
 same_error of (Err e) f g fault step is = let same : of e ≡ fault = cc in ap Err same
 
 -- after a query without an error the error of the files is that of the input
-refused_input : (query stations : List ℕ) (files : List (List ℕ)) (q : Asked) (fault : Fault)
+pub refused_input : (query stations : List ℕ) (files : List (List ℕ)) (q : Asked) (fault : Fault)
     → read_query query ≡ Ok q → IsRefusal is_memory fault (read_files stations files)
     → IsRefusal is_memory fault (read_input query stations files)
 refused_input query stations files q fault asks is =

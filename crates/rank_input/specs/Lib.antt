@@ -5,4 +5,5 @@ pub mod Feeding
 pub mod FaultTexts
 pub mod Named
 pub mod NamingStops
+pub mod Queries
 pub mod Shares

@@ -8,6 +8,7 @@ mod fault;
 mod intake;
 mod limits;
 mod named;
+mod queries;
 mod question;
 mod shares;
 
@@ -15,6 +16,7 @@ pub use archive::{Archive, Place, System, feed, feed_files, piece_room, read_who
 pub use fault::Fault;
 pub use intake::Intake;
 pub use limits::{check_words, workers_for};
-pub use named::{NotNamed, list_path, name_files};
+pub use named::{NotNamed, below, list_path, name_files};
+pub use queries::{QueriesFault, needed_by, read_queries};
 pub use question::{Question, TakenInput};
 pub use shares::{Daily, take_files};

@@ -189,7 +189,7 @@ fn is_daily(name: &[u8]) -> bool
 }
 
 /// The path of a name in a folder, with one slash between them.
-pub(crate) fn below(alloc: Global, folder: &str, name: &str) -> Result<String, AllocError>
+pub fn below(alloc: Global, folder: &str, name: &str) -> Result<String, AllocError>
     ensures { IfOk result (λ path. string_bytes path ≡ named.below folder.now name.now) }
 {
     let mut path = String::with_capacity(alloc, folder.len() + 1 + name.len())?;

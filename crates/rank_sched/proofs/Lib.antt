@@ -24,3 +24,4 @@ pub mod Ending
 pub mod LoneWorker
 pub mod LineOrder
 pub mod Growing
+pub mod OneStation

@@ -41,7 +41,7 @@ cons-append : {B : Type 0} (a : Option B) (xs ys : List B) → cons_option a (xs
 cons-append a xs ys = grind arith
 
 -- an element in front of nothing is alone
-cons-alone : {B : Type 0} (a : Option B) → cons_option a [] ≡ option_to_list a
+pub cons-alone : {B : Type 0} (a : Option B) → cons_option a [] ≡ option_to_list a
 cons-alone a = grind arith
 
 -- one place more of a list adds what is made of the element there, if anything is

@@ -3,7 +3,7 @@
 ghost use Rattle.std.specs.Prelude.{◌≡◌, ◌<◌, Some, length, map, fold, slice_get, IfOk};
 ghost use Rattle.rank_pool.specs.Pools.{taken};
 ghost use Rattle.std.specs.List.{filter_map};
-ghost use Rattle.std.specs.Option.{option_map, option_copied};
+ghost use Rattle.std.specs.Option.{option_map, option_copied, option_to_list};
 ghost use Rattle.ghcn_series.specs.Held.{IsContents};
 ghost use Rattle.rank_query.specs.Asked.{Asked, IsAsked, score_element};
 ghost use Rattle.rank_sched.specs.Plan as plan;
@@ -15,7 +15,7 @@ use ghcn_fields::Memory;
 use ghcn_files::{Element, StationId, Stations};
 use ghcn_series::{Data, Series};
 use rank_pool::Pool;
-use rank_query::Query;
+use rank_query::{Query, Region};
 use rank_scores::scan_to_floor;
 use std::alloc::Global;
 use std::cmp::Ordering;
@@ -57,10 +57,14 @@ impl<'a> Model for Plan<'a> {
 }
 
 impl<'a> Plan<'a> {
-    /// The plan of a query over some data.
+    /// The plan of a query over some data. If the query is about one station, only that one is looked
+    /// up in the list.
     pub fn new(alloc: Global, dataset: &'a Data, query: &Query) -> Result<Self, Memory>
         ensures { IfOk result (λ made. made ≡ plan.planned query.now dataset.now) }
     {
+        if let Region::Only(id) = query.region() {
+            return Plan::of_station(alloc, dataset, query, &id);
+        }
         let bounds = bounds_of(alloc, dataset, query)?;
         Plan::of_bounds(alloc, dataset, query, bounds.as_slice())
     }
@@ -75,13 +79,41 @@ impl<'a> Plan<'a> {
         requires { bounds.now ≡ plan.measures query.now dataset.now }
         ensures { IfOk result (λ made. made ≡ plan.planned query.now dataset.now) }
     {
-        let mut morsels = morsels_of(alloc, dataset, query, bounds)?;
+        let morsels = morsels_of(alloc, dataset, query, bounds)?;
+        Ok(Plan::of_morsels(dataset, query, morsels))
+    }
+
+    /// The same plan, if the query is about the station with this ID.
+    fn of_station(
+        alloc: Global,
+        dataset: &'a Data,
+        query: &Query,
+        id: &StationId,
+    ) -> Result<Self, Memory>
+        requires { query.now.region ≡ Region.Only id.now }
+        ensures { IfOk result (λ made. made ≡ plan.planned query.now dataset.now) }
+    {
+        let mut morsels = Vec::new(alloc);
+        if let Some(morsel) = morsel_of_station(alloc, dataset, query, id)? {
+            morsels.push(morsel)?;
+        }
+        Ok(Plan::of_morsels(dataset, query, morsels))
+    }
+
+    /// The same plan, from its morsels in the order of their stations.
+    fn of_morsels(dataset: &'a Data, query: &Query, mut morsels: Vec<Morsel<'a>>) -> Self
+        requires asked { IsAsked query.now }
+        requires contents { IsContents dataset.now }
+        requires morsels { map plan.planned_morsel morsels.items
+            ≡ filter_map (plan.measured_at query.now dataset.now) dataset.now.stations }
+        ensures { result ≡ plan.planned query.now dataset.now }
+    {
         morsels.sort_unstable_by(|a, b| drawn_cmp(a, b));
-        Ok(Plan {
+        Plan {
             data: dataset,
             query: *query,
             morsels,
-        })
+        }
     }
 
     /// How many morsels there are.
@@ -193,6 +225,27 @@ fn morsels_of<'a>(
         }
     }
     Ok(morsels)
+}
+
+/// The morsel of a query that is about the station with this ID, if there is one.
+fn morsel_of_station<'a>(
+    alloc: Global,
+    dataset: &'a Data,
+    query: &Query,
+    id: &StationId,
+) -> Result<Option<Morsel<'a>>, Memory>
+    requires { query.now.region ≡ Region.Only id.now }
+    ensures morsel { IfOk result (λ morsel. option_to_list (option_map plan.planned_morsel morsel)
+        ≡ filter_map (plan.measured_at query.now dataset.now) dataset.now.stations) }
+    ensures asked { IsAsked query.now }
+    ensures contents { IsContents dataset.now }
+{
+    let element = query.element();
+    let Some(place) = dataset.stations().place(id) else {
+        return Ok(None);
+    };
+    let bound = measure(alloc, dataset, query, place)?;
+    Ok(measured_at(dataset, element, place, bound))
 }
 
 /// The morsel of the station at a place, if the station has a bound.

@@ -15,6 +15,8 @@ mod names;
 #[cfg(test)]
 mod pool;
 #[cfg(test)]
+mod queries;
+#[cfg(test)]
 mod runs;
 #[cfg(test)]
 mod sched;

@@ -3,11 +3,18 @@
 //! A test prints `memory` if the call that it is about met the refusal, and `answered` if it
 //! returned what it has to.
 
+use super::each::ranking;
+use super::judged_each::judging;
+use super::named::run_of;
 use super::*;
+use crate::each::rank_each;
 use crate::judge::judge;
 use crate::merge::{MergingFault, PartTexts, merge_texts};
+use crate::papers_folder::Stop;
 use ghcn_fields::Memory;
+use ghcn_series::RowReader;
 use rank_check::Verdict;
+use rank_input::{Intake, QueriesFault, needed_by, read_queries};
 use rank_merge::MergeFault;
 use std::alloc::{AllocError, Global};
 use std::process::Abort;
@@ -147,5 +154,95 @@ fn a_merge_of_merged_papers(rt: HostRuntime) -> Result<(), Fail> {
             assert_eq!(rt; fault, MergingFault::Parts(MergeFault::Memory(Memory)));
             print_met(&rt, Some(Fault::Memory(Memory)))
         }
+    }
+}
+
+/// A list of three queries.
+const THREE: &[u8] = b"top 3 highest TMAX
+top 1 highest TMAX
+top 3 highest TMAX
+";
+
+/// The reports of these, one after another.
+const THREE_REPORTS: &[u8] = b"extremes report 1
+query top 3 highest TMAX
+1 ZZA00000001 2020-07-01 2020-07-01 31.1 C ALPHA
+2 ZZA00000002 2020-07-01 2020-07-01 31.1 C BRAVO
+3 ZZA00000001 2020-07-02 2020-07-02 30.5 C ALPHA
+end 3
+extremes report 1
+query top 1 highest TMAX
+1 ZZA00000001 2020-07-01 2020-07-01 31.1 C ALPHA
+end 1
+extremes report 1
+query top 3 highest TMAX
+1 ZZA00000001 2020-07-01 2020-07-01 31.1 C ALPHA
+2 ZZA00000002 2020-07-01 2020-07-01 31.1 C BRAVO
+3 ZZA00000001 2020-07-02 2020-07-02 30.5 C ALPHA
+end 3
+";
+
+#[test]
+fn rankings_of_three_queries_by_four_workers(rt: HostRuntime) -> Result<(), Fail> {
+    let queries = match read_queries(rt.alloc(), THREE) {
+        Ok(queries) => queries,
+        Err(fault) => {
+            assert_eq!(rt; fault, QueriesFault::Memory(Memory));
+            return print_met(&rt, Some(Fault::Memory(Memory)));
+        }
+    };
+    let mut intake: Intake<RowReader> = Intake::new(rt.alloc(), STATIONS, needed_by(&queries));
+    intake.piece(DAILY);
+    intake.end_of_file();
+    let mut target = SystemTarget::new(&rt);
+    match rank_each(&rt, intake, &queries, 4, None, &mut target).reports {
+        Ok(reports) => {
+            assert_eq!(rt; reports.as_slice(), THREE_REPORTS);
+            print_met(&rt, None)
+        }
+        Err(stop) => {
+            assert!(rt; matches!(stop, Stop::Input(Fault::Memory(_))));
+            print_met(&rt, Some(Fault::Memory(Memory)))
+        }
+    }
+}
+
+/// Prints what a run met, which prints this text if there is enough memory, and otherwise one line
+/// alone: that it is out of memory, or the file for which there is none.
+fn print_run<R: Abort + Print>(
+    rt: &R,
+    run: (Vec<u8>, String, Ending),
+    text: &[u8],
+) -> Result<(), Fail> {
+    let (out, lines, ending) = run;
+    if ending == Ending::Done {
+        assert_eq!(rt; out.as_slice(), text);
+        assert_eq!(rt; lines.as_str(), "");
+        return print_met(rt, None);
+    }
+    assert!(rt; out.is_empty());
+    let line = lines.as_str();
+    if ending == Ending::File {
+        assert!(rt; line.starts_with("file not "));
+    } else {
+        assert_eq!(rt; line, "refused 3 Memory\n");
+    }
+    print_met(rt, Some(Fault::Memory(Memory)))
+}
+
+#[test]
+fn a_run_over_three_queries(rt: HostRuntime) -> Result<(), Fail> {
+    match ranking(rt.alloc(), "three", "stations", "list", 4) {
+        Ok(asked) => print_run(&rt, run_of(&rt, asked), THREE_REPORTS),
+        Err(_) => print_met(&rt, Some(Fault::Memory(Memory))),
+    }
+}
+
+#[test]
+fn a_check_of_three_queries(rt: HostRuntime) -> Result<(), Fail> {
+    let text = b"accepted\naccepted\naccepted\n";
+    match judging(rt.alloc(), "three", "papers", "stations", "list") {
+        Ok(asked) => print_run(&rt, run_of(&rt, asked), text),
+        Err(_) => print_met(&rt, Some(Fault::Memory(Memory))),
     }
 }

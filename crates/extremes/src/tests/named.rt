@@ -1,4 +1,4 @@
-//! Runs of commands over an archive in memory: a folder, and a list of more names.
+//! Runs of commands over an archive in memory: a folder, a list of more names, and lists of queries.
 
 use super::*;
 use crate::run::run_command;
@@ -23,7 +23,7 @@ const FOLDER: &[u8] = b"b.dly\0.c.dly\0notes.txt\0a.dly\0";
 /// The names in the list.
 const LIST: &[u8] = b"\nlast.dly\r\n";
 
-/// Stations, a folder, a list, and files of one daily line each.
+/// Stations, a folder, lists, and files of one daily line each.
 #[derive(Drop)]
 struct InMemory;
 
@@ -37,6 +37,23 @@ fn bytes_at(path: &str) -> Option<&'static [u8]> {
         "short.dly" => Some(b"ZZA00000001\n"),
         "list" => Some(LIST),
         "short" => Some(b"last.dly\nshort.dly\n"),
+        "queries" => Some(b"top 3 highest TMAX\r\ntop 1 highest TMAX\n"),
+        "three" => Some(b"top 3 highest TMAX\ntop 1 highest TMAX\ntop 3 highest TMAX\n"),
+        "misprint" => Some(b"top 3 highest TMAX\ntop 1 highest\n"),
+        "garbled" => Some(b"top 3 highest TMAX\n\xff\n"),
+        "nothing" => Some(b""),
+        "papers/1.report"
+        | "papers/3.report"
+        | "swapped/2.report"
+        | "twice/1.report"
+        | "twice/2.report" => Some(REPORT),
+        "papers/1.certificate" | "papers/3.certificate" | "swapped/2.certificate" => Some(
+            CERTIFICATE,
+        ),
+        "twice/1.certificate" | "twice/2.certificate" => Some(CERTIFICATE),
+        "papers/2.report" | "swapped/1.report" => Some(BEST),
+        "papers/2.certificate" | "swapped/1.certificate" => Some(BEST_CERTIFICATE),
+        "half/1.report" | "half/1.certificate" | "half/2.report" => Some(b""),
         "report" => Some(REPORT),
         "certificate" => Some(CERTIFICATE),
         _ => None,
@@ -60,6 +77,16 @@ kth 305
 scan ZZA00000001 311 2
 scan ZZA00000002 311 1
 scan ZZA00000003 250 0
+end 3
+";
+
+/// The certificate of [`BEST`].
+const BEST_CERTIFICATE: &[u8] = b"extremes certificate 2
+query top 1 highest TMAX
+kth 311
+scan ZZA00000001 311 1
+scan ZZA00000002 311 0
+skip ZZA00000003 250
 end 3
 ";
 
@@ -99,7 +126,7 @@ impl Archive for InMemory {
 }
 
 /// The folder, and then a list of more.
-fn named(alloc: Global, list: &str) -> Result<NamedFiles, AllocError> {
+pub(super) fn named(alloc: Global, list: &str) -> Result<NamedFiles, AllocError> {
     let mut paths = Vec::new(alloc);
     paths.push(String::from_str(alloc, "folder")?)?;
     Ok(NamedFiles {
@@ -145,7 +172,7 @@ fn describing(alloc: Global, list: &str) -> Result<Command, AllocError> {
 }
 
 /// What a run prints on standard output and on standard error, and how it ends.
-fn run_of<R: Files + Threads + Wait + AllocGlobal + Clock + Eprint + Sync>(
+pub(super) fn run_of<R: Files + Threads + Wait + AllocGlobal + Clock + Eprint + Sync>(
     rt: &R,
     asked: Command,
 ) -> (Vec<u8>, String, Ending) {

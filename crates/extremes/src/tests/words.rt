@@ -2,8 +2,8 @@
 
 use super::*;
 use command_line::{
-    CheckArguments, Command, CommandFault, DescribeArguments, MergeArguments, NamedFiles,
-    RankArguments, command,
+    CheckArguments, CheckEachArguments, Command, CommandFault, DescribeArguments, MergeArguments,
+    NamedFiles, RankArguments, RankEachArguments, command,
 };
 use std::alloc::{AllocError, Global};
 use std::test::Fail;
@@ -62,6 +62,43 @@ fn commands_of_words(rt: HostRuntime) -> Result<(), Fail> {
     assert_eq!(rt; guess, Some(-3));
     assert_eq!(rt; certificate.as_ref().map(|path| path.as_str()), Some("c"));
     assert!(rt; are_words(files.paths.as_slice(), &["a", "b"]));
+    Ok(())
+}
+
+#[test]
+fn commands_to_rank_each(rt: HostRuntime) -> Result<(), Fail> {
+    let each = [
+        "rank",
+        "--stations=s",
+        "--queries=l",
+        "--papers",
+        "p",
+        "--workers=64",
+        "a",
+        "b",
+    ];
+    let Ok(Command::RankEach(asked)) = command(rt.alloc(), words_of(rt.alloc(), &each)?) else {
+        return Err(Fail::from("no command to rank each query"));
+    };
+    let RankEachArguments {
+        stations,
+        queries,
+        papers,
+        workers,
+        files,
+    } = asked;
+    assert_eq!(rt; stations.as_str(), "s");
+    assert_eq!(rt; queries.as_str(), "l");
+    assert_eq!(rt; papers.as_deref(), Some("p"));
+    assert_eq!(rt; workers, 64);
+    assert!(rt; are_words(files.paths.as_slice(), &["a", "b"]));
+    let alone = words_of(rt.alloc(), &["rank", "--queries", "-", "--stations=s"])?;
+    let Ok(Command::RankEach(asked)) = command(rt.alloc(), alone) else {
+        return Err(Fail::from("no command to rank each query of standard input"));
+    };
+    assert_eq!(rt; asked.queries.as_str(), "-");
+    assert!(rt; asked.papers.is_none());
+    assert_eq!(rt; asked.workers, 4);
     Ok(())
 }
 
@@ -153,6 +190,40 @@ fn commands_to_check_a_part(rt: HostRuntime) -> Result<(), Fail> {
 }
 
 #[test]
+fn commands_to_check_each(rt: HostRuntime) -> Result<(), Fail> {
+    let each = [
+        "check",
+        "--stations=s",
+        "--queries=l",
+        "--papers",
+        "p",
+        "--part",
+        "--workers=64",
+        "a",
+        "b",
+    ];
+    let Ok(Command::CheckEach(asked)) = command(rt.alloc(), words_of(rt.alloc(), &each)?) else {
+        return Err(Fail::from("no command to check each query"));
+    };
+    let CheckEachArguments {
+        stations,
+        queries,
+        papers,
+        part,
+        workers,
+        files,
+    } = asked;
+    let texts = [&stations, &queries, &papers];
+    for (text, expected) in texts.iter().zip(["s", "l", "p"]) {
+        assert_eq!(rt; text.as_str(), expected);
+    }
+    assert!(rt; part);
+    assert_eq!(rt; workers, 64);
+    assert!(rt; are_words(files.paths.as_slice(), &["a", "b"]));
+    Ok(())
+}
+
+#[test]
 fn commands_to_describe(rt: HostRuntime) -> Result<(), Fail> {
     let describe = words_of(rt.alloc(), &["describe", "a", "--stations=s", "b"])?;
     let Ok(Command::Describe(asked)) = command(rt.alloc(), describe) else {
@@ -201,7 +272,9 @@ fn commands_to_make_tables(rt: HostRuntime) -> Result<(), Fail> {
 fn files_of(command: Command) -> Option<NamedFiles> {
     match command {
         Command::Rank(asked) => Some(asked.files),
+        Command::RankEach(asked) => Some(asked.files),
         Command::Check(asked) => Some(asked.files),
+        Command::CheckEach(asked) => Some(asked.files),
         Command::Describe(asked) => Some(asked.files),
         Command::Sample => None,
         Command::Merge(_) => None,
@@ -210,8 +283,9 @@ fn files_of(command: Command) -> Option<NamedFiles> {
 }
 
 /// The arguments that begin each command that is given daily files.
-const FRONTS: [&[&str]; 3] = [
+const FRONTS: [&[&str]; 5] = [
     &["rank", "--stations=s", "--query=q"],
+    &["rank", "--stations=s", "--queries=l"],
     &[
         "check",
         "--part",
@@ -220,6 +294,7 @@ const FRONTS: [&[&str]; 3] = [
         "--report=r",
         "--certificate=c",
     ],
+    &["check", "--stations=s", "--queries=l", "--papers=p"],
     &["describe", "--stations=s"],
 ];
 
@@ -290,8 +365,9 @@ fn shown(alloc: Global, words: &[&str]) -> Result<String, Fail> {
 fn texts_of_words(rt: HostRuntime) -> Result<(), Fail> {
     let odd = "error: each report is followed by its certificate, and the last one has none\n";
     let null = "error: --null says how the names of a list end, and --files-from names no list\n";
-    let cases: [(&[&str], &str); 15] = [
+    let cases: [(&[&str], &str); 16] = [
         (&["rank", "--stations=s", "--query=q", "--null", "a"], null),
+        (&["rank", "--stations=s", "--queries=l", "-0", "a"], null),
         (
             &[
                 "check",
@@ -330,7 +406,7 @@ fn texts_of_words(rt: HostRuntime) -> Result<(), Fail> {
         ),
         (
             &["check"],
-            "check --stations <FILE> --query <QUERY> --report <FILE>",
+            "check [OPTIONS] --stations <FILE> --query <QUERY> --report <FILE>",
         ),
         (&["--help"], "'extremes rank --help' describes queries"),
         (&["--query", "top 1 dry"], "\n       extremes rank --help\n"),
@@ -338,6 +414,68 @@ fn texts_of_words(rt: HostRuntime) -> Result<(), Fail> {
     ];
     for (words, part) in cases {
         let text = shown(rt.alloc(), words)?;
+        assert!(rt; text.as_str().contains(part), "at {part:?}: {text}");
+    }
+    Ok(())
+}
+
+#[test]
+fn texts_of_queries_and_a_query(rt: HostRuntime) -> Result<(), Fail> {
+    let neither = "error: rank needs --query <QUERY>, or --queries <FILE>\n\nUsage: extremes rank ";
+    let both = "error: --queries cannot be used with --query, --guess or --certificate\n\nUsage: ";
+    let folder =
+        "error: --papers names a folder for the reports and certificates of --queries, and --queries";
+    let inputs = "error: --queries and --files-from cannot both be standard input\n";
+    let cases: [(&[&str], &str); 6] = [
+        (&["a"], neither),
+        (&["--query=q", "--queries=l"], both),
+        (&["--queries=l", "--guess=3"], both),
+        (&["--queries=l", "--certificate=c", "--papers=p"], both),
+        (&["--query=q", "--papers=p"], folder),
+        (&["--queries=-", "--files-from=-"], inputs),
+    ];
+    for (more, part) in cases {
+        let mut words = words_of(rt.alloc(), &["rank", "--stations=s"])?;
+        words.append(&mut words_of(rt.alloc(), more)?)?;
+        let Err(CommandFault::Words(text)) = command(rt.alloc(), words) else {
+            return Err(Fail::from("no text to show"));
+        };
+        assert!(rt; text.as_str().contains(part), "at {part:?}: {text}");
+    }
+    Ok(())
+}
+
+#[test]
+fn texts_of_queries_and_papers(rt: HostRuntime) -> Result<(), Fail> {
+    let missing =
+        "error: check needs --query, --report and --certificate, or --queries and --papers\n";
+    let both = "error: --queries cannot be used with --query, --report or --certificate\n\nUsage: ";
+    let folder =
+        "error: --papers names a folder for the reports and certificates of --queries, and --queries";
+    let inputs = "error: --queries and --files-from cannot both be standard input\n";
+    let cases: [(&[&str], &str); 9] = [
+        (&["a"], missing),
+        (&["--report=r", "--certificate=c"], missing),
+        (&["--query=q", "--certificate=c"], missing),
+        (
+            &["--query=q", "--report=r", "--certificate=c", "--papers=p"],
+            folder,
+        ),
+        (&["--queries=l", "--papers=p", "--query=q"], both),
+        (&["--queries=l", "--papers=p", "--report=r"], both),
+        (&["--queries=l", "--papers=p", "--certificate=c"], both),
+        (
+            &["--queries=l"],
+            "error: --queries needs --papers <FOLDER>\n",
+        ),
+        (&["--queries=-", "--papers=p", "--files-from=-"], inputs),
+    ];
+    for (more, part) in cases {
+        let mut words = words_of(rt.alloc(), &["check", "--stations=s"])?;
+        words.append(&mut words_of(rt.alloc(), more)?)?;
+        let Err(CommandFault::Words(text)) = command(rt.alloc(), words) else {
+            return Err(Fail::from("no text to show"));
+        };
         assert!(rt; text.as_str().contains(part), "at {part:?}: {text}");
     }
     Ok(())
@@ -370,7 +508,15 @@ fn helps_of_commands(rt: HostRuntime) -> Result<(), Fail> {
         ),
         ("rank", "\n  SNWD     snow depth, whole millimetres\n"),
         ("rank", "--files-from <LIST>"),
+        (
+            "rank",
+            "\nLists of queries:\n  Line N of the list of --queries is query N.",
+        ),
         ("check", "-0, --null"),
+        (
+            "check",
+            "\nLists of queries:\n  Line N of the list of --queries is query N.",
+        ),
         ("describe", "A folder stands for its .dly files"),
         (
             "table",

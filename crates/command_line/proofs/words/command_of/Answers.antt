@@ -1,9 +1,10 @@
-use Rattle.std.proofs.Common.{◌≡◌, ◌∙◌, inl, inr, true, false, refl, arith, ap, subst, sym, codes, IsSome, Some}
+use Rattle.std.proofs.Common.{◌≡◌, ◌∙◌, inl, inr, true, false, refl, ap, subst, sym, codes, IsSome, Some}
 use Rattle.std.proofs.lemmas.Result.{IfOk-weaker}
 use Rattle.clap.specs.Words.{Text, found_of, rows_of, subcommand_rows_of}
 use Rattle.command_line.specs.declared.asked.Command.TheVariants.{Table}
-use Rattle.command_line.specs.CommandLine.{FitTogether, IsCommand, IsName}
-use Rattle.command_line.proofs.CommandLines.{name_of_met, met_rows, fact-met, met-fact, reads_files}
+use Rattle.command_line.specs.CommandLine.{IsCommand, IsName}
+use Rattle.command_line.specs.Fitting.{FitTogether}
+use Rattle.command_line.proofs.CommandLines.{name_of_met, met_rows, fact-met, met-fact}
 use Rattle.command_line.proofs.words.command_of.Goals as goal
 
 -- one of the five was met
@@ -46,8 +47,7 @@ returns-in-Some-clause-together c =
     = met_rows _ (codes "rank") (rows_of (found_of c.in-Some.rank.now))
     (c.subcommand_matches.ensures.found.0 (subst (λ o. IsSome o) (sym c.in-Some.is) refl))
     c.in-Some.ensures.rows in
-    λ fit. c.rank_of.ensures.listed ((met-fact FitTogether _ _ _ met fit).1 (reads_files (codes "rank") 114 (λ e. let bad : 114 ≡ 109 = e in omega (arith, bad))
-    (λ e. let bad : 114 ≡ 116 = e in omega (arith, bad)) refl refl))
+    λ fit. c.rank_of.ensures.fit ((met-fact FitTogether _ _ _ met fit).rank refl)
 
 -- what is read after `merge` is its command
 pub returns-in-Some-subcommand_matches-clause-ok : goal.returns-in-Some-subcommand_matches-clause-ok
@@ -66,7 +66,7 @@ returns-in-Some-subcommand_matches-clause-together c =
     = met_rows _ (codes "merge") (rows_of (found_of c.in-Some-subcommand_matches.merge.now))
     (c.subcommand_matches-2.ensures.found.0 (subst (λ o. IsSome o) (sym c.in-Some-subcommand_matches.is) refl))
     c.in-Some-subcommand_matches.ensures.rows in
-    λ fit. c.merge_of.ensures.paired ((met-fact FitTogether _ _ _ met fit).0 refl)
+    λ fit. c.merge_of.ensures.paired ((met-fact FitTogether _ _ _ met fit).merge refl)
 
 -- what is read after `check` is its command
 pub returns-in-Some-subcommand_matches-2-clause-ok : goal.returns-in-Some-subcommand_matches-2-clause-ok
@@ -85,8 +85,7 @@ returns-in-Some-subcommand_matches-2-clause-together c =
     = met_rows _ (codes "check") (rows_of (found_of c.in-Some-subcommand_matches-2.check.now))
     (c.subcommand_matches-3.ensures.found.0 (subst (λ o. IsSome o) (sym c.in-Some-subcommand_matches-2.is) refl))
     c.in-Some-subcommand_matches-2.ensures.rows in
-    λ fit. c.check_of.ensures.listed ((met-fact FitTogether _ _ _ met fit).1 (reads_files (codes "check") 99 (λ e. let bad : 99 ≡ 109 = e in omega (arith, bad))
-    (λ e. let bad : 99 ≡ 116 = e in omega (arith, bad)) refl refl))
+    λ fit. c.check_of.ensures.fit ((met-fact FitTogether _ _ _ met fit).check refl)
 
 -- what is read after `describe` is its command
 pub returns-in-Some-subcommand_matches-3-clause-ok : goal.returns-in-Some-subcommand_matches-3-clause-ok
@@ -105,8 +104,7 @@ returns-in-Some-subcommand_matches-3-clause-together c =
     = met_rows _ (codes "describe") (rows_of (found_of c.in-Some-subcommand_matches-3.describe.now))
     (c.subcommand_matches-4.ensures.found.0 (subst (λ o. IsSome o) (sym c.in-Some-subcommand_matches-3.is) refl))
     c.in-Some-subcommand_matches-3.ensures.rows in
-    λ fit. c.describe_of.ensures.listed ((met-fact FitTogether _ _ _ met fit).1 (reads_files (codes "describe") 100 (λ e. let bad : 100 ≡ 109 = e in omega (arith, bad))
-    (λ e. let bad : 100 ≡ 116 = e in omega (arith, bad)) refl refl))
+    λ fit. c.describe_of.ensures.listed ((met-fact FitTogether _ _ _ met fit).describe refl)
 
 -- what is read after `table` is its command
 pub returns-clause-ok : goal.returns-clause-ok

@@ -1,7 +1,7 @@
 use Rattle.std.proofs.Common.{◌≡◌, ◌∙◌, map, [], refl, codes}
 use Rattle.clap.specs.Words.{found_of, rows_of}
 use Rattle.clap.proofs.WalkLemmas.{first_value-rows, raw_values-rows}
-use Rattle.command_line.specs.CommandLine.{papers_to_merge}
+use Rattle.command_line.specs.Fitting.{papers_to_merge}
 use Rattle.command_line.proofs.CommandLines.{read_or, lent-pairs}
 use Rattle.command_line.proofs.words.merge_of.Goals as goal
 

@@ -5,9 +5,11 @@ use Rattle.clap.specs.Words.{subcommand_rows_of, has_subcommand, IsAmong}
 use Rattle.clap.specs.declared.error.ErrorKind.TheVariants.{DisplayVersion}
 use Rattle.clap.proofs.CallerLemmas.{subcommand_required}
 use Rattle.clap.proofs.OnLiterals.{clap_on_literals}
-use Rattle.command_line.specs.CommandLine.{extremes_app, all_words, FitTogether, IsName, MayAskVersion, OnVersion}
+use Rattle.command_line.specs.CommandLine.{extremes_app, all_words, IsName, MayAskVersion, OnVersion}
+use Rattle.command_line.specs.Fitting.{FitTogether}
 use Rattle.command_line.proofs.CommandLines.{only_memory, only_version, version_among, never_told, not_asked, only_name}
-use Rattle.command_line.proofs.CommandLines.{met_one, some_met, command-met}
+use Rattle.command_line.proofs.CommandLines.{met_one, some_met}
+use Rattle.command_line.proofs.Fitting.{command-met}
 use Rattle.command_line.proofs.words.named_command.Goals as goal
 
 -- the program's command line is simple

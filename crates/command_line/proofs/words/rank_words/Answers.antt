@@ -28,14 +28,18 @@ returns c =
     let local_guess : is_global c.value_parser-guess.result ≡ false
     = ap is_global c.value_parser-guess.ensures.others ∙ c.option-2.ensures.local in
     let made : app_of c.after_help.result ≡ new_app (codes "rank")
-    = ap app_of_fields c.after_help.ensures ∙ ap app_of_fields c.about.ensures ∙ c.new.ensures.app in
-    let options = c.in_ok-rank.ensures.shape c.option-3.ensures.local
-    ∙ ap₂ with_rule (c.in_ok-arg-4.ensures.shape local_guess
-    ∙ ap₂ with_rule (c.in_ok-arg-3.ensures.shape local_workers
-    ∙ ap₂ with_rule (c.in_ok-arg-2.ensures.shape c.needed-2.ensures.local
+    = ap app_of_fields c.after_help.ensures ∙ ap app_of_fields c.override_usage.ensures
+    ∙ ap app_of_fields c.about.ensures ∙ c.new.ensures.app in
+    let queries = c.in_ok-arg-4.ensures.shape c.option-5.ensures.local
+    ∙ ap₂ with_rule (c.in_ok-arg-3.ensures.shape c.option-4.ensures.local
+    ∙ ap₂ with_rule (c.in_ok-arg-2.ensures.shape c.option-3.ensures.local
     ∙ ap₂ with_rule (c.in_ok-arg.ensures.shape c.needed.ensures.local
-    ∙ ap₂ with_rule made c.needed.ensures.rule) c.needed-2.ensures.rule) workers_is) guess_is)
-    c.option-3.ensures.rule in
+    ∙ ap₂ with_rule made c.needed.ensures.rule) c.option-3.ensures.rule) c.option-4.ensures.rule)
+    c.option-5.ensures.rule in
+    let options = c.in_ok-rank.ensures.shape c.option-6.ensures.local
+    ∙ ap₂ with_rule (c.in_ok-arg-6.ensures.shape local_guess
+    ∙ ap₂ with_rule (c.in_ok-arg-5.ensures.shape local_workers ∙ ap₂ with_rule queries workers_is) guess_is)
+    c.option-6.ensures.rule in
     record {
       app = IfOk-weaker c.with_files.result _ _ (λ r h. h ∙ ap and_files options) c.with_files.ensures.app;
       local = c.with_files.ensures.local;
@@ -49,9 +53,12 @@ with_files-requires c =
     let local_guess : is_global c.value_parser-guess.result ≡ false
     = ap is_global c.value_parser-guess.ensures.others ∙ c.option-2.ensures.local in
     let plain : (fields_of c.after_help.result).has_globals ≡ false
-    = ap (λ f. f.has_globals) c.after_help.ensures ∙ ap (λ f. f.has_globals) c.about.ensures ∙ c.new.ensures.local in
-    c.in_ok-rank.ensures.globals
-    ∙ ap₂ either (c.in_ok-arg-4.ensures.globals ∙ ap₂ either (c.in_ok-arg-3.ensures.globals
+    = ap (λ f. f.has_globals) c.after_help.ensures ∙ ap (λ f. f.has_globals) c.override_usage.ensures
+    ∙ ap (λ f. f.has_globals) c.about.ensures ∙ c.new.ensures.local in
+    let without = c.in_ok-arg-4.ensures.globals ∙ ap₂ either (c.in_ok-arg-3.ensures.globals
     ∙ ap₂ either (c.in_ok-arg-2.ensures.globals ∙ ap₂ either (c.in_ok-arg.ensures.globals
-    ∙ ap₂ either plain c.needed.ensures.local) c.needed-2.ensures.local) local_workers) local_guess)
-    c.option-3.ensures.local
+    ∙ ap₂ either plain c.needed.ensures.local) c.option-3.ensures.local) c.option-4.ensures.local)
+    c.option-5.ensures.local in
+    c.in_ok-rank.ensures.globals
+    ∙ ap₂ either (c.in_ok-arg-6.ensures.globals ∙ ap₂ either (c.in_ok-arg-5.ensures.globals
+    ∙ ap₂ either without local_workers) local_guess) c.option-6.ensures.local

@@ -2,7 +2,8 @@ use Rattle.std.proofs.Common.{◌≡◌, [], refl, sym, subst}
 use Rattle.std.specs.Prelude.{None, Result}
 use Rattle.rank_input.specs.declared.fault.Fault.{Fault}
 use Rattle.command_line.specs.declared.asked.Command.{Command}
-use Rattle.command_line.specs.declared.asked.Command.TheVariants.{Sample, Rank, Merge, Check, Describe, Table}
+use Rattle.command_line.specs.declared.asked.Command.TheVariants.{Sample, Rank, RankEach, Merge, Check, CheckEach}
+use Rattle.command_line.specs.declared.asked.Command.TheVariants.{Describe, Table}
 use Rattle.extremes.specs.declared.papers.Papers.{Papers}
 use Rattle.extremes.specs.declared.ending.Ending.{Ending}
 use Rattle.extremes.specs.Printed.{IsPrinted}
@@ -31,6 +32,11 @@ returns-in-Sample g c =
 pub returns-in-Rank : goal.returns-in-Rank
 returns-in-Rank g c = as-asked _ _ (Rank c.in-Rank.asked) _ c.in-Rank.is c.run_ranking.ensures
 
+-- for one query, or for each of a list
+pub returns-in-RankEach : goal.returns-in-RankEach
+returns-in-RankEach g c =
+    as-asked _ _ (RankEach c.in-RankEach.asked) _ c.in-RankEach.is c.run_ranking_each.ensures
+
 -- or the reports and certificates of parts are merged
 pub returns-in-Merge : goal.returns-in-Merge
 returns-in-Merge g c = as-asked _ _ (Merge c.in-Merge.asked) _ c.in-Merge.is c.run_merging.ensures
@@ -38,6 +44,11 @@ returns-in-Merge g c = as-asked _ _ (Merge c.in-Merge.asked) _ c.in-Merge.is c.r
 -- or a report and a certificate are checked
 pub returns-in-Check : goal.returns-in-Check
 returns-in-Check g c = as-asked _ _ (Check c.in-Check.asked) _ c.in-Check.is (refl, c.run_judging.ensures)
+
+-- or those of each query of a list are
+pub returns-in-CheckEach : goal.returns-in-CheckEach
+returns-in-CheckEach g c =
+    as-asked _ _ (CheckEach c.in-CheckEach.asked) _ c.in-CheckEach.is (refl, c.run_judging_each.ensures)
 
 -- or files are described
 pub returns-in-Describe : goal.returns-in-Describe
