@@ -1,6 +1,6 @@
 /* Preloaded before a program, lets one of its calls of the system end otherwise. The environment says which:
-   FAIL_CALL   open, read, write, rename, close or thread, which is the start of one; calls that write to
-               standard error aren't meant, and none that closes a standard descriptor
+   FAIL_CALL   open, read, write, seek, rename, close or thread, which is the start of one; calls that write
+               to standard error aren't meant, and none that closes a standard descriptor
    FAIL_AT     the number of that call, from 1; 0 for each of them
    FAIL_HOW    fail: it ends with an error; one: it takes or gives one byte; signal: it is interrupted;
                full: writes take this many bytes in all, and then there is no space; FAIL_AT is that number;
@@ -132,6 +132,10 @@ ssize_t read(int file, void *into, size_t size) {
         size = 1;
     }
     return syscall(SYS_read, file, into, size);
+}
+
+off_t lseek(int file, off_t to, int whence) {
+    return is_met("seek", NULL, file) ? -1 : syscall(SYS_lseek, file, to, whence);
 }
 
 ssize_t write(int file, const void *from, size_t size) {

@@ -1,4 +1,4 @@
--- An input and a guess determine all that one worker returns.
+-- An input determines the report, and with a guess all that one worker returns.
 use Rattle.std.proofs.Common.{◌≡◌, ℕ, List, [], ◌∷◌, Option, refl, sym, ap, ◌∙◌, subst, map, ℤ}
 use Rattle.std.specs.Prelude.{Some, find}
 use Rattle.std.specs.List.{AllByRecursion}
@@ -15,7 +15,8 @@ use Rattle.rank_papers.specs.Report.{named, report_text}
 use Rattle.rank_papers.specs.Right.{IsAdmittedSeries, IsRightReport}
 use Rattle.rank_papers.specs.RightLaws.{BestAreOne}
 use Rattle.extremes.proofs.Readings.{one_query, one_saying}
-use Rattle.extremes.specs.Answer.{AreRight, IsOfOneWorker, certificate_of_run, SerialPapersAreOne}
+use Rattle.extremes.specs.Answer.{AreRight, Answers, IsOfOneWorker, certificate_of_run, SerialPapersAreOne, ReportsAreOne}
+use Rattle.extremes.specs.declared.papers.Papers.{Papers}
 
 -- candidates, each with its listed station, are one list
 one_rows : (stations : List Station) (xs ys : List (Candidate × Station))
@@ -41,6 +42,17 @@ one_report q stations files bytes bytes' best a b =
     a.text ∙ ap (λ (rows : List (Candidate × Station)). report_text q (map named rows))
     (one_rows stations a.rows b.rows ((best q).1 stations files _ _ a.best b.best) a.listed b.listed) ∙ sym b.text
 
+-- so an input determines the report and the number of lines of unlisted stations
+pub report_one : BestAreOne → ReportsAreOne
+report_one best query stations files a b right-a right-b =
+    let q : Asked = right-a.asked in
+    let list : List Station = stations_said stations in
+    let right : AreRight q list files b = subst (λ (x : Asked). AreRight x list files b)
+    (one_query query right-b.asked q right-b.asks right-a.asks) right-b.right in (
+      one_report q list files a.report.items b.report.items best right-a.right.report right.report,
+      right-a.right.unlisted ∙ sym right.unlisted,
+    )
+
 -- the certificate of one worker's run is one text
 one_certificate : (p : Planned) (guess : Option ℤ) (bytes bytes' : List ℕ) → RecordsAloneAreOne
     → IsOfOneWorker p guess bytes → IsOfOneWorker p guess bytes' → bytes ≡ bytes'
@@ -59,11 +71,10 @@ serial_one best one guess query stations files a b right-a serial-a right-b seri
     let other : IsOfOneWorker (planned q c) guess b.certificate.items =
     subst (λ (x : Asked × Contents). IsOfOneWorker (planned x.0 x.1) guess b.certificate.items)
     (one_saying query stations files (serial-b.asked, serial-b.dataset) q serial-b.read right-a.asks) serial-b.alone in
-    let list : List Station = stations_said stations in
-    let right : AreRight q list files b = subst (λ (x : Asked). AreRight x list files b)
-    (one_query query right-b.asked q right-b.asks right-a.asks) right-b.right in
+    let same : (a.report.items ≡ b.report.items) × (a.unlisted ≡ b.unlisted) =
+    report_one best query stations files a b right-a right-b in
     record {
-      report = one_report q list files a.report.items b.report.items best right-a.right.report right.report;
+      report = same.0;
       certificate = one_certificate (planned q c) guess a.certificate.items b.certificate.items one mine other;
-      unlisted = right-a.right.unlisted ∙ sym right.unlisted;
+      unlisted = same.1;
     }

@@ -104,3 +104,10 @@ abbrev pub SerialPapersAreOne : Type 0
 SerialPapersAreOne = (guess : Option ℤ) (query stations : List ℕ) (files : List (List ℕ)) (a b : Papers)
     → Answers query stations files a → IsSerial guess query stations files a
     → Answers query stations files b → IsSerial guess query stations files b → AreSamePapers a b
+
+-- an input determines the report: two rankings of it have the same report, byte for byte, and count the same lines,
+-- however many workers each had and whatever their certificates say
+abbrev pub ReportsAreOne : Type 0
+ReportsAreOne = (query stations : List ℕ) (files : List (List ℕ)) (a b : Papers)
+    → Answers query stations files a → Answers query stations files b
+    → (a.report.items ≡ b.report.items) × (a.unlisted ≡ b.unlisted)

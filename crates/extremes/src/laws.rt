@@ -1,5 +1,6 @@
 //! What ranking, checking and merging imply for each other, as laws over their contracts.
 
+ghost use Rattle.extremes.specs.Answer.{ReportsAreOne};
 ghost use Rattle.extremes.specs.Judged.{AnswersAreAccepted};
 ghost use Rattle.extremes.specs.JudgedInParts.{PartsJudgeTheWhole};
 ghost use Rattle.extremes.specs.RankedInParts.{MergedIsRanked};
@@ -13,6 +14,15 @@ use rank_parts::parts_make_the_whole;
 pub fn answers_are_accepted()
     ensures { AnswersAreAccepted }
 {}
+
+/// Any two rankings of the same texts return the same report, byte for byte, and count the same lines of unlisted
+/// stations.
+pub fn reports_are_one()
+    ensures { ReportsAreOne }
+{
+    // There is only one list of the best.
+    papers_are_found();
+}
 
 /// If each part has what a ranking returns for its files, with one station list and one query,
 /// which each may spell in its own way, what is merged of them has the report that a ranking

@@ -21,13 +21,13 @@ use Rattle.ghcn_series.specs.declared.fault.DataFault.TheVariants.{DailyLine, To
 use Rattle.ghcn_series.specs.declared.fault.DataFault.{DataFault}
 use Rattle.ghcn_series.specs.Series.{DayValue, Usable, Contents, value_on, series_of}
 use Rattle.ghcn_series.specs.DailyFaults.{FileLine, file_lines, daily_lines, daily_fault}
-use Rattle.ghcn_series.specs.Counted.{after_files}
 use Rattle.ghcn_series.specs.Says.{in_64_bits, contents, contents_unless, data_of}
 use Rattle.ghcn_series.specs.Said.{facts_said, unlisted_said, IsMadeOf}
 use Rattle.ghcn_series.specs.Held.{IsContents}
 use Rattle.ghcn_series.specs.JoinedFiles.{files_together}
 use Rattle.ghcn_series.specs.Kept.{kept}
-use Rattle.ghcn_series.specs.LineKinds.{is_odd, foreign_of, odd_among}
+use Rattle.ghcn_series.specs.Counted.{placed_after}
+use Rattle.ghcn_series.specs.LineKinds.{cuts_foreign, is_odd, foreign_of, odd_among}
 use Rattle.ghcn_series.specs.Packed.{IsNextBlock, next_block}
 use Rattle.ghcn_series.proofs.Members.{of_each}
 use Rattle.ghcn_series.proofs.RightData.{data-are-right}
@@ -392,12 +392,20 @@ first_odd_line : (odd_among (daily_lines (text (codes "A" ∷ []) ∷ text (warm
     ∷ [])) ≡ record { count = 2; first = Some (record { file = 0; line = 1 }) })
 first_odd_line = refl
 
--- files that came, and then others: the current file of either, if it has a byte, is ended
+-- files that came, and then others: the first of these goes on with the current file, and those after it follow
 followed : (files_of (followed_by begun begun) ≡ [])
     × (files_of (followed_by (with_end (more begun (codes "ab"))) (with_end begun)) ≡ codes "ab" ∷ [] ∷ [])
+    × (followed_by (more begun (codes "ab")) (more begun (codes "c")) ≡ more begun (codes "abc"))
     × (files_of (followed_by (more begun (codes "ab")) (more (with_end (more begun (codes "c"))) (codes "d")))
-    ≡ codes "ab" ∷ codes "c" ∷ codes "d" ∷ [])
-followed = (refl, refl, refl)
+    ≡ codes "abc" ∷ codes "d" ∷ [])
+followed = (refl, refl, refl, refl)
+
+-- a file is cut at a part that is foreign by itself, unless only blank lines come before that part
+cut_foreign : (cuts_foreign (codes "A") (codes "B" ∷ []) ≡ true)
+    × (cuts_foreign [] (codes "B" ∷ []) ≡ false)
+    × (cuts_foreign (text (warm (codes "ZZA00000001202007TMAX") ∷ [])) (codes "B" ∷ []) ≡ true)
+    × (cuts_foreign (text (warm (codes "ZZA00000001202007TMAX") ∷ [])) [] ≡ false)
+cut_foreign = (refl, refl, refl, refl)
 
 -- lines with the same texts, whatever their numbers are
 texts_alone : line_texts (daily_lines (codes "a" ∷ codes "b" ∷ []))
@@ -409,8 +417,10 @@ foreign_after_two : (foreign_of (codes "x" ∷ []) ≡ record { count = 1; first
     × (foreign_of ([] ∷ [] ∷ codes "x" ∷ []) ≡ record { count = 1; first = Some (0 + 2) })
 foreign_after_two = (refl, refl)
 
--- so has the odd line of such a file
+-- so has the odd line of such a file, and a later line too if the file goes on after lines
 odd_after_two : (odd_among (daily_lines (codes "x" ∷ [])) ≡ record { count = 1; first = Some (record { file = 0; line = 1 }) })
     × (odd_among (daily_lines ([] ∷ [] ∷ codes "x" ∷ []))
-    ≡ record { count = 1; first = Some (after_files 2 (record { file = 0; line = 1 })) })
-odd_after_two = (refl, refl)
+    ≡ record { count = 1; first = Some (placed_after 2 0 (record { file = 0; line = 1 })) })
+    × (placed_after 2 7 (record { file = 0; line = 3 }) ≡ record { file = 2; line = 10 })
+    × (placed_after 2 7 (record { file = 1; line = 3 }) ≡ record { file = 3; line = 3 })
+odd_after_two = (refl, refl, refl, refl)

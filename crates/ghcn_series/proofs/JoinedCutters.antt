@@ -1,82 +1,206 @@
 -- A cutter that goes on after another one.
-use Rattle.std.proofs.Common.{◌≡◌, ℕ, ◌+◌, ◌^◌, true, false, List, [], ◌++◌, length}
-use Rattle.std.proofs.Common.{Option, None, Some, inl, refl, sym, ap, ◌∙◌, length-append, arith}
-use Rattle.std.specs.Prelude.{◌&&◌, not, nat_le, is_none}
-use Rattle.std.proofs.lemmas.Bool.{not-true}
+use Rattle.std.proofs.Common.{◌≡◌, ℕ, ◌+◌, ◌^◌, ◌<◌, Bool, true, false, List, [], ◌∷◌, ◌++◌, length, None}
+use Rattle.std.proofs.Common.{inl, inr, refl, sym, ap, ◌∙◌, subst, append_assoc, length-append, arith}
+use Rattle.std.specs.Prelude.{◌&&◌, ◌||◌, not, nat_le, nat_lt, if◌then◌else◌}
+use Rattle.std.specs.List.{enumerate_from, filter_map}
+use Rattle.std.proofs.Math.Bool.{and-false, or-false, or-true}
+use Rattle.std.proofs.lemmas.Bool.{or_left, false≢true}
+use Rattle.std.proofs.lemmas.Bool.Decides.{nat_tests}
 use Rattle.std.proofs.lemmas.List.{append-nil}
-use Rattle.ghcn_series.specs.declared.cutter.Cut.{Cut}
+use Rattle.std.proofs.lemmas.List.Elements.{filter_map-append}
+use Rattle.std.proofs.lemmas.List.Folds.{list_any-append}
+use Rattle.ghcn_fields.specs.Lines.{lines, EndsLine}
+use Rattle.ghcn_files.proofs.LineLaws.{lines-append}
+use Rattle.ghcn_files.specs.declared.month.Month.{Month}
+use Rattle.ghcn_files.specs.declared.station.StationId.{StationId}
+use Rattle.ghcn_files.specs.Ids.{same_id}
 use Rattle.ghcn_series.specs.declared.cutter.Cutter.{Cutter}
-use Rattle.ghcn_series.specs.declared.fault.DataFault.{DataFault}
-use Rattle.ghcn_series.specs.Counted.{HaveCounted}
-use Rattle.ghcn_series.specs.Cut.{HasCounted, HasFed, HasFedSome, LooksAtAll, WereFedAlike, Joins, StayApart, AreRead}
-use Rattle.ghcn_series.specs.DailyFaults.{daily_lines}
-use Rattle.ghcn_series.specs.Fed.{Files, Fed, with_files, files_of, followed_by}
-use Rattle.ghcn_series.specs.LinesRead.{Reading, JoinsLines, ReadOneStation}
+use Rattle.ghcn_series.specs.Counted.{HaveCounted, JoinsCounts, CutsForeign}
+use Rattle.ghcn_series.specs.Cut.{IsCutFile, lines_to, HasReadFed, HasFed, HasFedSome, LooksAtLines}
+use Rattle.ghcn_series.specs.Cut.{WereFedAlike, Joins, StayApart, HasReadOn, GoOn}
+use Rattle.ghcn_series.specs.DailyFaults.{FileLine, not_blank, file_lines, daily_lines, month_on}
+use Rattle.ghcn_series.specs.Fed.{Fed, with_files, files_of, followed_by, and_current}
+use Rattle.ghcn_series.specs.Gathered.{has_month_of}
+use Rattle.ghcn_series.specs.LinesRead.{Reading, line_texts, JoinsLines, HaveReadAlike, ReadOneStation}
 use Rattle.ghcn_series.specs.Says.{in_64_bits}
-use Rattle.ghcn_series.proofs.CountedLines.{both_of}
-use Rattle.ghcn_series.proofs.FedLines.{lines_from, daily_lines-append, texts-renumbered}
-use Rattle.ghcn_series.proofs.KeptFaults.{ended-unbegun, holds_fed}
+use Rattle.ghcn_series.proofs.AlikeBeginnings.{begin-none, begin-some}
+use Rattle.ghcn_series.proofs.FedCounts.{at_file}
+use Rattle.ghcn_series.proofs.FedLines.{daily_lines-one, file_lines-append}
+use Rattle.ghcn_series.proofs.FedPieces.{without_fault}
+use Rattle.ghcn_series.proofs.JoinedLines.{files_at, lines_on, texts-on, ends-followed, parts-followed, ended-followed}
+use Rattle.ghcn_series.proofs.JoinedLines.{length-followed, lines-followed, nothing_left}
+use Rattle.ghcn_series.proofs.KeptFaults.{looking, lines-all}
 
--- an error that isn't there
-no_fault : (o : Option DataFault) → is_none o ≡ true → o ≡ None
-no_fault None e = refl
-no_fault (Some f) e = absurd cc
+-- ---- months of a station
 
--- what a cutter has read of its files
-abbrev cut_of : {L : Type 0} → Cutter L → Cut L
-cut_of c = record { reader = c.reader; files = c.ended; counts = c.counts }
+-- lines with a month of a station have it with more lines after them
+has_more : (ls behind : List FileLine) (id : StationId) → has_month_of (filter_map month_on ls) id ≡ true
+    → has_month_of (filter_map month_on (ls ++ behind)) id ≡ true
+has_more ls behind id has =
+    rw (
+      filter_map-append month_on ls behind,
+      list_any-append (λ (m : Month). same_id m.id id) (filter_map month_on ls) (filter_map month_on behind),
+    )
+    (or_left (has_month_of (filter_map month_on ls) id) (has_month_of (filter_map month_on behind) id) has)
 
--- if all files are looked at, the current one has no byte, there is no error, and the files are few
-looked_at : {L : Type 0} (c : Cutter L) (files : Files) → LooksAtAll c true → HasCounted c files
-    → (c.begun ≡ false) × (c.fault ≡ None) × (nat_le (length (files_of files)) (2 ^ 20) ≡ true)
-looked_at c files looks counted =
-    let few = nat_le (length (files_of files)) (2 ^ 20) in
-    let all = both_of (not c.begun) (is_none c.fault && few) (sym (looks.is files counted)) in
-    let rest = both_of (is_none c.fault) few all.1 in
-    (not-true c.begun all.0, no_fault c.fault rest.0, rest.1)
+-- so have all lines of the files that came
+has_in_all : (ended : List (List ℕ)) (current whole rest : List ℕ) (id : StationId)
+    → IsCutFile (files_at ended current) whole rest
+    → has_month_of (filter_map month_on (lines_to (files_at ended current) whole)) id ≡ true
+    → has_month_of (filter_map month_on (daily_lines (and_current ended current))) id ≡ true
+has_in_all ended [] whole rest id cut has =
+    subst (λ (ls : List FileLine). has_month_of (filter_map month_on ls) id ≡ true) (lines-all ended whole rest cut) has
+has_in_all ended (b ∷ bs) whole rest id cut has =
+    let n = length ended + 1 in
+    let behind = not_blank n (enumerate_from (1 + length (lines whole)) (lines rest)) in
+    let all : daily_lines (ended ++ (b ∷ bs) ∷ []) ≡ lines_to (files_at ended (b ∷ bs)) whole ++ behind =
+    daily_lines-one ended (b ∷ bs)
+    ∙ ap (λ (t : List ℕ). daily_lines ended ++ file_lines (n, t)) cut.parts
+    ∙ ap (λ (ls : List FileLine). daily_lines ended ++ ls) (file_lines-append n whole rest cut.ends)
+    ∙ sym (append_assoc (daily_lines ended) (file_lines (n, whole)) behind) in
+    subst (λ (ls : List FileLine). has_month_of (filter_map month_on ls) id ≡ true) (sym all)
+    (has_more (lines_to (files_at ended (b ∷ bs)) whole) behind id has)
+
+-- ---- the current file of both
+
+-- it has begun if the last part of it has a byte, or if an earlier part has one and it didn't end
+begun-followed : (ended : List (List ℕ)) (current : List ℕ) (others : List (List ℕ)) (bytes : List ℕ) (ends : Bool)
+    → ends ≡ nat_lt 0 (length others)
+    → (nat_lt 0 (length bytes) || (nat_lt 0 (length current) && not ends))
+    ≡ nat_lt 0 (length (followed_by (files_at ended current) (files_at others bytes)).current)
+begun-followed ended [] [] bytes ends is = or-false (nat_lt 0 (length bytes))
+begun-followed ended (b ∷ bs) [] bytes ends is =
+    let some : nat_lt 0 (length (b ∷ bs)) ≡ true = grind (arith, nat_tests) in
+    let all : nat_lt 0 (length (b ∷ bs ++ bytes)) ≡ true = grind (arith, nat_tests) in
+    rw (is, some, all) (or-true (nat_lt 0 (length bytes)))
+begun-followed ended current (file ∷ files) bytes ends is =
+    let some : ends ≡ true = is ∙ grind (arith, nat_tests) in
+    rw (some, and-false (nat_lt 0 (length current))) (or-false (nat_lt 0 (length bytes)))
+
+-- its lines are those of its parts that didn't end before
+numbered-followed : (ended : List (List ℕ)) (current : List ℕ) (others : List (List ℕ)) (whole : List ℕ) (ends : Bool)
+    → EndsLine current → ends ≡ nat_lt 0 (length others)
+    → (if not ends then length (lines current) else 0) + length (lines whole)
+    ≡ length (lines (followed_by (files_at ended current) (files_at others whole)).current)
+numbered-followed ended current [] whole ends line is =
+    rw is (omega (
+      arith,
+      ap length (lines-append current whole line),
+      length-append (lines current) (lines whole),
+    ))
+numbered-followed ended current (file ∷ files) whole ends line is =
+    let some : ends ≡ true = is ∙ grind (arith, nat_tests) in
+    rw some (omega arith)
+
+-- ---- cutters
+
+-- a cutter has read the current file as whole lines
+record HasReadWhole {L : Type 0} (has_read : Reading L) (c : Cutter L) (fed : Fed) : Type 0 where
+  pub ends : EndsLine fed.files.current
+  pub numbered : c.line ≡ length (lines fed.files.current)
+  pub counted : HaveCounted c.counts fed.files.ended fed.files.current
+  pub read : has_read c.reader fed.stations fed.keep (lines_to fed.files fed.files.current)
 
 module _ {L : Type 0} {has_read : Reading L} where
-  -- all that was fed is read
-  all_read : (c : Cutter L) (fed : Fed) → LooksAtAll c true → HasFed has_read c fed
-      → AreRead has_read fed (files_of fed.files) (cut_of c)
-  all_read c fed looks is =
-      let at = looked_at c fed.files looks is.counted in
-      (holds_fed c c (cut_of c) (ended-unbegun c at.0)
-      (record { is = λ files counted. sym (looked_at c files looks counted).2 }) at.1 refl refl refl).is fed is
+  -- what was read of the files that came, and at which file the cutter is
+  read_on : (c : Cutter L) (fed : Fed) → LooksAtLines c true → HasFed has_read c fed
+      → HasReadFed has_read c fed × (c.ended ≡ length fed.files.ended)
+  read_on c fed looks is =
+      let few = looking c fed.files looks is.counted in
+      (without_fault c fed few.0 (is.fault few.1), at_file c fed.files few.1 is.counted)
+
+  -- the same of a cutter without an error
+  read_well : (c : Cutter L) (fed : Fed) → HasReadOn c fed.files → HasFed has_read c fed → HasReadFed has_read c fed
+  read_well c fed on is = without_fault c fed (rw on.right refl) (is.fault on.few)
+
+  -- if nothing is left of a line, the current file is whole lines
+  read_whole : (c : Cutter L) (fed : Fed) (read : HasReadFed has_read c fed) → read.rest ≡ []
+      → HasReadWhole has_read c fed
+  read_whole c fed read none =
+      let whole : fed.files.current ≡ read.whole =
+      read.cut.parts ∙ ap (λ (t : List ℕ). read.whole ++ t) none ∙ append-nil read.whole in
+      record {
+        ends = rw whole read.cut.ends;
+        numbered = rw whole read.numbered;
+        counted = rw whole read.counted;
+        read = rw whole read.read;
+      }
+
+  -- two readers have read lines for the same stations
+  pub readers-alike : (first next : Cutter L) → LooksAtLines first true → LooksAtLines next true
+      → WereFedAlike has_read first next → HaveReadAlike has_read first.reader next.reader
+  readers-alike first next looks looks_too alike =
+      let one = (read_on first alike.fed looks alike.of_first).0 in
+      let two = (read_on next (with_files alike.fed alike.files) looks_too alike.of_next).0 in
+      record {
+        stations = alike.fed.stations;
+        keep = alike.fed.keep;
+        lines = lines_to alike.fed.files one.whole;
+        more = lines_to alike.files two.whole;
+        of_first = one.read;
+        of_next = two.read;
+      }
 
   -- a cutter with what both have read was fed the files of both
-  pub cutters_joined : (first next both : Cutter L) → LooksAtAll first true → LooksAtAll next true
-      → JoinsLines has_read first.reader next.reader both.reader
-      → ((files more : List (List ℕ)) → first.ended ≡ length files → HaveCounted first.counts files []
-      → HaveCounted next.counts more [] → HaveCounted both.counts (files ++ more) [])
-      → both.ended ≡ in_64_bits (first.ended + next.ended) → both.begun ≡ false → both.line ≡ 0
-      → both.rest.items ≡ [] → both.fault ≡ None → Joins has_read first next both
-  cutters_joined first next both looks looks_too reads counts ended begun line rest none = record {
-    holds = λ fed files is of.
-        let these = files_of fed.files in
-        let others = files_of files in
-        let read = all_read first fed looks is in
-        let more = all_read next (with_files fed files) looks_too of in
-        record {
-          counted = record {
-            ended = ended ∙ ap in_64_bits (omega (arith, read.number, more.number, length-append these others));
-            begun = begun;
-          };
-          fault = λ few. rw none (record {
-            whole = [];
-            rest = [];
-            cut = record { parts = refl; ends = inl refl };
-            unended = tt;
-            kept = rw rest (record { holds = λ bytes. record { columns = refl; behind = refl } });
-            numbered = line;
-            counted = counts these others read.number read.counted more.counted;
-            read = rw (append-nil (daily_lines (these ++ others)), daily_lines-append these others)
-                (reads.holds fed.stations fed.keep (daily_lines these) (daily_lines others)
-                (lines_from (1 + length these) others) read.read more.read
-                (texts-renumbered (1 + length these) others));
-          });
-        };
-  }
+  pub cutters_joined : (first next both : Cutter L) (ends : Bool) → LooksAtLines first true → LooksAtLines next true
+      → first.rest.items ≡ [] → CutsForeign first.counts next.counts false
+      → JoinsLines has_read first.reader next.reader both.reader → ends ≡ nat_lt 0 next.ended
+      → JoinsCounts first.counts next.counts both.counts first.ended first.line ends
+      → both.ended ≡ in_64_bits (first.ended + next.ended)
+      → both.begun ≡ (next.begun || (first.begun && not ends))
+      → both.line ≡ (if not ends then first.line else 0) + next.line
+      → both.rest ≡ next.rest → both.fault ≡ None → Joins has_read first next both
+  cutters_joined first next both ends looks looks_too empty cuts reads ended counts number begun line rest none =
+      record {
+        holds = λ fed files is of.
+            let one = read_on first fed looks is in
+            let two = read_on next (with_files fed files) looks_too of in
+            let all = read_whole first fed one.0 (begin-none one.0.rest first.rest.items one.0.kept empty) in
+            let before = fed.files.ended in
+            let current = fed.files.current in
+            let others = files.ended in
+            let whole = two.0.whole in
+            let both_files = followed_by (files_at before current) (files_at others whole) in
+            let at_end : ends ≡ nat_lt 0 (length others) = ended ∙ ap (nat_lt 0) two.1 in
+            let same : (followed_by fed.files files).ended ≡ both_files.ended =
+            ended-followed before current others files.current whole in
+            let uncut = sym (cuts.is fed.files (files_at others whole) all.counted two.0.counted) in
+            record {
+              counted = record {
+                ended = number ∙ ap in_64_bits (omega (
+                  arith,
+                  one.1,
+                  two.1,
+                  length-followed before current others files.current,
+                ));
+                begun = begun ∙ rw (is.counted.begun, of.counted.begun)
+                    (begun-followed before current others files.current ends at_end);
+              };
+              fault = λ few. rw none (record {
+                whole = both_files.current;
+                rest = two.0.rest;
+                cut = record {
+                  parts = ap (λ (t : List ℕ). (followed_by (files_at before current) (files_at others t)).current)
+                      two.0.cut.parts
+                      ∙ parts-followed before current others whole two.0.rest;
+                  ends = ends-followed before current others whole all.ends two.0.cut.ends;
+                };
+                unended = two.0.unended;
+                kept = rw rest two.0.kept;
+                numbered = line
+                    ∙ ap (λ (n : ℕ). (if not ends then n else 0) + next.line) all.numbered
+                    ∙ ap (λ (n : ℕ). (if not ends then length (lines current) else 0) + n) two.0.numbered
+                    ∙ numbered-followed before current others whole ends all.ends at_end;
+                counted = rw same (counts.holds fed.files (files_at others whole) all.ends uncut one.1 all.numbered
+                    at_end all.counted two.0.counted);
+                read = rw (same, lines-followed before current others whole all.ends)
+                    (reads.holds fed.stations fed.keep (lines_to fed.files current) (lines_to files whole)
+                    (lines_on (length before + 1) (length (lines current)) (others ++ whole ∷ [])) all.read two.0.read
+                    (texts-on (length before + 1) (length (lines current)) (others ++ whole ∷ [])
+                    ∙ ap line_texts (daily_lines-one others whole)));
+              });
+            };
+      }
 
   -- and can be fed more
   pub going-joined : (first next both : Cutter L) → Joins has_read first next both → WereFedAlike has_read first next
@@ -86,11 +210,72 @@ module _ {L : Type 0} {has_read : Reading L} where
     joins.holds alike.fed alike.files alike.of_first alike.of_next,
   )
 
-  -- two cutters stay apart, since a listed station has months in both
-  pub apart-shared : (first next : Cutter L) → LooksAtAll first true → LooksAtAll next true
-      → ReadOneStation has_read first.reader next.reader → StayApart has_read first next
-  apart-shared first next looks looks_too one = record {
-    why = λ fed files is of all all_too.
-        one.share fed.stations fed.keep (daily_lines (files_of fed.files)) (daily_lines (files_of files))
-        (all_read first fed looks is).read (all_read next (with_files fed files) looks_too of).read;
+  -- ---- cutters that stay apart
+
+  -- lines aren't looked at if there is an error, or if there are too many files
+  not_read : (c : Cutter L) (fed : Fed) → LooksAtLines c false → HasFed has_read c fed → HasReadOn c fed.files → ⊥
+  not_read c fed passed is on =
+      let few : nat_le (length (files_of fed.files)) (2 ^ 20) ≡ true = grind (arith, nat_tests, on.few) in
+      let read : false ≡ true = passed.is fed.files is.counted ∙ rw (on.right, few) refl in
+      false≢true read
+
+  -- the first cutter doesn't look at lines
+  pub apart-passed : (first next : Cutter L) → LooksAtLines first false → StayApart has_read first next
+  apart-passed first next passed = record {
+    why = λ fed files is of on on_too ends. absurd (not_read first fed passed is on);
   }
+
+  -- or the next one doesn't
+  pub apart-passed_next : (first next : Cutter L) → LooksAtLines next false → StayApart has_read first next
+  apart-passed_next first next passed = record {
+    why = λ fed files is of on on_too ends. absurd (not_read next (with_files fed files) passed of on_too);
+  }
+
+  -- nothing is left of a line if the current file ends one
+  none_of_line : (c : Cutter L) (fed : Fed) (read : HasReadFed has_read c fed) → EndsLine fed.files.current
+      → read.rest ≡ []
+  none_of_line c fed read ends = nothing_left read.whole read.rest (rw read.cut.parts at ends) read.unended
+
+  -- the first cutter was left within a line
+  pub apart-within : (first next : Cutter L) → 0 < length first.rest.items → StayApart has_read first next
+  apart-within first next some = record {
+    why = λ fed files is of on on_too ends.
+        let read = read_well first fed on is in
+        let left = begin-some read.rest first.rest.items read.kept some in
+        absurd (omega (arith, left, ap length (none_of_line first fed read ends)));
+  }
+
+  -- a part of the file that goes on is foreign
+  pub apart-foreign : (first next : Cutter L) → CutsForeign first.counts next.counts true
+      → StayApart has_read first next
+  apart-foreign first next cuts = record {
+    why = λ fed files is of on on_too ends.
+        let read = read_well first fed on is in
+        let two = read_well next (with_files fed files) on_too of in
+        let all = read_whole first fed read (none_of_line first fed read ends) in
+        inr (sym (cuts.is fed.files (files_at files.ended two.whole) all.counted two.counted));
+  }
+
+  -- a listed station has months in both
+  pub apart-shared : (first next : Cutter L) → ReadOneStation has_read first.reader next.reader
+      → StayApart has_read first next
+  apart-shared first next shares = record {
+    why = λ fed files is of on on_too ends.
+        let read = read_well first fed on is in
+        let two = read_well next (with_files fed files) on_too of in
+        let one = shares.share fed.stations fed.keep (lines_to fed.files read.whole) (lines_to files two.whole)
+        read.read two.read in
+        inl (record {
+          station = one.station;
+          listed = one.listed;
+          has = has_in_all fed.files.ended fed.files.current read.whole read.rest one.station.id read.cut one.has;
+          has_too = has_in_all files.ended files.current two.whole two.rest one.station.id two.cut one.has_too;
+        });
+  }
+
+module _ {L : Type 0} (has_read : Reading L) where
+  -- a next cutter can go on with the files of a first one, or a part of the file that goes on is foreign
+  pub goes-on : (first next : Cutter L) (cuts : Bool) → LooksAtLines first true → LooksAtLines next true
+      → first.rest.items ≡ [] → CutsForeign first.counts next.counts cuts → GoOn has_read first next (not cuts)
+  goes-on first next true looks looks_too empty cuts = apart-foreign first next cuts
+  goes-on first next false looks looks_too empty cuts = (looks, looks_too, empty, cuts)

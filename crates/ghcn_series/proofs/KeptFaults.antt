@@ -33,7 +33,7 @@ not_both true false e t = absurd cc
 not_both false b e t = refl
 
 -- if lines are looked at, there is no error, and the files are few
-looking : {L : Type 0} (c : Cutter L) (files : Files) → LooksAtLines c true → HasCounted c files
+pub looking : {L : Type 0} (c : Cutter L) (files : Files) → LooksAtLines c true → HasCounted c files
     → (is_none c.fault ≡ true) × (length (files_of files) ≤ 2 ^ 20)
 looking c files looks counted =
     let both = both_of (is_none c.fault) (nat_le (length (files_of files)) (2 ^ 20)) (sym (looks.is files counted)) in
@@ -105,7 +105,7 @@ none_left files whole rest cut =
     nil_from_length whole (omega (arith, ap length cut.parts, length-append whole rest))
 
 -- so their lines are all that was read
-lines-all : (files : List (List ℕ)) (whole rest : List ℕ) → IsCutFile (ended_files files) whole rest
+pub lines-all : (files : List (List ℕ)) (whole rest : List ℕ) → IsCutFile (ended_files files) whole rest
     → lines_to (ended_files files) whole ≡ daily_lines files
 lines-all files whole rest cut = rw (none_left files whole rest cut) (append-nil (daily_lines files))
 

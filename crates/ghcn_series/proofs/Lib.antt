@@ -32,7 +32,9 @@ pub mod ReadFiles
 pub mod FedLines
 pub mod FormOfLines
 pub mod CountedLines
+pub mod JoinedLines
 pub mod JoinedCounts
+pub mod FollowedCounts
 pub mod AlikeLines
 pub mod AlikeMonths
 pub mod AlikeBeginnings

@@ -1,16 +1,19 @@
 -- What is counted on lines that are read one after another.
-use Rattle.std.specs.Prelude.{◌≡◌, ℕ, ◌+◌, ◌++◌, ◌||◌, not, if◌then◌else◌, List, length, Some}
+use Rattle.std.specs.Prelude.{◌≡◌, ℕ, ◌+◌, ◌==◌, nat_lt, Bool, false, ◌||◌, not, if◌then◌else◌}
+use Rattle.std.specs.Prelude.{List, ◌++◌, length, Some}
 use Rattle.std.specs.List.{list_any, count_by}
 use Rattle.std.specs.Option.{option_or, option_map}
 use Rattle.ghcn_fields.specs.Bytes.{is_blank}
-use Rattle.ghcn_fields.specs.Lines.{lines}
+use Rattle.ghcn_fields.specs.Lines.{lines, EndsLine}
 use Rattle.ghcn_series.specs.declared.counts.Foreign.{Foreign}
 use Rattle.ghcn_series.specs.declared.counts.LinePlace.{LinePlace}
 use Rattle.ghcn_series.specs.declared.counts.OddLines.{OddLines}
 use Rattle.ghcn_series.specs.declared.counts.LineCounts.{LineCounts}
 use Rattle.ghcn_series.specs.DailyFaults.{file_lines, daily_lines}
+use Rattle.ghcn_series.specs.Fed.{Files, followed_by}
 use Rattle.ghcn_series.specs.Says.{in_64_bits}
-use Rattle.ghcn_series.specs.LineKinds.{all_lines, blank_lines, has_element, is_odd, foreign_of, odd_among}
+use Rattle.ghcn_series.specs.LineKinds.{all_lines, blank_lines, has_element, is_odd}
+use Rattle.ghcn_series.specs.LineKinds.{cuts_foreign, foreign_of, odd_among}
 
 -- these are the counts of the ended files and of these whole lines of the current one, which `lines` leaves out
 pub record HaveCounted (c : LineCounts) (ended : List (List ℕ)) (whole : List ℕ) : Type 0 where
@@ -44,11 +47,28 @@ pub record JoinsForeign (these others : Foreign) (place : ℕ) (both : Foreign) 
   pub count : both.count ≡ these.count + others.count
   pub first : both.first ≡ option_or these.first (option_map (λ n. n + place) others.first)
 
--- the place of a line of a file that comes after that many more files
-abbrev pub after_files : ℕ → LinePlace → LinePlace
-after_files count place = record { file = place.file + count; line = place.line }
+-- the place of a line of files that come after that many more, the first of them after that many lines more of the same
+-- file
+abbrev pub placed_after : ℕ → ℕ → LinePlace → LinePlace
+placed_after files lines place = record {
+  file = place.file + files;
+  line = place.line + (if place.file == 0 then lines else 0);
+}
 
--- the odd lines of some files, and of others after that many files
-pub record JoinsOdd (these others : OddLines) (place : ℕ) (both : OddLines) : Type 0 where
+-- the odd lines of some files, and of others after that many files and lines
+pub record JoinsOdd (these others : OddLines) (files lines : ℕ) (both : OddLines) : Type 0 where
   pub count : both.count ≡ these.count + others.count
-  pub first : both.first ≡ option_or these.first (option_map (after_files place) others.first)
+  pub first : both.first ≡ option_or these.first (option_map (placed_after files lines) others.first)
+
+-- what was counted of two is what is counted of both together, if the first of the other files goes on after whole lines
+-- of the current one, and no part of it is foreign by itself
+pub record JoinsCounts (these others both : LineCounts) (place line : ℕ) (ends : Bool) : Type 0 where
+  pub holds : (files more : Files) → EndsLine files.current → cuts_foreign files.current more.ended ≡ false
+      → place ≡ length files.ended → line ≡ length (lines files.current) → ends ≡ nat_lt 0 (length more.ended)
+      → HaveCounted these files.ended files.current → HaveCounted others more.ended more.current
+      → HaveCounted both (followed_by files more).ended (followed_by files more).current
+
+-- a part of the current file of some counts is foreign by itself, if the files of others go on with it, or none is
+pub record CutsForeign (these others : LineCounts) (cuts : Bool) : Type 0 where
+  pub is : (files more : Files) → HaveCounted these files.ended files.current
+      → HaveCounted others more.ended more.current → cuts ≡ cuts_foreign files.current more.ended

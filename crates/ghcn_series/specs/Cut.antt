@@ -1,6 +1,6 @@
 -- What a cutter of daily files was fed, and what each of its steps adds.
-use Rattle.std.specs.Prelude.{◌≡◌, ℕ, ◌+◌, ◌^◌, ◌≤◌, Bool, ◌&&◌, not, nat_lt, nat_le, List, [], ◌++◌, length, Option}
-use Rattle.std.specs.Prelude.{None, Some, is_none}
+use Rattle.std.specs.Prelude.{◌≡◌, ℕ, ◌+◌, ◌^◌, ◌≤◌, nat_lt, nat_le, ◌⊎◌, Bool, true, false, ◌&&◌}
+use Rattle.std.specs.Prelude.{List, [], ◌++◌, length, Option, None, Some, is_none}
 use Rattle.std.specs.Str.Lines.{strip_carriage_return}
 use Rattle.ghcn_fields.specs.Lines.{lines, HasNoLineFeed, EndsLine}
 use Rattle.ghcn_fields.specs.Refusals.{IsRefusal}
@@ -8,10 +8,11 @@ use Rattle.ghcn_series.specs.declared.cutter.Cut.{Cut}
 use Rattle.ghcn_series.specs.declared.cutter.Cutter.{Cutter}
 use Rattle.ghcn_series.specs.declared.fault.DataFault.{DataFault}
 use Rattle.ghcn_series.specs.Alike.{BeginAlike}
-use Rattle.ghcn_series.specs.Counted.{HaveCounted, CountsLine}
+use Rattle.ghcn_series.specs.Counted.{HaveCounted, CountsLine, CutsForeign}
 use Rattle.ghcn_series.specs.DailyFaults.{FileLine, one_line, file_lines, daily_lines, is_memory, IsFirstRefusal}
 use Rattle.ghcn_series.specs.Fed.{Files, Fed, more, with_end, with_files, files_of, followed_by}
 use Rattle.ghcn_series.specs.Gathered.{IsLineRefusal}
+use Rattle.ghcn_series.specs.LineKinds.{cuts_foreign}
 use Rattle.ghcn_series.specs.LinesRead.{Reading, Making, Reads, Refuses, HaveOneStation}
 use Rattle.ghcn_series.specs.Says.{in_64_bits, data_of}
 
@@ -78,11 +79,6 @@ pub record TakesPiece {L : Type 0} (has_read : Reading L) (old new : Cutter L) (
 pub record EndsFile {L : Type 0} (has_read : Reading L) (old new : Cutter L) : Type 0 where
   pub holds : (fed : Fed) → HasFed has_read old fed → HasFed has_read new (with_files fed (with_end fed.files))
 
--- a cutter has read all files that came, or it hasn't: it has no error, they are few enough, and all are ended
-pub record LooksAtAll {L : Type 0} (c : Cutter L) (all : Bool) : Type 0 where
-  pub is : (files : Files) → HasCounted c files
-      → all ≡ (not c.begun && (is_none c.fault && nat_le (length (files_of files)) (2 ^ 20)))
-
 -- two cutters were fed files for the same stations, and keep the values of the same elements
 pub record WereFedAlike {L : Type 0} (has_read : Reading L) (first next : Cutter L) : Type 0 where
   pub fed : Fed
@@ -90,22 +86,31 @@ pub record WereFedAlike {L : Type 0} (has_read : Reading L) (first next : Cutter
   pub of_first : HasFed has_read first fed
   pub of_next : HasFed has_read next (with_files fed files)
 
--- a cutter was fed what a first one was fed, and then the files that a next one was fed
+-- a cutter was fed what a first one was fed, and then the files that a next one was fed, of which the first one goes on
+-- with the current file of the first cutter
 pub record Joins {L : Type 0} (has_read : Reading L) (first next both : Cutter L) : Type 0 where
   pub holds : (fed : Fed) (files : Files) → HasFed has_read first fed → HasFed has_read next (with_files fed files)
       → HasFed has_read both (with_files fed (followed_by fed.files files))
 
--- a cutter has read these files to their end: it keeps no error, they are few enough, and all of them are ended
-pub record HasReadAll {L : Type 0} (c : Cutter L) (files : Files) : Type 0 where
+-- a cutter has read these files as far as they came: it keeps no error, and they are few enough
+pub record HasReadOn {L : Type 0} (c : Cutter L) (files : Files) : Type 0 where
   pub right : c.fault ≡ None
   pub few : length (files_of files) ≤ 2 ^ 20
-  pub ended : files.current ≡ []
 
--- two cutters stay apart: one hasn't read its files to their end, or a listed station has months in the files of both
+-- two cutters stay apart: one hasn't read its files as far as they came, the files of the first one end within a line,
+-- a listed station has months in the files of both, or the file that goes on is cut at a part that is foreign
 pub record StayApart {L : Type 0} (has_read : Reading L) (first next : Cutter L) : Type 0 where
   pub why : (fed : Fed) (files : Files) → HasFed has_read first fed → HasFed has_read next (with_files fed files)
-      → HasReadAll first fed.files → HasReadAll next files
+      → HasReadOn first fed.files → HasReadOn next files → EndsLine fed.files.current
       → HaveOneStation fed.stations (daily_lines (files_of fed.files)) (daily_lines (files_of files))
+      ⊎ (cuts_foreign fed.files.current files.ended ≡ true)
+
+-- a next cutter can go on with the files of a first one, or both stay apart: both have looked at their lines, the first
+-- one is at the end of a line, and no part of the file that goes on is foreign by itself
+abbrev pub GoOn : {L : Type 0} → Reading L → Cutter L → Cutter L → Bool → Type 0
+GoOn has_read first next true = LooksAtLines first true × LooksAtLines next true × (first.rest.items ≡ [])
+    × CutsForeign first.counts next.counts false
+GoOn has_read first next false = StayApart has_read first next
 
 -- these files, which are few enough, are read to the end, and counted
 pub record AreRead {L : Type 0} (has_read : Reading L) (fed : Fed) (files : List (List ℕ)) (all : Cut L) : Type 0 where

@@ -45,9 +45,18 @@ nothing_fed keep stations = record { keep = keep; stations = stations; files = e
 abbrev pub with_files : Fed → Files → Fed
 with_files fed files = record { keep = fed.keep; stations = fed.stations; files = files }
 
--- the files that came, and then others, all of them ended
+-- the files that came, and then some that were ended and the bytes of one more: the first of these are the next bytes
+-- of the current file
+abbrev pub going_on : Files → List (List ℕ) → List ℕ → Files
+going_on files [] current = more files current
+going_on files (file ∷ ended) current = record {
+  ended = files.ended ++ (files.current ++ file) ∷ ended;
+  current = current;
+}
+
+-- the files that came, and then others, of which the first one goes on with the current file
 abbrev pub followed_by : Files → Files → Files
-followed_by files others = ended_files (files_of files ++ files_of others)
+followed_by files others = going_on files others.ended others.current
 
 -- the error is out of memory
 abbrev pub IsOfMemory : DataFault → Type 0

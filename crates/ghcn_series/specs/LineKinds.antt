@@ -1,5 +1,6 @@
 -- What is on the lines of daily files, the files that have none of the five elements, and the odd lines.
-use Rattle.std.specs.Prelude.{ℕ, ◌-◌, Bool, false, ◌&&◌, ◌||◌, not, if◌then◌else◌, List, [], ◌∷◌, map, filter, drop}
+use Rattle.std.specs.Prelude.{ℕ, ◌-◌, Bool, false, ◌&&◌, ◌||◌, not, if◌then◌else◌}
+use Rattle.std.specs.Prelude.{List, [], ◌∷◌, map, filter, drop, get_or}
 use Rattle.std.specs.List.{flat_map, list_any, list_all, count_by, enumerate_from, slice_get, find}
 use Rattle.std.specs.Option.{is_some, option_map}
 use Rattle.std.specs.Char.{is_ascii_uppercase, is_ascii_digit}
@@ -55,6 +56,12 @@ is_odd line = not (is_blank line) && not (has_element line) && not (has_form lin
 -- a file is foreign: it has a line that isn't blank, and none of the five elements
 abbrev pub is_foreign : List ℕ → Bool
 is_foreign file = list_any (λ l. not (is_blank l)) (lines file) && not (list_any has_element (lines file))
+
+-- a file has a part before files, the first of which is its other part: the part before is foreign by itself, or the
+-- other one is although the part before has a line that isn't blank
+abbrev pub cuts_foreign : List ℕ → List (List ℕ) → Bool
+cuts_foreign before files =
+    is_foreign before || (list_any (λ l. not (is_blank l)) (lines before) && is_foreign (get_or files 0 []))
 
 -- the places of the foreign files among all files, from 0
 abbrev pub foreign_places : List (List ℕ) → List ℕ

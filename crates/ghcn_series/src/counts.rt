@@ -1,10 +1,11 @@
 //! What is counted on the lines of daily files.
 
-ghost use Rattle.std.specs.Prelude.{◌≡◌, ℕ, ◌≤◌, ◌^◌, ◌&&◌, not, List, [], ◌∷◌, ◌++◌, length, IfSome};
+ghost use Rattle.std.specs.Prelude.{◌≡◌, ℕ, ◌≤◌, ◌^◌, ◌&&◌, ◌||◌, if◌then◌else◌, not};
+ghost use Rattle.std.specs.Prelude.{List, [], ◌∷◌, ◌++◌, length, IfSome};
 ghost use Rattle.ghcn_fields.specs.Lines as text;
 ghost use Rattle.ghcn_series.specs.LineKinds.{line_kind, foreign_of, odd_among, warnings_of};
 ghost use Rattle.ghcn_series.specs.Counted.{HaveCounted, CountsLine, AddsForeign, with_odd};
-ghost use Rattle.ghcn_series.specs.Counted.{JoinsForeign, JoinsOdd};
+ghost use Rattle.ghcn_series.specs.Counted.{JoinsForeign, JoinsOdd, JoinsCounts, CutsForeign};
 
 /// What is on a line of daily files.
 #[derive(Clone, Copy, Debug, PartialEq, Eq)]
@@ -101,15 +102,16 @@ impl OddLines {
         Some(())
     }
 
-    /// These, and those of other files that come after that many files, unless a number gets too great.
-    fn join(self, next: Self, place: u64) -> Option<Self>
-        ensures { IfSome result (JoinsOdd self next place) }
+    /// These, and those of other files that come after that many files, the first of them after that many lines of the
+    /// same file, unless a number gets too great.
+    fn join(self, next: Self, files: u64, lines: u64) -> Option<Self>
+        ensures { IfSome result (JoinsOdd self next files lines) }
     {
         let count = self.count.checked_add(next.count)?;
         let first = match (self.first, next.first) {
             (None, Some(LinePlace { file, line })) => Some(LinePlace {
-                file: file.checked_add(place)?,
-                line,
+                file: file.checked_add(files)?,
+                line: line.checked_add(if file == 0 { lines } else { 0 })?,
             }),
             (first, _) => first,
         };
@@ -204,23 +206,32 @@ impl LineCounts {
         Some(())
     }
 
-    /// These counts, and those of other files that come after that many files, all of them ended, unless a number
-    /// gets too great.
-    pub(crate) fn join(self, next: Self, place: u64) -> Option<Self>
-        ensures { IfSome result (λ both. (files others : List (List ℕ)) → place ≡ length files
-            → HaveCounted self files [] → HaveCounted next others [] → HaveCounted both (files ++ others) []) }
+    /// These counts, and those of other files that come after that many ended files, the first of them after that many
+    /// lines of the current file, which may end among the others. None if a number gets too great.
+    pub(crate) fn join(self, next: Self, place: u64, line: u64, ends: bool) -> Option<Self>
+        ensures { IfSome result (λ both. JoinsCounts self next both place line ends) }
     {
         let (foreign, odd) = (self.warnings.foreign, self.warnings.odd);
+        let ended = self.lines.checked_add(lines_if(ends, line))?;
         Some(LineCounts {
-            lines: self.lines.checked_add(next.lines)?,
+            lines: ended.checked_add(next.lines)?,
             blank: self.blank.checked_add(next.blank)?,
             warnings: Warnings {
                 foreign: foreign.join(next.warnings.foreign, place)?,
-                odd: odd.join(next.warnings.odd, place)?,
+                odd: odd.join(next.warnings.odd, place, line)?,
             },
-            has_line: false,
-            has_element: false,
+            has_line: goes_on(self.has_line, next.has_line, ends),
+            has_element: goes_on(self.has_element, next.has_element, ends),
         })
+    }
+
+    /// Whether the current file, if the first of other files goes on with it, has a part that is foreign by itself. It
+    /// isn't known then whether the whole file is foreign.
+    pub(crate) fn cuts_foreign(&self, next: &Self) -> bool
+        ensures { CutsForeign self.now next.now result }
+    {
+        let goes_on_foreign = matches!(next.warnings.foreign.first, Some(0));
+        self.has_line && (!self.has_element || goes_on_foreign)
     }
 
     /// Whether the current file is foreign, as far as its lines have come.
@@ -229,4 +240,19 @@ impl LineCounts {
     {
         self.has_line && !self.has_element
     }
+}
+
+/// This many lines if a test passes, and otherwise none.
+pub(crate) fn lines_if(passes: bool, lines: u64) -> u64
+    ensures { result ≡ (if passes then lines else 0) }
+{
+    if passes { lines } else { 0 }
+}
+
+/// Whether a test that passed in a file, or passed in the part that came last, passes in the current file: the first
+/// one counts if the file goes on.
+pub(crate) fn goes_on(before: bool, last: bool, ended: bool) -> bool
+    ensures { result ≡ (last || (before && not ended)) }
+{
+    last || before && !ended
 }

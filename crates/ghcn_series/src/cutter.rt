@@ -9,7 +9,7 @@ ghost use Rattle.ghcn_series.specs.LineKinds.{line_kind};
 ghost use Rattle.ghcn_series.specs.LinesRead.{HasReadSome, ReadsText, RefusesText};
 
 use crate::beginning::keep;
-use crate::counts::{LineCounts, LineKind};
+use crate::counts::{LineCounts, LineKind, goes_on, lines_if};
 use crate::data::MOST_FILES;
 use crate::fault::DataFault;
 use crate::form::has_form;
@@ -288,37 +288,46 @@ impl<L: LineReader> Cutter<L> {
 }
 
 impl<L: JoinLines> Cutter<L> {
-    /// One cutter in place of two: it was fed the files of this one, and then those of the next one. Or none, if one of
-    /// the two keeps an error, was fed too many files or a part of one, or if a listed station has months in both.
+    /// One cutter in place of two: it was fed the files of this one, and then those of the next one, of which the first
+    /// goes on with the current file of this one. Or none, if one of the two keeps an error or was fed too many files,
+    /// if this one was left within a line, if a listed station has months in both, or if the file that goes on has a
+    /// part that is foreign by itself.
     pub fn join(self, next: Self) -> Result<Option<Self>, Memory>
         requires { cut.WereFedAlike L.has_read self next }
         ensures joined { IfOk result (λ both. IfSome both (cut.Joins L.has_read self next)) }
         ensures going { IfOk result (λ both. IfSome both (cut.HasFedSome L.has_read)) }
         ensures apart { IfOk result (λ both. IfNone both (cut.StayApart L.has_read self next)) }
     {
-        if !self.has_read_all() || !next.has_read_all() {
+        if !self.goes_on_with(&next) {
             return Ok(None);
         }
+        let ends = 0 < next.ended;
+        let counts = self.counts.join(next.counts, self.ended, self.line, ends);
+        let line = lines_if(!ends, self.line).checked_add(next.line);
         let Some(reader) = self.reader.join(next.reader)? else {
             return Ok(None);
         };
         Ok(Some(Cutter {
             alloc: self.alloc,
             reader,
-            counts: self.counts.join(next.counts, self.ended).ok_or(Memory)?,
+            counts: counts.ok_or(Memory)?,
             ended: self.ended.saturating_add(next.ended),
-            begun: false,
-            line: 0,
-            rest: Vec::new(self.alloc),
+            begun: goes_on(self.begun, next.begun, ends),
+            line: line.ok_or(Memory)?,
+            rest: next.rest,
             fault: None,
         }))
     }
 
-    /// Whether all files that came are ended, and their lines were looked at.
-    fn has_read_all(&self) -> bool
-        ensures { cut.LooksAtAll self.now result }
+    /// Whether both have looked at their lines, this one is at the end of a line, and no part of its current file, with
+    /// which the next one goes on, is foreign by itself.
+    fn goes_on_with(&self, next: &Self) -> bool
+        ensures { cut.GoOn L.has_read self.now next.now result }
     {
-        !self.begun && self.is_reading()
+        if !self.is_reading() || !next.is_reading() || !self.rest.is_empty() {
+            return false;
+        }
+        !self.counts.cuts_foreign(&next.counts)
     }
 }
 

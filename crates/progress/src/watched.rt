@@ -39,6 +39,18 @@ impl<'w, 'r, A: Archive, R: Clock + Eprint> Archive for Watched<'w, 'r, A, R> {
         })
     }
 
+    fn open_at(&self, path: &str, byte: u64) -> io::Result<WatchedFile<'w, 'r, A::File, R>> {
+        let file = self.archive.open_at(path, byte)?;
+        // A file that is opened at other bytes too counts once.
+        if byte == 0 {
+            self.watch.open();
+        }
+        Ok(WatchedFile {
+            file,
+            watch: self.watch,
+        })
+    }
+
     fn look(&self, path: &str) -> Place {
         self.archive.look(path)
     }

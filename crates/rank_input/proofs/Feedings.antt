@@ -7,7 +7,7 @@ use Rattle.ghcn_files.specs.declared.element.Keep.{Keep}
 use Rattle.ghcn_series.specs.LinesRead.{Reading}
 use Rattle.rank_input.specs.declared.intake.Intake.{Intake}
 use Rattle.rank_input.specs.Takes.{FileInput, file_input, with_bytes, HasTaken, HasTakenSome, TakesBytes, TakesFileEnd}
-use Rattle.rank_input.specs.Feeding.{AreAllOf, AreFilesOf, with_file, with_files, FeedsFile, FeedsFiles}
+use Rattle.rank_input.specs.Feeding.{AreAllOf, AreFilesOf, with_file, with_files, FeedsBytes, FeedsFile, FeedsFiles}
 
 -- of all bytes that a source had, some were fed, and these are left
 pub record IsFedTo {L : Type 0} (has_read : Reading L) (old new : Intake L) (all left : Option (List ℕ)) : Type 0 where
@@ -126,24 +126,26 @@ module _ {L : Type 0} (has_read : Reading L) where
     taken = was.taken;
   }
 
-  -- the end of a file is fed
-  pub fed-whole : (old mid new : Intake L) (all left next : Option (List ℕ)) → IsFedTo has_read old mid all left
-      → Consumes left next [] → IsAtEnd next → TakesFileEnd has_read mid new → FeedsFile has_read old new all
-  fed-whole old mid new all left next was is ends takes = record {
+  -- all is fed if a read returned nothing
+  pub fed-end : (old new : Intake L) (all left next : Option (List ℕ)) (n : ℕ) (buffer : List ℕ)
+      → IsFedTo has_read old new all left
+      → n ≡ 0 → Consumes left next (take n buffer) × (n ≡ 0 → 0 < length buffer → IsAtEnd next) → 0 < length buffer
+      → FeedsBytes has_read old new all
+  fed-end old new all left next n buffer was none is some = record {
     bytes = was.bytes;
-    all = all-read all left next was.bytes was.parts is ends;
-    taken = λ s has. takes.holds (with_bytes s was.bytes) (was.taken s has);
+    all = all-read all left next was.bytes was.parts (subst (λ k. Consumes left next (take k buffer)) none is.0)
+        (is.1 none some);
+    taken = was.taken;
   }
 
-  -- the same if a read returned nothing
-  pub fed-end : (old mid new : Intake L) (all left next : Option (List ℕ)) (n : ℕ) (buffer : List ℕ)
-      → IsFedTo has_read old mid all left
-      → n ≡ 0 → Consumes left next (take n buffer) × (n ≡ 0 → 0 < length buffer → IsAtEnd next) → 0 < length buffer
+  -- the end of a file is fed after all of its bytes
+  pub fed-whole : (old mid new : Intake L) (all : Option (List ℕ)) → FeedsBytes has_read old mid all
       → TakesFileEnd has_read mid new → FeedsFile has_read old new all
-  fed-end old mid new all left next n buffer was none is some takes =
-      fed-whole old mid new all left next was (subst (λ k. Consumes left next (take k buffer)) none is.0)
-      (is.1 none some)
-      takes
+  fed-whole old mid new all was takes = record {
+    bytes = was.bytes;
+    all = was.all;
+    taken = λ s has. takes.holds (with_bytes s was.bytes) (was.taken s has);
+  }
 
   -- something was given if something was before
   pub fed-some : (old new : Intake L) (all left : Option (List ℕ)) → HasTakenSome has_read old

@@ -1,6 +1,7 @@
 pub mod Guesses
 pub mod Crews
 pub mod Texts
+pub mod TakenStretches
 pub mod Reading
 pub mod Joinings
 pub mod Feedings

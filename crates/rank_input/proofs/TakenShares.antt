@@ -1,16 +1,22 @@
 -- Daily files that are taken in shares.
-use Rattle.std.proofs.Common.{◌≡◌, ℕ, List, [], ◌∷◌, ◌++◌, map, sym, subst, ap, ◌∙◌, take, drop}
-use Rattle.std.specs.Prelude.{Option, Ok, Err, String, string_bytes}
-use Rattle.std.proofs.lemmas.List.{map-append, take-append-drop}
+use Rattle.std.proofs.Common.{◌≡◌, ℕ, List, [], ◌∷◌, ◌++◌, map, refl, sym, subst, ap, ◌∙◌, take, drop}
+use Rattle.std.specs.Prelude.{Option, String, string_bytes}
+use Rattle.std.proofs.lemmas.List.{append-nil, map-append, take-append-drop}
 use Rattle.ghcn_files.specs.declared.element.Keep.{Keep}
-use Rattle.ghcn_series.specs.Fed.{ended_files}
+use Rattle.ghcn_series.specs.Fed.{Files, ended_files, followed_by}
 use Rattle.ghcn_series.specs.LinesRead.{Reading}
 use Rattle.rank_input.specs.declared.intake.Intake.{Intake}
 use Rattle.rank_input.specs.Feeding.{AreFilesOf, AreOpened, FeedsFiles, Opening}
-use Rattle.rank_input.specs.Takes.{file_input, HasTaken, WereGivenAlike, JoinsFiles}
+use Rattle.rank_input.specs.Takes.{file_input, with_daily, HasTaken, WereGivenAlike, JoinsFiles}
 use Rattle.rank_input.specs.Shares.{TakesWhole, bytes_at}
 use Rattle.rank_input.proofs.Feedings.{input-files}
 use Rattle.rank_input.proofs.Openings.{opened-both}
+
+-- files that are all ended follow one another
+followed-ended : (files others : List (List ℕ))
+    → followed_by (ended_files files) (ended_files others) ≡ ended_files (files ++ others)
+followed-ended files [] = ap ended_files (sym (append-nil files))
+followed-ended files (file ∷ others) = refl
 
 -- the files of one share and then those of another
 files-append : (ks ls : List (Option (List ℕ))) (fs gs : List (List ℕ)) → AreFilesOf ks fs → AreFilesOf ls gs
@@ -66,5 +72,8 @@ module _ {L A : Type 0} (has_read : Reading L) (bytes_of : List ℕ → Option (
         files = one.files ++ two.files;
         all = subst (λ (ks : List (Option (List ℕ))). AreFilesOf ks (one.files ++ two.files)) known
             (files-append (bytes_at bytes_of front) (bytes_at bytes_of back) one.files two.files one.all two.all);
-        taken = joins.holds (file_input keep stations one.files) (ended_files two.files) one.taken two.taken;
+        taken = subst (λ (files : Files).
+            HasTaken has_read both (with_daily (file_input keep stations one.files) files))
+            (followed-ended one.files two.files)
+            (joins.holds (file_input keep stations one.files) (ended_files two.files) one.taken two.taken);
       }

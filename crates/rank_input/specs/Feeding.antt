@@ -49,6 +49,12 @@ abbrev pub with_files : FileInput → List (List ℕ) → FileInput
 with_files s [] = s
 with_files s (bytes ∷ files) = with_files (with_file s bytes) files
 
+-- an intake is fed all of these bytes, as more of the current file
+pub record FeedsBytes {L : Type 0} (has_read : Reading L) (old new : Intake L) (known : Option (List ℕ)) : Type 0 where
+  pub bytes : List ℕ
+  pub all : AreAllOf known bytes
+  pub taken : (s : FileInput) → HasTaken has_read old s → HasTaken has_read new (with_bytes s bytes)
+
 -- an intake is fed all bytes of a file as one
 pub record FeedsFile {L : Type 0} (has_read : Reading L) (old new : Intake L) (known : Option (List ℕ)) : Type 0 where
   pub bytes : List ℕ

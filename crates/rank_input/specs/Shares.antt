@@ -1,10 +1,13 @@
--- Daily files that are taken whole.
-use Rattle.std.specs.Prelude.{ℕ, List, map, Option, String, string_bytes}
+-- Daily files that are taken whole, and bytes of one of them.
+use Rattle.std.specs.Prelude.{◌≡◌, ℕ, ◌+◌, true, List, [], ◌∷◌, take, drop, map}
+use Rattle.std.specs.Prelude.{Option, None, Some, String, string_bytes}
+use Rattle.std.specs.Option.{option_map}
 use Rattle.ghcn_files.specs.declared.element.Keep.{Keep}
+use Rattle.ghcn_series.specs.Fed.{Files, ended_files}
 use Rattle.ghcn_series.specs.LinesRead.{Reading}
 use Rattle.rank_input.specs.declared.intake.Intake.{Intake}
 use Rattle.rank_input.specs.declared.question.Question.{Question}
-use Rattle.rank_input.specs.Feeding.{AreFilesOf, AreOpened, Opening}
+use Rattle.rank_input.specs.Feeding.{AreAllOf, AreFilesOf, AreOpened, Opening}
 use Rattle.rank_input.specs.Takes as takes
 use Rattle.rank_input.specs.Takes.{file_input}
 use Rattle.rank_input.specs.Taken.{given, HasTaken}
@@ -20,6 +23,32 @@ pub record TakesWhole {L A : Type 0} (has_read : Reading L) (bytes_of : List ℕ
   pub files : List (List ℕ)
   pub all : AreFilesOf (bytes_at bytes_of paths) files
   pub taken : takes.HasTaken has_read t (file_input keep stations files)
+
+-- the bytes of a file from one on: this many, or all
+abbrev pub stretch_of : ℕ → Option ℕ → List ℕ → List ℕ
+stretch_of from None bytes = drop from bytes
+stretch_of from (Some count) bytes = take count (drop from bytes)
+
+-- from a cut to a byte of the file there are this many bytes; if they go to the file's end, there is no such byte and no
+-- number
+abbrev pub RestsFrom : Option ℕ → ℕ → Option ℕ → Type 0
+RestsFrom None cut count = count ≡ None
+RestsFrom (Some until) cut None = ⊥
+RestsFrom (Some until) cut (Some count) = until ≡ cut + count
+
+-- the bytes of one file that were taken: the file is ended if they go to its end
+abbrev pub one_file : Option ℕ → List ℕ → Files
+one_file None bytes = ended_files (bytes ∷ [])
+one_file (Some count) bytes = record { ended = []; current = bytes }
+
+-- the file of a path was opened, and an intake was given the station list and these bytes of it, from one on
+pub record TakesStretch {L : Type 0} (has_read : Reading L) (bytes_of : List ℕ → Option (List ℕ)) (opens : Opening)
+    (keep : Keep) (stations path : List ℕ) (from : ℕ) (count : Option ℕ) (t : Intake L) : Type 0 where
+  pub opened : opens path true
+  pub bytes : List ℕ
+  pub all : AreAllOf (option_map (λ bytes. stretch_of from count bytes) (bytes_of path)) bytes
+  pub taken : takes.HasTaken has_read t
+      (record { keep = keep; stations = stations; files = one_file count bytes })
 
 -- the files of these paths were opened, and a question was given its text, the station list and all of their bytes, in
 -- order

@@ -77,7 +77,8 @@ pub record AreReadAlike {T : Type 0} (is_read : T → FileInput → Type 0) (fir
   pub of_first : is_read first input
   pub of_next : is_read next (with_daily input files)
 
--- a reading is of what a first one is of, and then of the daily files of a next one
+-- a reading is of what a first one is of, and then of the daily files of a next one, of which the first one goes on with
+-- the current file
 pub record JoinsReadings {T : Type 0} (is_read : T → FileInput → Type 0) (first next both : T) : Type 0 where
   pub holds : (s : FileInput) (files : Files) → is_read first s → is_read next (with_daily s files)
       → is_read both (with_daily s (followed_by s.files files))
@@ -92,12 +93,12 @@ AreApart has_read (Err fault) next = ⊥
 abbrev pub WereGivenAlike : {L : Type 0} → Reading L → Intake L → Intake L → Type 0
 WereGivenAlike has_read first next = AreReadAlike (IsRead has_read) first.read next.read
 
--- an intake was given what a first one was given, and then the daily files that a next one was given
+-- an intake was given what a first one was given, and then the daily files that a next one was given, of which the first
+-- one goes on with the current file
 abbrev pub JoinsFiles : {L : Type 0} → Reading L → Intake L → Intake L → Intake L → Type 0
 JoinsFiles has_read first next both = JoinsReadings (IsRead has_read) first.read next.read both.read
 
--- two intakes stay apart: each reads daily files, and one hasn't read them to their end, or a listed station has months
--- in the files of both
+-- two intakes stay apart: neither has an error before the daily files, and their cutters stay apart
 abbrev pub StayApart : {L : Type 0} → Reading L → Intake L → Intake L → Type 0
 StayApart has_read first next = AreApart has_read first.read next.read
 

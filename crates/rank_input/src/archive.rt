@@ -1,7 +1,7 @@
 //! Where the files of a run are found and opened, and how all of their bytes are read.
 
 ghost use Rattle.std.specs.Prelude.{◌≡◌, true, IfOk, IfErr, OnOk, map, string_bytes};
-ghost use Rattle.rank_input.specs.Feeding.{AreAllOf, AreOpened, FeedsFile, FeedsFiles, IsTried, StopsAt};
+ghost use Rattle.rank_input.specs.Feeding.{AreAllOf, AreOpened, FeedsBytes, FeedsFile, FeedsFiles, IsTried, StopsAt};
 ghost use Rattle.rank_input.specs.Takes.{HasTakenSome};
 
 use crate::intake::Intake;
@@ -9,7 +9,7 @@ use crate::named::below;
 use ghcn_series::LineReader;
 use std::alloc::{AllocError, Global};
 use std::fs::File;
-use std::io::Read;
+use std::io::{Read, Seek, SeekFrom};
 use std::rt::Files;
 use std::{fs, io};
 
@@ -28,7 +28,8 @@ pub enum Place {
 
 /// Where folders and files are found by their paths.
 pub trait Archive {
-    ghost use Rattle.std.specs.Prelude.{◌≡◌, ℕ, Bool, true, false, List, Option, IfOk, OnOk, OnErr};
+    ghost use Rattle.std.specs.Prelude.{◌≡◌, ℕ, Bool, true, false, List, drop, Option, IfOk, OnOk, OnErr};
+    ghost use Rattle.std.specs.Option.{option_map};
     ghost use Rattle.rank_input.specs.Feeding.{IsTried};
     ghost use Rattle.rank_input.specs.Named.{IsPlaceOf, AreNamesOf};
 
@@ -49,6 +50,12 @@ pub trait Archive {
         ensures bytes { IfOk result (λ file. Self.File.remaining file ≡ bytes_of self.now path.now) }
         ensures opened { OnOk result (opens self.now path.now true) }
         ensures failed { OnErr result (opens self.now path.now false) };
+
+    /// Opens a file at one of its bytes, or at its end if it has fewer, or returns why it can't be opened there.
+    fn open_at(&self, path: &str, byte: u64) -> io::Result<Self::File>
+        ensures bytes { IfOk result (λ file.
+            Self.File.remaining file ≡ option_map (λ bytes. drop byte bytes) (bytes_of self.now path.now)) }
+        ensures opened { OnOk result (opens self.now path.now true) };
 
     /// What is at a path.
     fn look(&self, path: &str) -> Place
@@ -82,6 +89,12 @@ impl<'r, R: Files> Archive for System<'r, R> {
 
     fn open(&self, path: &str) -> io::Result<SystemFile<R::File>> {
         Ok(SystemFile(File::open(self.0, path)?))
+    }
+
+    fn open_at(&self, path: &str, byte: u64) -> io::Result<SystemFile<R::File>> {
+        let mut file = File::open(self.0, path)?;
+        file.seek(SeekFrom::Start(byte))?;
+        Ok(SystemFile(file))
     }
 
     fn look(&self, path: &str) -> Place {
@@ -159,15 +172,27 @@ pub fn feed<L: LineReader, S: Read>(
     ensures fed { OnOk result (FeedsFile L.has_read intake.old intake.new (S.remaining source.old)) }
     ensures going { OnOk result (HasTakenSome L.has_read intake.new) }
 {
+    feed_bytes(intake, source, buffer)?;
+    intake.end_of_file();
+    Ok(())
+}
+
+/// Feeds them as more bytes of the current daily file, and doesn't end it.
+pub(crate) fn feed_bytes<L: LineReader, S: Read>(
+    intake: &mut Intake<L>,
+    source: &mut S,
+    buffer: &mut [u8],
+) -> io::Result<()>
+    requires { HasTakenSome L.has_read intake.old }
+    ensures fed { OnOk result (FeedsBytes L.has_read intake.old intake.new (S.remaining source.old)) }
+    ensures going { OnOk result (HasTakenSome L.has_read intake.new) }
+{
     if buffer.is_empty() {
         return Err(io::Error::from(io::ErrorKind::InvalidInput));
     }
     for _ in 0..u64::MAX {
         match source.read(buffer) {
-            Ok(0) => {
-                intake.end_of_file();
-                return Ok(());
-            }
+            Ok(0) => return Ok(()),
             Ok(count) => intake.piece(&buffer[..count]),
             Err(error) => {
                 if error.kind() != io::ErrorKind::Interrupted {

@@ -98,8 +98,9 @@ impl<L: LineReader> Intake<L> {
 
 impl<L: JoinLines> Intake<L> {
     /// One intake in place of two: it was given the station list and the daily files of this one, and then the daily
-    /// files of the next one. Or none, if the daily files of one of the two have an error, are too many or aren't all
-    /// ended, or if a listed station has months in both.
+    /// files of the next one, of which the first goes on with the current file of this one. Or none, if the daily files
+    /// of one of the two have an error or are too many, if those of this one end within a line, if a listed station has
+    /// months in both, or if the file that goes on has a part that is foreign by itself.
     pub fn join(self, next: Self) -> Option<Self>
         requires { WereGivenAlike L.has_read self next }
         ensures joined { IfSome result (JoinsFiles L.has_read self next) }

@@ -24,3 +24,5 @@ mod sched;
 mod scores;
 #[cfg(test)]
 mod shares;
+#[cfg(test)]
+mod stretches;

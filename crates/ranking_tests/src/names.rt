@@ -1,6 +1,6 @@
 //! What names stand for, over an archive in memory.
 
-ghost use Rattle.std.specs.Prelude.{◌≡◌, option_map};
+ghost use Rattle.std.specs.Prelude.{◌≡◌, drop, option_map};
 ghost use Rattle.ranking_tests.specs.InMemory.{beside};
 
 use rank_input::{Archive, NotNamed, Place, name_files, read_whole};
@@ -39,6 +39,13 @@ impl Archive for InMemory {
         }
     }
 
+    fn open_at(&self, path: &str, byte: u64) -> io::Result<&'static [u8]> {
+        match beside(self.files, path) {
+            Some(bytes) => Ok(bytes_from(bytes, byte)),
+            None => Err(io::Error::from(io::ErrorKind::NotFound)),
+        }
+    }
+
     fn look(&self, path: &str) -> Place {
         if beside(self.folders, path).is_some() {
             return Place::Folder;
@@ -66,6 +73,17 @@ pub(crate) fn beside(texts: Texts, path: &str) -> Option<&'static [u8]>
     ensures { option_map (λ t. t.now) result ≡ beside texts.now path.now }
 {
     texts.iter().find(|text| text.0 == path).map(|text| text.1)
+}
+
+/// The bytes of a text from one on.
+pub(crate) fn bytes_from(text: &'static [u8], byte: u64) -> &'static [u8]
+    ensures { result.now ≡ drop byte text.now }
+{
+    if byte < text.len() as u64 {
+        &text[byte as usize..]
+    } else {
+        b""
+    }
 }
 
 /// Folders with daily files and others, a list of names, and a list with Windows line ends.

@@ -1,7 +1,7 @@
 //! Daily files that are read in shares, over an archive in memory whose files claim to be large.
 
 use crate::days::{A, B};
-use crate::names::{Texts, beside};
+use crate::names::{Texts, beside, bytes_from};
 use ghcn_fields::Day;
 use ghcn_files::{Element, StationId};
 use ghcn_series::Data;
@@ -17,7 +17,7 @@ const STATIONS: &[u8] = b"\
 ZZA00000001  10.0000   20.0000  100.0    ALPHA\n\
 ZZA00000002  10.0000   21.0000  100.0    BETA\n";
 
-const ALPHA_IN_JULY: &[u8] = b"\
+pub(crate) const ALPHA_IN_JULY: &[u8] = b"\
 ZZA00000001202007TMAX  310   \
 -9999   -9999   -9999   -9999   -9999   -9999   -9999   -9999   -9999   -9999   \
 -9999   -9999   -9999   -9999   -9999   -9999   -9999   -9999   -9999   -9999   \
@@ -51,9 +51,11 @@ const FILES: Texts = &[
     ("short too", b"\nZZA\n"),
     ("odd", b"ZZA00000001202007TAVG\nZZA00000001202007----\n"),
     ("empty", b""),
+    ("long", ALPHA_IN_JULY),
+    ("growing", ALPHA_IN_JULY),
 ];
 
-/// Files that claim to be large enough for a share each.
+/// Files that claim to be large enough for a share each, and two for several, of which one grows.
 #[derive(Drop)]
 struct Large {
     files: Texts,
@@ -82,8 +84,16 @@ impl Archive for Large {
         }
     }
 
-    fn look(&self, _path: &str) -> Place {
-        Place::File(1 << 24)
+    fn open_at(&self, path: &str, byte: u64) -> io::Result<&'static [u8]> {
+        Ok(bytes_from(self.open(path)?, byte))
+    }
+
+    fn look(&self, path: &str) -> Place {
+        Place::File(match path {
+            "long" => 1 << 26,
+            "growing" => self.opened.load(Ordering::SeqCst).saturating_add(1 << 26),
+            _ => 1 << 24,
+        })
     }
 
     fn names(&self, _alloc: Global, _folder: &str) -> io::Result<Vec<u8>> {
@@ -108,28 +118,22 @@ fn push_values(text: &mut String, dataset: &Data, id: &StationId) -> Result<(), 
     Ok(())
 }
 
-/// What files hold for a query, read by at most this many readers, or why they hold nothing; and how many files were
-/// opened.
-fn shown<R: Threads + AllocGlobal + Sync>(
+/// What files of an archive hold for a query, read by at most this many readers, or why they hold nothing.
+pub(crate) fn held_in<R: Threads + AllocGlobal + Sync, A: Archive<File: Send> + Sync>(
     rt: &R,
+    archive: &A,
     query: &str,
     names: &[&str],
     readers: u64,
-    most: u64,
 ) -> Result<String, Fail> {
     let alloc = rt.alloc();
     let mut paths = Vec::new(alloc);
     for name in names {
         paths.push(String::from_str(alloc, name)?)?;
     }
-    let archive = Large {
-        files: FILES,
-        opened: AtomicU64::new(0),
-        most,
-    };
     let mut room = piece_room(alloc)?;
     let mut text = String::new(alloc);
-    match Question::of_paths(rt, &archive, query, STATIONS, &paths, readers, &mut room) {
+    match Question::of_paths(rt, archive, query, STATIONS, &paths, readers, &mut room) {
         Ok(question) => match question.finish() {
             Ok(taken) => {
                 push_values(&mut text, &taken.dataset, &A)?;
@@ -143,6 +147,23 @@ fn shown<R: Threads + AllocGlobal + Sync>(
         },
         Err(path) => write!(text, "{path} can't be read")?,
     }
+    Ok(text)
+}
+
+/// What files hold for a query, and how many were opened.
+fn shown<R: Threads + AllocGlobal + Sync>(
+    rt: &R,
+    query: &str,
+    names: &[&str],
+    readers: u64,
+    most: u64,
+) -> Result<String, Fail> {
+    let archive = Large {
+        files: FILES,
+        opened: AtomicU64::new(0),
+        most,
+    };
+    let mut text = held_in(rt, &archive, query, names, readers)?;
     write!(text, ", {} opened", archive.opened.load(Ordering::SeqCst))?;
     Ok(text)
 }
@@ -167,7 +188,7 @@ fn shares_of_files(rt: HostRuntime) -> Result<(), Fail> {
     let warned = "unlisted 2 foreign 1 Some(5) odd 1 Some(LinePlace { file: 5, line: 2 })";
     // The names, how many readers there may be, what is shown, and how often a file is opened: once more for each side
     // of a cut, and once more if the shares can't be joined.
-    let cases: [(&[&str], u64, &str, &str, u64); 16] = [
+    let cases: [(&[&str], u64, &str, &str, u64); 18] = [
         (&[], 4, "- - - - ", plain, 0),
         (&["alpha", "beta"], 0, "310 - 320 - ", plain, 2),
         (&["alpha", "beta"], 1, "310 - 320 - ", plain, 2),
@@ -188,6 +209,10 @@ fn shares_of_files(rt: HostRuntime) -> Result<(), Fail> {
             plain,
             5,
         ),
+        // No place to cut is found in a file that ends before it.
+        (&["long"], 4, "310 - - - ", plain, 2),
+        // It is longer when it was read than before, so it is read again.
+        (&["growing"], 4, "310 - - - ", plain, 3),
         (
             &["alpha", "short"],
             2,

@@ -136,6 +136,10 @@ impl Archive for NoFiles {
         Err(io::Error::from(io::ErrorKind::NotFound))
     }
 
+    fn open_at(&self, _path: &str, _byte: u64) -> io::Result<&'static [u8]> {
+        Err(io::Error::from(io::ErrorKind::NotFound))
+    }
+
     fn look(&self, _path: &str) -> Place {
         Place::Other
     }

@@ -7,7 +7,7 @@ use super::each::ranking;
 use super::judged_each::judging;
 use super::named::run_of;
 use super::*;
-use crate::each::rank_each;
+use crate::each::{RankedEach, rank_each};
 use crate::judge::judge;
 use crate::merge::{MergingFault, PartTexts, merge_texts};
 use crate::papers_folder::Stop;
@@ -195,7 +195,8 @@ fn rankings_of_three_queries_by_four_workers(rt: HostRuntime) -> Result<(), Fail
     intake.piece(DAILY);
     intake.end_of_file();
     let mut target = SystemTarget::new(&rt);
-    match rank_each(&rt, intake, &queries, 4, None, &mut target).reports {
+    let RankedEach { reports, .. } = rank_each(&rt, intake, &queries, 4, None, &mut target);
+    match reports {
         Ok(reports) => {
             assert_eq!(rt; reports.as_slice(), THREE_REPORTS);
             print_met(&rt, None)

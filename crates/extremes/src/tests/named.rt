@@ -108,6 +108,13 @@ impl Archive for InMemory {
         }
     }
 
+    fn open_at(&self, path: &str, byte: u64) -> io::Result<Bytes> {
+        match bytes_at(path) {
+            Some(bytes) => Ok(Bytes(bytes.get(byte as usize..).unwrap_or(b""))),
+            None => Err(io::Error::from(io::ErrorKind::NotFound)),
+        }
+    }
+
     fn look(&self, path: &str) -> Place {
         if path == "folder" {
             return Place::Folder;

@@ -8,7 +8,7 @@ ghost use Rattle.ghcn_series.specs.Fed.{Files};
 ghost use Rattle.ghcn_series.specs.Gathered.{HasReadByRows};
 
 use super::{A, B, JULY, STATIONS, has_series};
-use crate::lines::line_of;
+use crate::lines::{line_of, text_of};
 use ghcn_fields::Memory;
 use ghcn_files::{Element, Keep, LineWhy, Stations};
 use ghcn_series::{Cutter, DailyWhy, DataFault, Foreign, LinePlace, OddLines, RowReader, Warnings};
@@ -79,7 +79,18 @@ fn july_in(reader: Cutter<RowReader>) -> Result<July, DataFault>
 
 /// What two shares of files say, if they can be joined.
 fn of_two(alloc: Global, files: &[&[u8]], others: &[&[u8]]) -> Result<Option<July>, DataFault> {
-    match joined(alloc, files, b"", others, b"")? {
+    of_parts(alloc, files, b"", others, b"")
+}
+
+/// The same of two shares that each end with a part of a file.
+fn of_parts(
+    alloc: Global,
+    files: &[&[u8]],
+    bytes: &[u8],
+    others: &[&[u8]],
+    more: &[u8],
+) -> Result<Option<July>, DataFault> {
+    match joined(alloc, files, bytes, others, more)? {
         Some(reader) => Ok(Some(july_in(reader)?)),
         None => Ok(None),
     }
@@ -143,6 +154,38 @@ fn shares_are_counted_as_all_files(rt: HostRuntime) {
     assert_eq!(rt; of_one(alloc, &[&b, &table, &table, b""]), second);
 }
 
+/// A file that is cut after a line is read as if it weren't: odd lines have their numbers, and a file is foreign if
+/// its part after blank lines is.
+#[test]
+fn parts_of_files_are_read_as_files(rt: HostRuntime) -> Result<(), DataFault> {
+    let alloc = rt.alloc();
+    let odd = *b"ZZA00000001202007----";
+    let first = line_of(b"ZZA00000001202007TMAX", &[(1, b"  311   ")]);
+    let second = line_of(b"ZZA00000002202007TMAX", &[(1, b"  290   ")]);
+    let a = text_of(alloc, &[&odd, &first], b"\n")?;
+    let b = text_of(alloc, &[b"", &second, &odd], b"\n")?;
+    let both = text_of(alloc, &[&a, &b], b"")?;
+    let odd_lines = found((true, true), 0, (0, None), (2, Some((0, 1))));
+    assert_eq!(rt; of_one(alloc, &[&both]), odd_lines);
+    assert_eq!(rt; of_parts(alloc, &[], &a, &[&b], b""), odd_lines);
+    assert_eq!(rt; of_parts(alloc, &[], &a, &[], &b), odd_lines);
+    let fifth = found((false, true), 0, (0, None), (1, Some((1, 5))));
+    assert_eq!(rt; of_parts(alloc, &[b""], b"\n\n", &[&b], b""), fifth);
+    assert_eq!(rt; of_parts(alloc, &[b""], b"\n\n", &[], &b), fifth);
+    let next = found((false, true), 0, (1, Some(1)), (2, Some((1, 3))));
+    assert_eq!(rt;
+        of_parts(
+            alloc,
+            &[b""],
+            b"\n\n",
+            &[b"STATION,DATE,ELEMENT,VALUE\n", &b],
+            b""
+        ),
+        next
+    );
+    Ok(())
+}
+
 /// Whether two readers can't be joined that were each fed a share of files.
 fn are_apart(
     alloc: Global,
@@ -163,8 +206,13 @@ fn shares_that_stay_apart(rt: HostRuntime) {
     assert_eq!(rt; are_apart(alloc, &[&a], b"", &[&b], b""), Ok(false));
     assert_eq!(rt; are_apart(alloc, &[&a], b"", &[&a], b""), Ok(true));
     assert_eq!(rt; are_apart(alloc, &[&a], b"", &[&b, &august], b""), Ok(true));
-    assert_eq!(rt; are_apart(alloc, &[&a], b"\n", &[&b], b""), Ok(true));
-    assert_eq!(rt; are_apart(alloc, &[&a], b"", &[&b], b"\n"), Ok(true));
+    assert_eq!(rt; are_apart(alloc, &[&a], b"\n", &[&b], b""), Ok(false));
+    assert_eq!(rt; are_apart(alloc, &[&a], b" ", &[&b], b""), Ok(true));
+    assert_eq!(rt; are_apart(alloc, &[&a], b"", &[&b], b"x"), Ok(false));
+    let unknown = *b"ZZA00000001202007WT01\n";
+    assert_eq!(rt; are_apart(alloc, &[], &unknown, &[&b], b""), Ok(true));
+    assert_eq!(rt; are_apart(alloc, &[], b"", &[&unknown, &b], b""), Ok(false));
+    assert_eq!(rt; are_apart(alloc, &[], &unknown, &[], &b), Ok(true));
     assert_eq!(rt; are_apart(alloc, &[&a, b"x"], b"", &[&b], b""), Ok(true));
     assert_eq!(rt; are_apart(alloc, &[&a], b"", &[b"x", &b], b""), Ok(true));
 }

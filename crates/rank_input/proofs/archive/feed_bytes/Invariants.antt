@@ -1,5 +1,5 @@
 use Rattle.rank_input.proofs.Feedings.{IsFedTo}
-use Rattle.rank_input.proofs.archive.feed.Given as goal
+use Rattle.rank_input.proofs.archive.feed_bytes.Given as goal
 
 -- what was read so far is fed
 abbrev pub invariant-loop : goal.invariant-loop

@@ -1,10 +1,10 @@
-use Rattle.std.proofs.Common.{List, String, Global, subst}
+use Rattle.std.proofs.Common.{subst}
 use Rattle.std.specs.Prelude.{Option, IfSome}
 use Rattle.std.proofs.lemmas.Option.{IfSome_then}
 use Rattle.rank_input.specs.declared.intake.Intake.{Intake}
 use Rattle.rank_input.specs.Shares.{TakesWhole}
 use Rattle.rank_input.proofs.TakenShares.{joined_shares, shares_alike}
-use Rattle.rank_input.proofs.shares.+fn-take_parts-join+arg3+take_parts.Goals as goal
+use Rattle.rank_input.proofs.shares.+fn-take_parts-join+arg2+fn-take_parts-join+arg3+take_parts.Goals as goal
 
 -- both shares are of one station list
 pub join-requires : goal.join-requires
