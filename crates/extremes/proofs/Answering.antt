@@ -5,7 +5,7 @@ use Rattle.ghcn_fields.specs.Sorting.{sorted_by}
 use Rattle.ghcn_files.specs.declared.station.Station.{Station}
 use Rattle.ghcn_series.specs.Series.{Contents, Usable}
 use Rattle.ghcn_series.specs.Held.{IsContents}
-use Rattle.ghcn_series.specs.Said.{stations_said}
+use Rattle.ghcn_series.specs.SaidLists.{stations_said}
 use Rattle.ghcn_series.specs.Says.{data_of}
 use Rattle.ghcn_series.proofs.SaidLines.{held-said}
 use Rattle.rank_query.specs.Asked.{Asked, IsAsked}
@@ -35,7 +35,8 @@ use Rattle.rank_input.specs.Taken.{HoldsInput, IsTrueOf}
 use Rattle.ghcn_series.specs.Fed.{files_of}
 use Rattle.extremes.specs.declared.papers.Papers.{Papers}
 use Rattle.extremes.proofs.Readings.{data_is_said}
-use Rattle.extremes.specs.Answer.{ArePapers, AreRight, AreRightFor, IsOfCrew, IsOfOneWorker, IsSerial}
+use Rattle.extremes.proofs.RightAnswers.{AreRight, right_answers}
+use Rattle.extremes.specs.Answer.{ArePapers, AreRightFor, IsOfCrew, IsOfOneWorker, IsSerial}
 use Rattle.extremes.specs.Judged.{AreRightTexts}
 use Rattle.extremes.specs.Runs.{AnswersInput, FaultlessInput, CrewsInput, JudgesInput, JudgesPart}
 use Rattle.extremes.specs.declared.describe.DescriptionText.{DescriptionText}
@@ -194,13 +195,10 @@ pub answers_input : (t : Question) (query : Asked) (dataset : Contents) (papers 
 answers_input t query dataset papers reports certificates reports_said certificates_said holds are = record {
   is = λ i taken.
       let input = holds.is i taken in
-      record {
-        asked = query;
-        asks = input.read.asks;
-        right = right_said reports_said certificates_said query (stations_said i.stations) (files_of i.files)
-            input.whole papers (data_is_said i.query i.stations (files_of i.files) query input.whole input.read)
-            (papers_for query dataset input.whole papers reports certificates input.needed are);
-      };
+      right_answers i.query i.stations (files_of i.files) input.read.list papers input.read.lists query input.read.asks
+      (right_said reports_said certificates_said query (stations_said i.stations) (files_of i.files) input.whole papers
+      (data_is_said i.query i.stations (files_of i.files) query input.whole input.read)
+      (papers_for query dataset input.whole papers reports certificates input.needed are));
 }
 
 -- what a question was given has no error

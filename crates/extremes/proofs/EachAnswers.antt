@@ -14,7 +14,7 @@ use Rattle.ghcn_series.specs.declared.rows.RowReader.{RowReader}
 use Rattle.ghcn_series.specs.Fed.{files_of}
 use Rattle.ghcn_series.specs.Gathered.{HasReadByRows}
 use Rattle.ghcn_series.specs.Kept.{HoldFiles, kept}
-use Rattle.ghcn_series.specs.Said.{stations_said}
+use Rattle.ghcn_series.specs.SaidLists.{stations_said}
 use Rattle.ghcn_series.specs.Says.{data_of}
 use Rattle.ghcn_series.specs.Series.{Contents}
 use Rattle.ghcn_series.proofs.SaidLines.{held-said, listed-said}
@@ -37,6 +37,7 @@ use Rattle.extremes.specs.Each.{Reports, WarnsOfTaken}
 use Rattle.extremes.specs.PapersFolder.{new_files}
 use Rattle.extremes.specs.Targets.{NewFile, Storing}
 use Rattle.extremes.proofs.Answering.{measured_for, papers_for, plan_for, right_said}
+use Rattle.extremes.proofs.RightAnswers.{right_answers}
 
 -- ---- the data of one element among those of others
 
@@ -77,11 +78,8 @@ module _ (reports : ReportsAreSaid) (certificates : CertificatesAreSaid) (statio
     ranked_by : (workers : ℕ) (query : List ℕ) (q : Asked) (papers : Papers) → Asks query q
         → IsRankedOver workers whole q papers → IsRankedBy workers stations files query papers
     ranked_by workers query q papers asks are = record {
-      answers = record {
-        asked = q;
-        asks = asks;
-        right = right_said reports certificates q (stations_said stations) files whole papers whole_said are.right;
-      };
+      answers = right_answers query stations files list papers lists q asks
+          (right_said reports certificates q (stations_said stations) files whole papers whole_said are.right);
       crew = record {
         asked = q;
         dataset = whole;

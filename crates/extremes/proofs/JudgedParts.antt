@@ -5,7 +5,7 @@ use Rattle.std.specs.List.{flat_map, AllByRecursion, AllZip}
 use Rattle.ghcn_files.specs.declared.station.Station.{Station}
 use Rattle.ghcn_files.specs.Listed.{listed}
 use Rattle.ghcn_series.specs.Laws.{DataAreRight}
-use Rattle.ghcn_series.specs.Said.{said_by, stations_said}
+use Rattle.ghcn_series.specs.SaidLists.{said_by, stations_said}
 use Rattle.ghcn_series.specs.Says.{data_of}
 use Rattle.ghcn_series.specs.Series.{Contents}
 use Rattle.rank_query.specs.Asked.{Asked}
@@ -13,7 +13,7 @@ use Rattle.rank_papers.specs.RightLaws.{ReportsAreFound, CertificatesAreFound, R
 use Rattle.rank_parts.specs.Parts.{part_verdict}
 use Rattle.rank_parts.specs.Laws as parts
 use Rattle.rank_parts.specs.Laws.{AreDataOf, FilesMakeTheWhole}
-use Rattle.extremes.specs.JudgedInParts.{JudgedPart, IsJudgedFor, said_by_parts, Accepts, PartsJudgeTheWhole}
+use Rattle.extremes.specs.JudgedInParts.{JudgedPart, IsJudgedFor, said_by_parts, FilesAccept, PartsJudgeTheWhole}
 use Rattle.extremes.proofs.Answering.{right_texts, texts_said}
 use Rattle.extremes.proofs.Readings.{one_value, one_query, data_is_said, held_is_said}
 
@@ -57,7 +57,7 @@ module _ (stations report certificate : List ℕ) (q : Asked) where
       )
 
   -- if the parts accept, their data do
-  data-accept : (lines : ℕ) (ps : List JudgedPart) (series : List ℕ) → All ps → AllZip (Accepts lines) ps series
+  data-accept : (lines : ℕ) (ps : List JudgedPart) (series : List ℕ) → All ps → AllZip (FilesAccept lines) ps series
       → AllZip (parts.Accepts q report certificate lines) (said_by_parts stations ps) series
   data-accept lines [] [] all accept = tt
   data-accept lines [] (n ∷ ns) all accept = absurd accept
@@ -68,7 +68,7 @@ module _ (stations report certificate : List ℕ) (q : Asked) where
   -- and the other way round
   parts-accept : (lines : ℕ) (ps : List JudgedPart) (series : List ℕ) → All ps
       → AllZip (parts.Accepts q report certificate lines) (said_by_parts stations ps) series
-      → AllZip (Accepts lines) ps series
+      → AllZip (FilesAccept lines) ps series
   parts-accept lines [] [] all accept = tt
   parts-accept lines [] (n ∷ ns) all accept = absurd accept
   parts-accept lines (p ∷ ps) [] all accept = absurd accept

@@ -5,6 +5,7 @@ pub mod PrintedLines
 pub mod Examples
 pub mod PlanAnswers
 pub mod Answering
+pub mod RightAnswers
 pub mod PaperPaths
 pub mod Puttings
 pub mod EachRanked

@@ -7,7 +7,7 @@ use Rattle.ghcn_files.specs.declared.station.StationId.{StationId}
 use Rattle.ghcn_files.specs.declared.station.Station.{Station}
 use Rattle.ghcn_files.specs.Listed.{listed}
 use Rattle.ghcn_series.specs.Laws.{DataAreRight}
-use Rattle.ghcn_series.specs.Said.{said_by, stations_said}
+use Rattle.ghcn_series.specs.SaidLists.{said_by, stations_said}
 use Rattle.ghcn_series.specs.Says.{data_of}
 use Rattle.ghcn_series.specs.Series.{Contents}
 use Rattle.rank_query.specs.Asked.{Asked}
@@ -23,6 +23,7 @@ use Rattle.rank_merge.specs.Laws.{ArePapersOf, all_files, all_texts}
 use Rattle.rank_merge.specs.Merged.{Part, merged_certificate, merged_entries, merged_rows}
 use Rattle.rank_merge.specs.Merging.{Texts, papers_of, papers_unless, parts_from, twice}
 use Rattle.extremes.proofs.Readings.{one_value, one_query, data_is_said, held_is_said}
+use Rattle.extremes.proofs.RightAnswers.{answers_right}
 use Rattle.extremes.specs.Answer.{IsFaultless}
 use Rattle.extremes.specs.RankedInParts.{IsRankedPart, MergedIsRanked}
 
@@ -92,6 +93,7 @@ module _ (are_right : DataAreRight) (reports : ReportsAreFound) (certificates : 
       → IsRankedPart q stations p → ArePapersOf q list p.0 p.1
   ranked-right stations q list p lists is =
       let a = is.answer in
+      let right = answers_right is.query stations p.0 list is.papers lists a in
       let said = stations_said stations in
       let dataset = said_by said p.0 in
       let read = said_held is.query stations p.0 is.faultless in
@@ -99,9 +101,9 @@ module _ (are_right : DataAreRight) (reports : ReportsAreFound) (certificates : 
       let contents = are_right stations list p.0 dataset lists holds in
       let same : a.asked ≡ q = one_query is.query a.asked q a.asks is.asks in
       let report = (reports a.asked dataset is.papers.report.items a.asks.can contents).1
-      ((reports_said a.asked said p.0 dataset is.papers.report.items read).1 a.right.report) in
+      ((reports_said a.asked said p.0 dataset is.papers.report.items read).1 right.report) in
       let certificate = (certificates 2 a.asked dataset is.papers.certificate.items a.asks.can contents).1
-      ((certificates_said 2 a.asked said p.0 dataset is.papers.certificate.items read).1 a.right.certificate) in
+      ((certificates_said 2 a.asked said p.0 dataset is.papers.certificate.items read).1 right.certificate) in
       record {
         dataset = dataset;
         read = holds;
@@ -133,7 +135,8 @@ module _ (are_right : DataAreRight) (reports : ReportsAreFound) (certificates : 
       let contents = are_right stations r.list files dataset r.lists holds in
       let bytes : List ℕ = merged.certificate.items in
       let report = (reports answer.asked dataset whole.report.items answer.asks.can contents).1
-      ((reports_said answer.asked said files dataset whole.report.items read).1 answer.right.report) in
+      ((reports_said answer.asked said files dataset whole.report.items read).1
+      (answers_right query stations files r.list whole r.lists answer).report) in
       let same : is.asked ≡ answer.asked = one_value _ _ _ is.read (asks_read merging answer.asked asks) in
       let ranked_for : AllByRecursion (IsRankedPart is.asked stations) parts =
       subst (λ (q : Asked). AllByRecursion (IsRankedPart q stations) parts) (sym same) ranked in

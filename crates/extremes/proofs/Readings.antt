@@ -3,7 +3,7 @@ use Rattle.std.proofs.Common.{◌≡◌, ℕ, List, sym, ap, ◌∙◌, subst}
 use Rattle.std.specs.Prelude.{Result, Ok, Err}
 use Rattle.ghcn_files.specs.declared.station.Station.{Station}
 use Rattle.ghcn_series.specs.Series.{Contents}
-use Rattle.ghcn_series.specs.Said.{said_by, stations_said}
+use Rattle.ghcn_series.specs.SaidLists.{said_by, stations_said}
 use Rattle.ghcn_series.specs.Says.{data_of}
 use Rattle.ghcn_series.proofs.SaidLines.{held-said, listed-said}
 use Rattle.rank_query.specs.Asked.{Asked}
@@ -11,6 +11,7 @@ use Rattle.rank_query.specs.Asks.{Asks}
 use Rattle.rank_query.proofs.Asks.{asks_read}
 use Rattle.rank_input.specs.Input.{IsReadOf}
 use Rattle.extremes.specs.Judged.{AreRightTexts, AnswersAreAccepted}
+use Rattle.extremes.proofs.RightAnswers.{answers_right}
 
 -- a value if there is one
 abbrev value_or : {A E : Type 0} → Result A E → A → A
@@ -59,6 +60,7 @@ one_saying query stations files x q read asks =
 -- so the report and the certificate that answer an input are the right ones of what a verdict is about
 pub answers_accepted : AnswersAreAccepted
 answers_accepted query stations files papers v a j =
+    let right = answers_right query stations files j.read.list papers j.read.lists a in
     j.accepted.1 (subst (λ (q : Asked). AreRightTexts q (stations_said stations) files papers.report.items
     papers.certificate.items) (one_query query a.asked j.asked a.asks j.read.asks)
-    (a.right.report, 2, a.right.certificate))
+    (right.report, 2, right.certificate))

@@ -4,7 +4,7 @@ use Rattle.std.specs.Prelude.{Some, find}
 use Rattle.std.specs.List.{AllByRecursion}
 use Rattle.ghcn_files.specs.declared.station.Station.{Station}
 use Rattle.ghcn_files.specs.Listed.{is_station_of}
-use Rattle.ghcn_series.specs.Said.{said_by, stations_said}
+use Rattle.ghcn_series.specs.SaidLists.{said_by, stations_said}
 use Rattle.ghcn_series.specs.Series.{Contents}
 use Rattle.rank_query.specs.Asked.{Asked}
 use Rattle.rank_scores.specs.declared.candidate.Candidate.{Candidate}
@@ -15,8 +15,8 @@ use Rattle.rank_papers.specs.Report.{named, report_text}
 use Rattle.rank_papers.specs.Right.{IsAdmittedSeries, IsRightReport}
 use Rattle.rank_papers.specs.RightLaws.{BestAreOne}
 use Rattle.extremes.proofs.Readings.{one_query, one_saying}
-use Rattle.extremes.specs.Answer.{AreRight, Answers, IsOfOneWorker, certificate_of_run, SerialPapersAreOne, ReportsAreOne}
-use Rattle.extremes.specs.declared.papers.Papers.{Papers}
+use Rattle.extremes.proofs.RightAnswers.{AreRight, answers_right}
+use Rattle.extremes.specs.Answer.{IsOfOneWorker, certificate_of_run, SerialPapersAreOne, ReportsAreOne}
 
 -- candidates, each with its listed station, are one list
 one_rows : (stations : List Station) (xs ys : List (Candidate × Station))
@@ -39,18 +39,23 @@ one_report : (q : Asked) (stations : List Station) (files : List (List ℕ)) (by
     → IsRightReport q stations (IsAdmittedSeries q stations files) bytes
     → IsRightReport q stations (IsAdmittedSeries q stations files) bytes' → bytes ≡ bytes'
 one_report q stations files bytes bytes' best a b =
-    a.text ∙ ap (λ (rows : List (Candidate × Station)). report_text q (map named rows))
-    (one_rows stations a.rows b.rows ((best q).1 stations files _ _ a.best b.best) a.listed b.listed) ∙ sym b.text
+    let same : map (λ (row : Candidate × Station). row.0) a.2.rows ≡ map (λ (row : Candidate × Station). row.0) b.2.rows =
+    a.2.best ∙ (best q).1 stations files a.0 b.0 a.1 b.1 ∙ sym b.2.best in
+    a.2.text ∙ ap (λ (rows : List (Candidate × Station)). report_text q (map named rows))
+    (one_rows stations a.2.rows b.2.rows same a.2.listed b.2.listed) ∙ sym b.2.text
 
 -- so an input determines the report and the number of lines of unlisted stations
 pub report_one : BestAreOne → ReportsAreOne
-report_one best query stations files a b right-a right-b =
-    let q : Asked = right-a.asked in
+report_one best query stations files faultless a b answer-a answer-b =
+    let q : Asked = answer-a.asked in
     let list : List Station = stations_said stations in
+    let own : AreRight q list files a =
+    answers_right query stations files faultless.read.list a faultless.read.lists answer-a in
     let right : AreRight q list files b = subst (λ (x : Asked). AreRight x list files b)
-    (one_query query right-b.asked q right-b.asks right-a.asks) right-b.right in (
-      one_report q list files a.report.items b.report.items best right-a.right.report right.report,
-      right-a.right.unlisted ∙ sym right.unlisted,
+    (one_query query answer-b.asked q answer-b.asks answer-a.asks)
+    (answers_right query stations files faultless.read.list b faultless.read.lists answer-b) in (
+      one_report q list files a.report.items b.report.items best own.report right.report,
+      own.unlisted ∙ sym right.unlisted,
     )
 
 -- the certificate of one worker's run is one text
@@ -62,17 +67,21 @@ one_certificate p guess bytes bytes' one a b =
 
 -- so an input and a guess determine all that one worker returns
 pub serial_one : BestAreOne → RecordsAloneAreOne → SerialPapersAreOne
-serial_one best one guess query stations files a b right-a serial-a right-b serial-b =
-    let q : Asked = right-a.asked in
+serial_one best one guess query stations files a b answer-a serial-a answer-b serial-b =
+    let q : Asked = answer-a.asked in
     let c : Contents = said_by (stations_said stations) files in
     let mine : IsOfOneWorker (planned q c) guess a.certificate.items =
     subst (λ (x : Asked × Contents). IsOfOneWorker (planned x.0 x.1) guess a.certificate.items)
-    (one_saying query stations files (serial-a.asked, serial-a.dataset) q serial-a.read right-a.asks) serial-a.alone in
+    (one_saying query stations files (serial-a.asked, serial-a.dataset) q serial-a.read answer-a.asks) serial-a.alone in
     let other : IsOfOneWorker (planned q c) guess b.certificate.items =
     subst (λ (x : Asked × Contents). IsOfOneWorker (planned x.0 x.1) guess b.certificate.items)
-    (one_saying query stations files (serial-b.asked, serial-b.dataset) q serial-b.read right-a.asks) serial-b.alone in
+    (one_saying query stations files (serial-b.asked, serial-b.dataset) q serial-b.read answer-a.asks) serial-b.alone in
     let same : (a.report.items ≡ b.report.items) × (a.unlisted ≡ b.unlisted) =
-    report_one best query stations files a b right-a right-b in
+    report_one best query stations files (record {
+      asked = serial-a.asked;
+      dataset = serial-a.dataset;
+      read = serial-a.read;
+    }) a b answer-a answer-b in
     record {
       report = same.0;
       certificate = one_certificate (planned q c) guess a.certificate.items b.certificate.items one mine other;

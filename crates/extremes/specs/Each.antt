@@ -9,7 +9,7 @@ use Rattle.ghcn_series.specs.declared.counts.Warnings.{Warnings}
 use Rattle.ghcn_series.specs.declared.rows.RowReader.{RowReader}
 use Rattle.ghcn_series.specs.Gathered.{HasReadByRows}
 use Rattle.ghcn_series.specs.LineKinds.{warnings_of}
-use Rattle.ghcn_series.specs.Said.{stations_said, unlisted_said}
+use Rattle.ghcn_series.specs.SaidLists.{stations_said, unlisted_said}
 use Rattle.ghcn_series.specs.Series.{Contents}
 use Rattle.rank_query.specs.Asked.{Asked, score_element}
 use Rattle.rank_query.specs.Asks.{Asks}

@@ -1,7 +1,7 @@
 -- What is returned for a report and a certificate on an input without an error.
 use Rattle.std.specs.Prelude.{◌≡◌, ◌↔◌, ℕ, List}
 use Rattle.ghcn_files.specs.declared.station.Station.{Station}
-use Rattle.ghcn_series.specs.Said.{stations_said}
+use Rattle.ghcn_series.specs.SaidLists.{stations_said}
 use Rattle.ghcn_series.specs.Series.{Contents}
 use Rattle.rank_query.specs.Asked.{Asked}
 use Rattle.rank_papers.specs.Right.{IsAdmittedSeries, IsRightReport, IsRightCertificate}

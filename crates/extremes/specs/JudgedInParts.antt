@@ -2,7 +2,7 @@
 use Rattle.std.specs.Prelude.{◌≡◌, ◌↔◌, ℕ, ◌<◌, List, length, map}
 use Rattle.std.specs.List.{sum, flat_map, AllByRecursion, AllZip, IsDistinct}
 use Rattle.ghcn_files.specs.Ids.{same_id}
-use Rattle.ghcn_series.specs.Said.{said_by, stations_said}
+use Rattle.ghcn_series.specs.SaidLists.{said_by, stations_said}
 use Rattle.ghcn_series.specs.Series.{Contents}
 use Rattle.rank_query.specs.Asked.{Asked}
 use Rattle.rank_query.specs.Asks.{Asks}
@@ -36,14 +36,14 @@ abbrev pub ArePartsApart : Asked → List ℕ → List JudgedPart → Type 0
 ArePartsApart asked stations parts = IsDistinct same_id (morsel_ids asked (said_by_parts stations parts))
 
 -- a part accepts: it has that many series, of that many lines
-abbrev pub Accepts : ℕ → JudgedPart → ℕ → Type 0
-Accepts lines p series = p.verdict ≡ Accepted series lines
+abbrev pub FilesAccept : ℕ → JudgedPart → ℕ → Type 0
+FilesAccept lines p series = p.verdict ≡ Accepted series lines
 
 -- each part accepts, and the numbers of their series add up to that of the lines
-pub record AllAccept (parts : List JudgedPart) : Type 0 where
+pub record AllFilesAccept (parts : List JudgedPart) : Type 0 where
   pub lines : ℕ
   pub series : List ℕ
-  pub accepted : AllZip (Accepts lines) parts series
+  pub accepted : AllZip (FilesAccept lines) parts series
   pub sum : sum series ≡ lines
 
 -- a report is the right one and a certificate a right one for the files of all parts, one part after the other, if and
@@ -52,5 +52,5 @@ abbrev pub PartsJudgeTheWhole : Type 0
 PartsJudgeTheWhole = (query stations report certificate : List ℕ) (parts : List JudgedPart) (asked : Asked)
     (dataset : Contents) → IsReadOf query stations (files_of_parts parts) asked dataset → 0 < length parts
     → AllByRecursion (IsJudgedFor asked stations report certificate) parts → ArePartsApart asked stations parts
-    → AllAccept parts
+    → AllFilesAccept parts
     ↔ AreRightTexts asked (stations_said stations) (files_of_parts parts) report certificate

@@ -1,7 +1,7 @@
 -- What is ranked in parts and merged, as a statement for the contract of a public function.
 use Rattle.std.specs.Prelude.{◌≡◌, ℕ, List}
 use Rattle.std.specs.List.{AllByRecursion}
-use Rattle.ghcn_series.specs.Said.{stations_said}
+use Rattle.ghcn_series.specs.SaidLists.{stations_said}
 use Rattle.rank_query.specs.Asked.{Asked}
 use Rattle.rank_query.specs.Asks.{Asks}
 use Rattle.rank_scores.specs.Cut.{Filed}

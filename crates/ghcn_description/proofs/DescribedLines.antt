@@ -5,20 +5,20 @@ use Rattle.std.proofs.Common.{get_or, set, Option, Some, None, Ok, Err, refl, sy
 use Rattle.std.specs.Prelude.{◌&&◌, ◌||◌, nat_lt, filter, replicate}
 use Rattle.std.specs.List.{cons_option, filter_map, flat_map, AllZip, IsDistinct, position_or_len, count_by}
 use Rattle.std.specs.Option.{is_some}
-use Rattle.std.proofs.lemmas.Bool.Decides.{nat_tests}
-use Rattle.std.proofs.lemmas.List.{append-nil}
+use Rattle.std.proofs.lemmas.Bool.Decides.{nat_tests, Decides-eqb}
+use Rattle.std.proofs.lemmas.List.{append-nil, length-set, get_or-set_same, get_or-set_other}
 use Rattle.std.proofs.lemmas.List.Elements.{filter_map-append}
+use Rattle.std.proofs.lemmas.Slice.Zip.{AllZip-long}
 use Rattle.ghcn_fields.specs.Lines.{columns}
 use Rattle.ghcn_files.specs.declared.element.Element.{Element}
 use Rattle.ghcn_files.specs.declared.element.Element.TheVariants.{Prcp, Snow, Snwd, Tmax, Tmin}
 use Rattle.ghcn_files.specs.declared.element.Keep.{Keep}
 use Rattle.ghcn_files.specs.Elements.{nothing}
 use Rattle.ghcn_files.specs.declared.fault.LineWhy.TheVariants.{Short}
-use Rattle.ghcn_files.specs.declared.station.StationId.{StationId}
 use Rattle.ghcn_files.specs.declared.station.Station.{Station}
 use Rattle.ghcn_files.specs.declared.month.Month.{Month}
 use Rattle.ghcn_files.specs.Ids.{same_id}
-use Rattle.ghcn_files.proofs.IdLaws.{same_id-is, same_id-turned, place_is}
+use Rattle.ghcn_files.proofs.IdLaws.{same_id-turned, place_is}
 use Rattle.ghcn_files.specs.Elements.{elements, same_element, element_index, element_of}
 use Rattle.ghcn_files.specs.Listed.{AreListed, is_station_of, place_of}
 use Rattle.ghcn_files.specs.Months.{read_month, month_if, month_of, month_why, unless}
@@ -26,125 +26,84 @@ use Rattle.ghcn_series.specs.declared.reader.Reader.{Reader}
 use Rattle.ghcn_series.specs.DailyFaults.{FileLine, month_on, month_if_ok, is_listed}
 use Rattle.ghcn_series.specs.Says.{Fact, usable_facts, facts_of, is_usable}
 use Rattle.ghcn_series.specs.Gathered.{HasReadFor}
+use Rattle.ghcn_series.proofs.AllSeries.{same_element-is}
+use Rattle.ghcn_series.proofs.ListFacts.{zip-weaker}
 use Rattle.ghcn_series.proofs.Places.{ids, listed-is, unlisted-is}
 use Rattle.ghcn_description.specs.declared.counts.ElementCounts.{ElementCounts}
 use Rattle.ghcn_description.specs.declared.describer.Describer.{Describer}
-use Rattle.ghcn_description.specs.Lines.{is_other, code_on}
+use Rattle.ghcn_description.specs.Lines.{is_other, code_on, lines_with, other_lines}
 use Rattle.ghcn_description.specs.declared.others.Others.{Others}
-use Rattle.ghcn_description.specs.Described.{AreCounts, AreOthers, IsSpan, series_of_element}
+use Rattle.ghcn_description.specs.Described.{AreSums, AreOthers, IsSpan}
 use Rattle.ghcn_description.specs.Describing.{has_fact, elements_with, HasDescribed, CountsAt}
-use Rattle.ghcn_description.specs.Steps.{CountsMonth, CountsCode, IsEmpty, has_day}
-use Rattle.ghcn_description.proofs.OtherCodes.{no-other}
-use Rattle.ghcn_description.proofs.MoreLines.{facts-are, changed-at, bit-set}
-use Rattle.std.proofs.lemmas.List.Sums.{sum_by-cons}
-use Rattle.ghcn_description.proofs.MoreLines.{series-are, months-counted, unlisted-facts, same-months, unlisted-same}
-use Rattle.ghcn_description.proofs.MoreLines.{counts-other, counts-this}
+use Rattle.ghcn_description.specs.Steps.{CountsCode, IsEmpty, has_day, with_mark}
+use Rattle.ghcn_description.proofs.LinesOfCodes.{no-other, others-more}
+use Rattle.ghcn_description.proofs.LinesTogether.{same-sums}
+use Rattle.ghcn_description.proofs.MoreLines.{bit-set, changed-at, facts-are, months-counted, sums-other, sums-this}
+use Rattle.ghcn_description.proofs.MoreLines.{unlisted-facts}
 
 -- ---- five counts
 
--- five counts of the elements
-pub five : (R : ElementCounts → Element → Type 0) (cs : List ElementCounts) → AllZip R cs elements
-    → (a : ElementCounts) × (b : ElementCounts) × (c : ElementCounts) × (d : ElementCounts) × (e : ElementCounts)
-    × (cs ≡ a ∷ b ∷ c ∷ d ∷ e ∷ [])
-five R [] h = absurd h
-five R (a ∷ []) h = absurd h.1
-five R (a ∷ b ∷ []) h = absurd h.1.1
-five R (a ∷ b ∷ c ∷ []) h = absurd h.1.1.1
-five R (a ∷ b ∷ c ∷ d ∷ []) h = absurd h.1.1.1.1
-five R (a ∷ b ∷ c ∷ d ∷ e ∷ []) h = (a, b, c, d, e, refl)
-five R (a ∷ b ∷ c ∷ d ∷ e ∷ f ∷ cs) h = absurd h.1.1.1.1.1
+-- an element has a place among the five
+pub at_place : (y : Element) → (element_index y < 5) × (get_or elements (element_index y) y ≡ y)
+at_place Prcp = (omega arith, refl)
+at_place Snow = (omega arith, refl)
+at_place Snwd = (omega arith, refl)
+at_place Tmax = (omega arith, refl)
+at_place Tmin = (omega arith, refl)
 
--- P is true of each of five counts and its element: Q is after one count is replaced, if it follows for the others and
--- is true of the new one
-five-set : (P Q : ElementCounts → Element → Type 0) (x : Element) (a b c d e was new : ElementCounts)
-    → AllZip P (a ∷ b ∷ c ∷ d ∷ e ∷ []) elements
-    → ((v : ElementCounts) (y : Element) → same_element x y ≡ false → P v y → Q v y)
-    → (P (get_or (a ∷ b ∷ c ∷ d ∷ e ∷ []) (element_index x) was) x → Q new x)
-    → AllZip Q (set (a ∷ b ∷ c ∷ d ∷ e ∷ []) (element_index x) new) elements
-five-set P Q Prcp a b c d e was new (pa, (pb, (pc, (pd, (pe, u))))) other this =
-    (this pa, (other b Snow refl pb, (other c Snwd refl pc, (other d Tmax refl pd, (other e Tmin refl pe, u)))))
-five-set P Q Snow a b c d e was new (pa, (pb, (pc, (pd, (pe, u))))) other this =
-    (other a Prcp refl pa, (this pb, (other c Snwd refl pc, (other d Tmax refl pd, (other e Tmin refl pe, u)))))
-five-set P Q Snwd a b c d e was new (pa, (pb, (pc, (pd, (pe, u))))) other this =
-    (other a Prcp refl pa, (other b Snow refl pb, (this pc, (other d Tmax refl pd, (other e Tmin refl pe, u)))))
-five-set P Q Tmax a b c d e was new (pa, (pb, (pc, (pd, (pe, u))))) other this =
-    (other a Prcp refl pa, (other b Snow refl pb, (other c Snwd refl pc, (this pd, (other e Tmin refl pe, u)))))
-five-set P Q Tmin a b c d e was new (pa, (pb, (pc, (pd, (pe, u))))) other this =
-    (other a Prcp refl pa, (other b Snow refl pb, (other c Snwd refl pc, (other d Tmax refl pd, (this pe, u)))))
+-- a fact of each of two lists, place by place
+zip-at : {A B : Type 0} (R : A → B → Type 0) (xs : List A) (ys : List B) (i : ℕ) (d : A) (e : B) → AllZip R xs ys
+    → i < length xs → R (get_or xs i d) (get_or ys i e)
+zip-at R [] ys i d e all lt = absurd (omega arith)
+zip-at R (x ∷ xs) [] i d e all lt = absurd all
+zip-at R (x ∷ xs) (y ∷ ys) zero d e all lt = all.0
+zip-at R (x ∷ xs) (y ∷ ys) (suc i) d e all lt = zip-at R xs ys i d e all.1 (omega arith)
 
--- a test at an element's place is that element's
-bit-at : (h : Element → Bool) (x : Element) → get_or (map h elements) (element_index x) false ≡ h x
-bit-at h Prcp = refl
-bit-at h Snow = refl
-bit-at h Snwd = refl
-bit-at h Tmax = refl
-bit-at h Tmin = refl
+-- there are five counts
+pub are-five : (R : ElementCounts → Element → Type 0) (cs : List ElementCounts) → AllZip R cs elements → length cs ≡ 5
+are-five R cs all = sym (AllZip-long R cs elements all)
 
--- five elements have a place
-below-five : (x : Element) → element_index x < 5
-below-five Prcp = omega arith
-below-five Snow = omega arith
-below-five Snwd = omega arith
-below-five Tmax = omega arith
-below-five Tmin = omega arith
+-- what is true of each count and its element is true at an element's place
+pub at-element : (R : ElementCounts → Element → Type 0) (cs : List ElementCounts) → AllZip R cs elements
+    → (y : Element) (d : ElementCounts) → R (get_or cs (element_index y) d) y
+at-element R cs all y d =
+    let place = at_place y in
+    subst (R (get_or cs (element_index y) d)) place.1
+    (zip-at R cs elements (element_index y) d y all (omega (arith, place.0, are-five R cs all)))
+
+-- and so the other way round
+pub from-each : (R : ElementCounts → Element → Type 0) (cs : List ElementCounts) → length cs ≡ 5
+    → ((y : Element) (d : ElementCounts) → R (get_or cs (element_index y) d) y) → AllZip R cs elements
+from-each R (a ∷ b ∷ c ∷ d ∷ e ∷ []) long each =
+    (each Prcp a, (each Snow a, (each Snwd a, (each Tmax a, (each Tmin a, tt)))))
+from-each R (a ∷ b ∷ c ∷ d ∷ e ∷ f ∷ cs) long each = absurd (omega (arith, long))
+from-each R (a ∷ b ∷ c ∷ d ∷ []) long each = absurd (omega (arith, long))
+from-each R (a ∷ b ∷ c ∷ []) long each = absurd (omega (arith, long))
+from-each R (a ∷ b ∷ []) long each = absurd (omega (arith, long))
+from-each R (a ∷ []) long each = absurd (omega (arith, long))
+from-each R [] long each = absurd (omega (arith, long))
+
+-- one of the counts is replaced: what is true of the new one, and follows for the others, is true of each
+replaced : (P Q : ElementCounts → Element → Type 0) (x : Element) (cs : List ElementCounts) (new : ElementCounts)
+    → AllZip P cs elements → ((c : ElementCounts) (y : Element) → same_element x y ≡ false → P c y → Q c y) → Q new x
+    → AllZip Q (set cs (element_index x) new) elements
+replaced P Q x cs new all other this =
+    from-each Q (set cs (element_index x) new) (length-set cs (element_index x) new ∙ are-five P cs all)
+    (λ y d. go y d (same_element x y) refl)
+  where
+    go : (y : Element) (d : ElementCounts) (b : Bool) → same_element x y ≡ b
+        → Q (get_or (set cs (element_index x) new) (element_index y) d) y
+    go y d true same =
+        subst (λ z. Q (get_or (set cs (element_index x) new) (element_index z) d) z) (same_element-is x y same)
+        (rw (get_or-set_same cs (element_index x) new d (omega (arith, at_place x, are-five P cs all))) this)
+    go y d false apart =
+        rw (get_or-set_other cs (element_index x) (element_index y) new d
+        (λ same. let wrong = sym apart ∙ (Decides-eqb (element_index x) (element_index y)).1 (sym same) in cc))
+        (other (get_or cs (element_index y) d) y apart (at-element P cs all y d))
 
 -- tests that agree return the same for the elements
 pub five-agree : (g h : Element → Bool) → ((x : Element) → g x ≡ h x) → map g elements ≡ map h elements
 five-agree g h same = rw (same Prcp, same Snow, same Snwd, same Tmax, same Tmin) refl
-
--- of which elements the station of an ID has a fact, if it is listed
-found-bits : (facts : List Fact) (id : StationId) (ss : List Station) (k : ℕ)
-    → position_or_len (is_station_of id) ss ≡ k → k < length ss
-    → get_or (map (elements_with facts) ss) k [] ≡ map (has_fact facts id) elements
-found-bits facts id [] k at lt = absurd (omega arith)
-found-bits facts id (s ∷ ss) k at lt = go (same_id s.id id) k refl at lt (found-bits facts id ss)
-  where
-    go : (t : Bool) (k : ℕ) → same_id s.id id ≡ t → cond (not t) (1 + position_or_len (is_station_of id) ss) 0 ≡ k
-        → k < length (s ∷ ss) → ((k : ℕ) → position_or_len (is_station_of id) ss ≡ k → k < length ss
-        → get_or (map (elements_with facts) ss) k [] ≡ map (has_fact facts id) elements)
-        → get_or (map (elements_with facts) (s ∷ ss)) k [] ≡ map (has_fact facts id) elements
-    go true zero is at lt more = ap (λ i. map (has_fact facts i) elements) (same_id-is s.id id is)
-    go true (suc k) is at lt more = absurd (omega (arith, at))
-    go false zero is at lt more = absurd (omega (arith, at))
-    go false (suc k) is at lt more = more k (omega (arith, at)) (omega arith)
-
--- a fact of each count and element follows from another one
-zip-weaker : {A B : Type 0} (P Q : A → B → Type 0) (xs : List A) (ys : List B) → ((x : A) (y : B) → P x y → Q x y)
-    → AllZip P xs ys → AllZip Q xs ys
-zip-weaker P Q [] [] f h = tt
-zip-weaker P Q [] (y ∷ ys) f h = absurd h
-zip-weaker P Q (x ∷ xs) [] f h = absurd h
-zip-weaker P Q (x ∷ xs) (y ∷ ys) f h = (f x y h.0, zip-weaker P Q xs ys f h.1)
-
--- the counts of the elements if one has a month more
-elements-more : (stations : List Station) (ls : List FileLine) (l : FileLine) (m : Month) → month_on l ≡ Some m
-    → is_listed stations m.id ≡ true → IsDistinct same_id (ids stations) → (cs : List ElementCounts)
-    (was new : ElementCounts) → AllZip (AreCounts stations ls) cs elements
-    → was ≡ get_or cs (element_index m.element) was
-    → CountsMonth was new m (has_day m && not (has_fact (usable_facts stations ls) m.id m.element))
-    → AllZip (AreCounts stations (ls ++ l ∷ [])) (set cs (element_index m.element) new) elements
-elements-more stations ls l m is listed apart cs was new of there adds = go (five (AreCounts stations ls) cs of)
-  where
-    same_itself : (x : Element) → same_element x x ≡ true
-    same_itself Prcp = refl
-    same_itself Snow = refl
-    same_itself Snwd = refl
-    same_itself Tmax = refl
-    same_itself Tmin = refl
-
-    -- one of five counts is set
-    go : (a : ElementCounts) × (b : ElementCounts) × (c : ElementCounts) × (d : ElementCounts) × (e : ElementCounts)
-        × (cs ≡ a ∷ b ∷ c ∷ d ∷ e ∷ [])
-        → AllZip (AreCounts stations (ls ++ l ∷ [])) (set cs (element_index m.element) new) elements
-    go (a, b, c, d, e, all) =
-        subst (λ es. AllZip (AreCounts stations (ls
-        ++ l ∷ [])) (set es (element_index m.element) new) elements) (sym all)
-        (five-set (AreCounts stations ls) (AreCounts stations (ls ++ l ∷ [])) m.element a b c d e was new
-        (subst (λ es. AllZip (AreCounts stations ls) es elements) all of)
-        (λ v y other. counts-other stations ls l m is listed apart v y other)
-        (λ h. counts-this stations ls l m is listed apart was new m.element (same_itself m.element) adds
-        (subst (λ v. AreCounts stations ls v m.element)
-        (sym (there ∙ ap (λ es. get_or es (element_index m.element) was) all)) h)))
 
 -- ---- which line it is
 
@@ -200,49 +159,41 @@ module _ (stations : List Station) (keep : Keep) (ls : List FileLine) (l : FileL
         let lt : place < length stations = here.2 in
         let stands : position_or_len (is_station_of m.id) stations ≡ place = place_is stations m.id place at in
         let index : ℕ = element_index m.element in
-        let has = facts-are stations ls l m is-month listed apart in
-        let bits : get_or old.with_days.items place [] ≡ map (has_fact facts m.id) elements =
-        ap (λ w. get_or w place []) of.with_days ∙ found-bits facts m.id stations place stands lt in
-        let had : adds.had ≡ has_fact facts m.id m.element =
-        adds.had_day ∙ ap (λ b. get_or b index false) bits ∙ bit-at (has_fact facts m.id) m.element in
+        let has = facts-are stations ls l m is-month listed in
         let others_stay : (s : Station) → same_id s.id m.id ≡ false → elements_with later s ≡ elements_with facts s =
         λ s away. five-agree (has_fact later s.id) (has_fact facts s.id)
-        (λ x. has s.id x ∙ away-from (has_fact facts s.id x) (same_id m.id s.id) (same_element m.element x && has_day m)
-        (same_element m.element x) (has_day m) (same_id-turned m.id s.id ∙ away)) in
-        let own_changes : (s : Station) → same_id s.id m.id ≡ true → elements_with later s
-        ≡ set (elements_with facts s) index (get_or (elements_with facts s) index false || has_day m) =
+        (λ x. has s.id x ∙ away-from (has_fact facts s.id x) (same_id m.id s.id) (same_element m.element x) (has_day m)
+        (same_id-turned m.id s.id ∙ away)) in
+        let own_changes : (s : Station) → same_id s.id m.id ≡ true
+        → elements_with later s ≡ with_mark (elements_with facts s) m =
         λ s own. five-agree (has_fact later s.id) (λ x. has_fact facts s.id x ||
         (same_element m.element x && has_day m))
         (λ x. has s.id x ∙ ap (λ t. has_fact facts s.id x || ((t && same_element m.element x) && has_day m))
         (same_id-turned m.id s.id ∙ own))
         ∙ bit-set m.element (has_fact facts s.id) (has_day m) in
-        let marks = changed-at (elements_with facts) (elements_with later)
-        (λ b. set b index (get_or b index false || has_day m)) [] m.id stations place apart stands lt others_stay
-        own_changes in
         record {
           read = subst (λ x. HasReadFor x stations nothing after) (sym adds.reader) has_read;
-          counts = subst (λ es. AllZip (AreCounts stations after) es elements) (sym adds.elements)
-              (elements-more stations ls l m is-month listed apart old.elements adds.before adds.after of.counts
-              adds.there
-              (subst (λ h. CountsMonth adds.before adds.after m (has_day m && not h)) had adds.counted));
-          with_days = adds.with_days
-              ∙ ap (λ b. set old.with_days.items place (set (get_or old.with_days.items place []) index
-              (b || has_day m)))
-              adds.had_day
-              ∙ ap (λ w. set w place (set (get_or w place []) index (get_or
-              (get_or w place []) index false || has_day m)))
-              of.with_days
-              ∙ sym marks;
+          counts = subst (λ es. AllZip (AreSums stations after) es elements) (sym adds.elements)
+              (replaced (AreSums stations ls) (AreSums stations after) m.element old.elements adds.after of.counts
+              (λ c y other.
+              sums-other stations ls l m is-month c y (ap (λ b. b && same_element m.element y) listed ∙ other))
+              (sums-this stations ls l m is-month adds.before adds.after m.element
+              (ap (λ b. b && same_element m.element m.element) listed ∙ (Decides-eqb index index).1 refl) adds.counted
+              (subst (λ c. AreSums stations ls c m.element) (sym adds.there)
+              (at-element (AreSums stations ls) old.elements of.counts m.element adds.before))));
+          with_days = adds.with_days ∙ ap (λ w. set w place (with_mark (get_or w place []) m)) of.with_days
+              ∙ sym (changed-at (elements_with facts) (elements_with later) (λ w. with_mark w m) [] m.id stations place
+              apart stands lt others_stay own_changes);
           others = subst (λ o. AreOthers after o.counts.items o.further) (sym adds.others)
-              (no-other ls l not-other old.others.counts.items old.others.further of.others);
+              (no-other ls l old.others.counts.items old.others.further not-other of.others);
           unlisted = adds.unlisted ∙ of.unlisted
               ∙ sym (rw listed at (months-counted stations ls l m is-month (λ x. not (is_listed stations x.id)))
               ∙ omega arith);
         }
       where
-        away-from : (f s e a b : Bool) → s ≡ false → (f || ((s && a) && b)) ≡ f
-        away-from true s e a b is = refl
-        away-from false s e a b is = rw is refl
+        away-from : (f s a b : Bool) → s ≡ false → (f || ((s && a) && b)) ≡ f
+        away-from true s a b is = refl
+        away-from false s a b is = rw is refl
 
     -- a describer has counted a month of a station that isn't listed
     pub counted-unlisted : (old : Describer) (r : Reader) (n : ℕ) → place_of stations m.id ≡ None
@@ -260,10 +211,11 @@ module _ (stations : List Station) (keep : Keep) (ls : List FileLine) (l : FileL
         ≡ usable_facts stations ls = unlisted-facts stations ls l m is-month out in
         record {
           read = has_read;
-          counts = zip-weaker (AreCounts stations ls) (AreCounts stations after) old.elements elements
-              (λ c e h. unlisted-same stations ls l m is-month c e out h) of.counts;
+          counts = zip-weaker (AreSums stations ls) (AreSums stations after) old.elements elements
+              (λ c e h. sums-other stations ls l m is-month c e (ap (λ b. b && same_element m.element e) out) h)
+              of.counts;
           with_days = of.with_days ∙ sym (ap (λ fs. map (elements_with fs) stations) same);
-          others = no-other ls l not-other old.others.counts.items old.others.further of.others;
+          others = no-other ls l old.others.counts.items old.others.further not-other of.others;
           unlisted = more ∙ ap (λ k. k + 1) of.unlisted
               ∙ sym (rw out at (months-counted stations ls l m is-month (λ x. not (is_listed stations x.id))));
         }
@@ -298,11 +250,12 @@ module _ (stations : List Station) (keep : Keep) (ls : List FileLine) (l : FileL
         }) stations keep after
     counted-other old r others has_read adds of = record {
       read = has_read;
-      counts = zip-weaker (AreCounts stations ls) (AreCounts stations after) old.elements elements
-          (λ c e h. same-months stations ls after c e no-month h) of.counts;
+      counts = zip-weaker (AreSums stations ls) (AreSums stations after) old.elements elements
+          (λ c e h. same-sums stations ls after c e no-month h) of.counts;
       with_days = of.with_days
           ∙ sym (ap (λ ms. map (elements_with (filter (is_usable stations) (flat_map facts_of ms))) stations) no-month);
-      others = adds.holds ls (l ∷ []) ((is-other, refl), tt) refl of.others;
+      others = others-more ls l others.counts.items others.further is-other
+          (adds.holds (lines_with ls) (other_lines ls) of.others);
       unlisted = of.unlisted ∙ sym (ap (count_by (λ x. not (is_listed stations x.id))) no-month);
     }
 
@@ -314,20 +267,11 @@ no-marks : (ss : List Station)
 no-marks [] = refl
 no-marks (s ∷ ss) = ap (λ bs. (false ∷ false ∷ false ∷ false ∷ false ∷ []) ∷ bs) (no-marks ss)
 
--- so no series counts
-no-series : (stations : List Station) (e : Element) → series_of_element stations [] e ≡ 0
-no-series stations e = series-are [] e stations ∙ none stations
-  where
-    none : (ss : List Station) → count_by (λ s. has_fact [] s.id e) ss ≡ 0
-    none [] = refl
-    none (s ∷ ss) = sum_by-cons (λ t. cond (has_fact [] t.id e) 1 0) s ss ∙ omega (arith, none ss)
-
 -- counts of nothing are those of no line
-empty-counts : (stations : List Station) (c : ElementCounts) (e : Element) → IsEmpty c e → AreCounts stations [] c e
-empty-counts stations c e is = record {
+empty-sums : (stations : List Station) (c : ElementCounts) (e : Element) → IsEmpty c e → AreSums stations [] c e
+empty-sums stations c e is = record {
   element = is.element;
   lines = is.lines;
-  series = is.series ∙ sym (no-series stations e);
   days = is.days;
   flagged = is.flagged;
   span = subst (λ o. IsSpan [] o) (sym is.span) refl;
@@ -341,16 +285,8 @@ pub described-nothing : (stations : List Station) (keep : Keep) (d : Describer)
     → AreOthers [] d.others.counts.items d.others.further → d.unlisted ≡ 0 → HasDescribed d stations keep []
 described-nothing stations keep d read counts marks others none = record {
   read = read;
-  counts = zip-weaker IsEmpty (AreCounts stations []) d.elements elements (empty-counts stations) counts;
+  counts = zip-weaker IsEmpty (AreSums stations []) d.elements elements (empty-sums stations) counts;
   with_days = marks ∙ no-marks stations;
   others = others;
   unlisted = none;
 }
-
--- one more after that many
-pub one-more : {A : Type 0} (n m : ℕ) (x : A) → m ≡ n + 1 → replicate n x ++ x ∷ [] ≡ replicate m x
-one-more zero zero x is = absurd (omega (arith, is))
-one-more zero (suc zero) x is = refl
-one-more zero (suc (suc m)) x is = absurd (omega (arith, is))
-one-more (suc n) zero x is = absurd (omega (arith, is))
-one-more (suc n) (suc m) x is = ap (λ xs. x ∷ xs) (one-more n m x (omega (arith, is)))

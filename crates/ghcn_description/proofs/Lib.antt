@@ -4,6 +4,8 @@ pub mod OtherCodes
 pub mod AddedCounts
 pub mod ShownText
 pub mod MonthFigures
+pub mod FactsOfMonths
+pub mod LinesTogether
 pub mod MoreLines
 pub mod DescribedLines
 pub mod LinesOfCodes

@@ -1,100 +1,87 @@
--- More lines of a code that is none of the five elements'.
-use Rattle.std.proofs.Common.{◌≡◌, ℕ, suc, ◌+◌, ◌<◌, ◌≤◌, true, List, [], ◌∷◌, ◌++◌, length, get_or, set, refl, sym, ap}
-use Rattle.std.proofs.Common.{◌∙◌, subst, arith, append_assoc}
-use Rattle.std.specs.Prelude.{take, drop}
-use Rattle.std.specs.List.{insert}
-use Rattle.std.specs.Cmp.Lexicographic.{slice_cmp}
-use Rattle.std.specs.Ordering.{nat_cmp, is_eq}
-use Rattle.std.specs.declared.cmp.Ordering.TheVariants.{Equal}
-use Rattle.std.proofs.lemmas.List.{append-nil}
-use Rattle.std.proofs.lemmas.Map.Text.{is_eq-slice_cmp}
+-- Lines and more lines by their codes.
+use Rattle.std.proofs.Common.{◌≡◌, ℕ, ◌+◌, true, false, Bool, cond, List, [], ◌∷◌, ◌++◌, refl, sym, ap, arith, inl}
+use Rattle.std.specs.Prelude.{◌&&◌}
+use Rattle.std.specs.List.{count_by}
+use Rattle.std.proofs.lemmas.List.Sums.{sum_by-append, sum_by-cons}
+use Rattle.ghcn_fields.specs.Bytes.{same_bytes}
 use Rattle.ghcn_series.specs.DailyFaults.{FileLine}
+use Rattle.ghcn_series.specs.LinesRead.{line_texts}
 use Rattle.ghcn_description.specs.declared.counts.CodeCount.{CodeCount}
-use Rattle.ghcn_description.specs.Lines.{is_other, code_on}
-use Rattle.ghcn_description.specs.Described.{AreOthers, most_codes}
-use Rattle.ghcn_description.specs.Steps.{HaveCode, IsPlaceOf}
-use Rattle.ghcn_description.proofs.OtherCodes.{found, passed_over-at, added-at, replaced-at}
-use Rattle.ghcn_description.proofs.OtherCodes.{same_bytes-is, split-at, split-set}
+use Rattle.ghcn_description.specs.Lines.{is_other, code_on, lines_with, other_lines}
+use Rattle.ghcn_description.specs.Described.{AreOthers, CountSmallest}
+use Rattle.ghcn_description.proofs.OtherCodes.{same-counts}
 
--- one more line of a code, as it is counted
-abbrev one_of : List ℕ → CodeCount
-one_of code = record { code = code; lines = 1 }
+-- no line has another code
+pub nothing-counted : AreOthers [] [] 0
+nothing-counted = record {
+  few = omega arith;
+  codes = record {
+    rising = λ i j d lt below. absurd (omega arith);
+    some = λ i d lt. absurd (omega arith);
+    each = λ k. inl refl;
+    total = refl;
+  };
+}
 
--- lines after one, and after those before it
-after-one : (ls : List FileLine) (l : FileLine) (more : List FileLine) (cs : List CodeCount) (n : ℕ)
-    → AreOthers ((ls ++ l ∷ []) ++ more) cs n → AreOthers (ls ++ l ∷ more) cs n
-after-one ls l more cs n of = subst (λ xs. AreOthers xs cs n) (append_assoc ls (l ∷ []) more) of
+-- the lines of a code among lines and more lines
+abbrev of_both : List FileLine → List FileLine → List ℕ → ℕ
+of_both ls more k = lines_with ls k + lines_with more k
 
--- lines of a code that is counted already
-more-found : (code : List ℕ) (ls more : List FileLine) (xs ys : List CodeCount) (c new : CodeCount) (n : ℕ)
-    → HaveCode code more → c.code ≡ code → new.code ≡ c.code → new.lines ≡ c.lines + length more → 0 < length more
-    → AreOthers ls (xs ++ c ∷ ys) n → AreOthers (ls ++ more) (xs ++ new ∷ ys) n
-more-found code ls [] xs ys c new n have is same lines some of = absurd (omega (arith, some))
-more-found code ls (l ∷ []) xs ys c new n have is same lines some of =
-    found ls l have.0.0 xs ys c new n (is ∙ have.0.1) same lines of
-more-found code ls (l ∷ m ∷ more) xs ys c new n have is same lines some of =
-    let next : CodeCount = record { code = c.code; lines = c.lines + 1 } in
-    let one = found ls l have.0.0 xs ys c next n (is ∙ have.0.1) refl refl of in
-    after-one ls l (m ∷ more) (xs ++ new ∷ ys) n
-    (more-found code (ls ++ l ∷ []) (m ∷ more) xs ys next new n have.1 is same (omega (arith, lines)) (omega arith) one)
+-- what is counted of lines and of more lines is counted of both together
+pub others-both : (ls more : List FileLine) (cs : List CodeCount) (n : ℕ)
+    → CountSmallest (of_both ls more) (other_lines ls + other_lines more) cs n → AreOthers (ls ++ more) cs n
+others-both ls more cs n is =
+    same-counts (of_both ls more) (lines_with (ls ++ more)) (other_lines ls + other_lines more)
+    (other_lines (ls ++ more)) cs n
+    (λ k. sym (sum_by-append (λ l. cond (is_other l && same_bytes (code_on l) k) 1 0) ls more))
+    (sym (sum_by-append (λ l. cond (is_other l) 1 0) ls more)) is
 
--- lines of the code that was found at a place
-pub more-found-at : (code : List ℕ) (ls more : List FileLine) (cs : List CodeCount) (i n : ℕ) (there new : CodeCount)
-    → HaveCode code more → 0 < length more → i < length cs → there ≡ get_or cs i there
-    → slice_cmp nat_cmp there.code code ≡ Equal → new.code ≡ there.code → new.lines ≡ there.lines + length more
-    → AreOthers ls cs n → AreOthers (ls ++ more) (set cs i new) n
-more-found-at code ls more cs i n there new have some lt at ties same lines of =
-    let is : there.code ≡ code =
-    same_bytes-is there.code code (sym (is_eq-slice_cmp there.code code) ∙ ap is_eq ties) in
-    let parts : cs ≡ take i cs ++ there ∷ drop (suc i) cs =
-    split-at cs i there lt ∙ ap (λ c. take i cs ++ c ∷ drop (suc i) cs) (sym at) in
-    subst (λ ds. AreOthers (ls ++ more) ds n) (sym (split-set cs i new lt))
-    (more-found code ls more (take i cs) (drop (suc i) cs) there new n have is same lines some
-    (subst (λ ds. AreOthers ls ds n) parts of))
+-- a line of another code is one line more of that
+pub others-more : (ls : List FileLine) (l : FileLine) (cs : List CodeCount) (n : ℕ) → is_other l ≡ true
+    → CountSmallest (λ k. lines_with ls k + cond (same_bytes (code_on l) k) 1 0) (other_lines ls + 1) cs n
+    → AreOthers (ls ++ l ∷ []) cs n
+others-more ls l cs n other is =
+    others-both ls (l ∷ []) cs n
+    (same-counts (λ k. lines_with ls k + cond (same_bytes (code_on l) k) 1 0) (of_both ls (l ∷ [])) (other_lines ls + 1)
+    (other_lines ls + other_lines (l ∷ [])) cs n (λ k. rw other (omega arith)) (rw other (omega arith)) is)
 
--- lines of a code after as many as are named
-pub more-passed_over : (code : List ℕ) (ls more : List FileLine) (cs : List CodeCount) (place n : ℕ)
-    → HaveCode code more → IsPlaceOf code cs place → most_codes ≤ place → AreOthers ls cs n
-    → AreOthers (ls ++ more) cs (n + length more)
-more-passed_over code ls [] cs place n have at full of =
-    let none : n ≡ n + length {A = FileLine} [] = omega arith in
-    subst (AreOthers (ls ++ []) cs) none (rw (append-nil ls) of)
-more-passed_over code ls (l ∷ more) cs place n have at full of =
-    let one = passed_over-at ls l have.0.0 cs place n (subst (λ k. IsPlaceOf k cs place) have.0.1 at) full of in
-    let all : (n + 1) + length more ≡ n + length (l ∷ more) = omega arith in
-    subst (AreOthers (ls ++ l ∷ more) cs) all
-    (after-one ls l more cs ((n + 1) + length more)
-    (more-passed_over code (ls ++ l ∷ []) more cs place (n + 1) have.1 at full one))
+-- a line of an element changes no count of other codes
+pub no-other : (ls : List FileLine) (l : FileLine) (cs : List CodeCount) (n : ℕ) → is_other l ≡ false
+    → AreOthers ls cs n → AreOthers (ls ++ l ∷ []) cs n
+no-other ls l cs n none is =
+    others-both ls (l ∷ []) cs n
+    (same-counts (lines_with ls) (of_both ls (l ∷ [])) (other_lines ls) (other_lines ls + other_lines (l ∷ [])) cs n
+    (λ k. rw none (omega arith)) (rw none (omega arith)) is)
 
--- lines of a new code, one of which is counted at its place
-more-placed : (code : List ℕ) (ls more : List FileLine) (l : FileLine) (cs : List CodeCount) (place n : ℕ)
-    (new : CodeCount) → HaveCode code (l ∷ more) → new.code ≡ code → new.lines ≡ length (l ∷ more)
-    → ((one : CodeCount) → one.code ≡ code_on l → one.lines ≡ 1 → AreOthers (ls ++ l ∷ []) (insert cs place one) n)
-    → AreOthers (ls ++ l ∷ more) (insert cs place new) n
-more-placed code ls [] l cs place n new have is lines placed = placed new (is ∙ have.0.1) lines
-more-placed code ls (m ∷ more) l cs place n new have is lines placed =
-    after-one ls l (m ∷ more) (insert cs place new) n
-    (more-found code (ls ++ l ∷ []) (m ∷ more) (take place cs) (drop place cs) (one_of code) new n have.1 refl is
-    (omega (arith, lines)) (omega arith) (placed (one_of code) have.0.1 refl))
+-- as many lines pass a test of their texts, whatever their numbers are
+count-texts : (p : List ℕ → Bool) (ls others : List FileLine) → line_texts ls ≡ line_texts others
+    → count_by (λ l. p l.bytes) ls ≡ count_by (λ l. p l.bytes) others
+count-texts p [] [] same = refl
+count-texts p [] (y ∷ ys) same = absurd cc
+count-texts p (x ∷ xs) [] same = absurd cc
+count-texts p (x ∷ xs) (y ∷ ys) same =
+    let here : x.bytes ≡ y.bytes = cc in
+    let rest : line_texts xs ≡ line_texts ys = cc in
+    omega (
+      arith,
+      ap (λ b. cond {A = ℕ} (p b) 1 0) here,
+      count-texts p xs ys rest,
+      sum_by-cons (λ l. cond (p l.bytes) 1 0) x xs,
+      sum_by-cons (λ l. cond (p l.bytes) 1 0) y ys,
+    )
 
--- lines of a new code at its place, if there is room
-pub more-added : (code : List ℕ) (ls more : List FileLine) (cs : List CodeCount) (place n : ℕ) (new : CodeCount)
-    → HaveCode code more → 0 < length more → new.code ≡ code → new.lines ≡ length more → IsPlaceOf code cs place
-    → length cs < most_codes → AreOthers ls cs n → AreOthers (ls ++ more) (insert cs place new) n
-more-added code ls [] cs place n new have some is lines at room of = absurd (omega (arith, some))
-more-added code ls (l ∷ more) cs place n new have some is lines at room of =
-    more-placed code ls more l cs place n new have is lines
-    (λ one same single. added-at ls l have.0.0 cs place n one same single
-    (subst (λ k. IsPlaceOf k cs place) have.0.1 at) room of)
+-- a line of this text, whatever its number is
+abbrev of_text : List ℕ → FileLine
+of_text bytes = record { file = 0; line = 0; bytes = bytes }
 
--- the same, if the last code leaves
-pub more-replaced : (code : List ℕ) (ls more : List FileLine) (cs kept : List CodeCount) (last : CodeCount)
-    (place n : ℕ) (new : CodeCount) → HaveCode code more → 0 < length more → new.code ≡ code
-    → new.lines ≡ length more → cs ≡ kept ++ last ∷ [] → IsPlaceOf code cs place → place < most_codes
-    → most_codes ≤ length cs → AreOthers ls cs n → AreOthers (ls ++ more) (insert kept place new) (n + last.lines)
-more-replaced code ls [] cs kept last place n new have some is lines parts at low full of =
-    absurd (omega (arith, some))
-more-replaced code ls (l ∷ more) cs kept last place n new have some is lines parts at low full of =
-    more-placed code ls more l kept place (n + last.lines) new have is lines
-    (λ one same single. replaced-at ls l have.0.0 cs kept last place n one same single parts
-    (subst (λ k. IsPlaceOf k cs place) have.0.1 at) low full of)
+-- what is counted of lines and of more lines is counted of both together, whatever the numbers of those are
+pub others-texts : (ls more numbered : List FileLine) (cs : List CodeCount) (n : ℕ)
+    → line_texts numbered ≡ line_texts more → CountSmallest (of_both ls more) (other_lines ls + other_lines more) cs n
+    → AreOthers (ls ++ numbered) cs n
+others-texts ls more numbered cs n same is =
+    others-both ls numbered cs n
+    (same-counts (of_both ls more) (of_both ls numbered) (other_lines ls + other_lines more)
+    (other_lines ls + other_lines numbered) cs n
+    (λ k. ap (λ m. lines_with ls k + m)
+    (sym (count-texts (λ b. is_other (of_text b) && same_bytes (code_on (of_text b)) k) numbered more same)))
+    (ap (λ m. other_lines ls + m) (sym (count-texts (λ b. is_other (of_text b)) numbered more same))) is)

@@ -1,12 +1,10 @@
 -- The right description of listed stations and daily files.
-use Rattle.std.specs.Prelude.{◌≡◌, ℕ, ◌<◌, ◌≤◌, Bool, ◌&&◌, not, List, [], length, map, filter, Option}
-use Rattle.std.specs.Prelude.{None, Some, ℤ, int_le, IsTrue}
-use Rattle.std.specs.List.{filter_map, list_all, list_any, count_by, sum_by, AllZip}
-use Rattle.std.specs.List.{AllByRecursion}
+use Rattle.std.specs.Prelude.{◌≡◌, ℕ, ◌+◌, ◌<◌, ◌≤◌, ◌⊎◌, if◌then◌else◌, List, [], length, map, filter}
+use Rattle.std.specs.Prelude.{Option, None, Some, ℤ, ◌≤ℤ◌}
+use Rattle.std.specs.List.{filter_map, count_by, sum_by, All, AllPairs, AllZip, Contains}
 use Rattle.std.specs.declared.cmp.Ordering.TheVariants.{Less}
-use Rattle.std.specs.Ordering.{nat_cmp, int_eq}
+use Rattle.std.specs.Ordering.{nat_cmp, is_lt}
 use Rattle.std.specs.Cmp.Lexicographic.{slice_cmp}
-use Rattle.std.specs.List.Sorted.{IsStrictlySortedBy}
 use Rattle.ghcn_fields.specs.Bytes.{same_bytes}
 use Rattle.ghcn_files.specs.declared.element.Element.{Element}
 use Rattle.ghcn_files.specs.declared.station.Station.{Station}
@@ -20,7 +18,7 @@ use Rattle.ghcn_description.specs.declared.counts.ElementCounts.{ElementCounts}
 use Rattle.ghcn_description.specs.declared.counts.CodeCount.{CodeCount}
 use Rattle.ghcn_description.specs.declared.counts.Span.{Span}
 use Rattle.ghcn_description.specs.Lines.{is_listed_of, lines_of_element, unlisted_lines}
-use Rattle.ghcn_description.specs.Lines.{is_other, code_on, lines_with}
+use Rattle.ghcn_description.specs.Lines.{lines_with, other_lines}
 
 -- ---- an element
 
@@ -42,17 +40,20 @@ flagged_of_element stations ls e = sum_by flagged_values (filter (is_listed_of s
 abbrev pub IsSpan : List ℤ → Option Span → Type 0
 IsSpan days None = days ≡ []
 IsSpan days (Some span) =
-    IsTrue (list_any (int_eq span.first) days && list_any (int_eq span.last) days
-    && list_all (λ d. int_le span.first d && int_le d span.last) days)
+    Contains days span.first × Contains days span.last × All (λ d. (span.first ≤ℤ d) × (d ≤ℤ span.last)) days
 
--- what lines say of an element is counted so
-pub record AreCounts (stations : List Station) (ls : List FileLine) (c : ElementCounts) (e : Element) : Type 0 where
+-- what lines say of an element is counted so, but for its series
+pub record AreSums (stations : List Station) (ls : List FileLine) (c : ElementCounts) (e : Element) : Type 0 where
   pub element : c.element ≡ e
   pub lines : c.lines ≡ lines_of_element stations ls e
-  pub series : c.series ≡ series_of_element stations ls e
   pub days : c.days ≡ length (days_of_element stations ls e)
   pub flagged : c.flagged ≡ flagged_of_element stations ls e
   pub span : IsSpan (days_of_element stations ls e) c.span
+
+-- its series are counted too
+pub record AreCounts (stations : List Station) (ls : List FileLine) (c : ElementCounts) (e : Element) : Type 0 where
+  pub sums : AreSums stations ls c e
+  pub series : c.series ≡ series_of_element stations ls e
 
 -- ---- other codes
 
@@ -60,34 +61,39 @@ pub record AreCounts (stations : List Station) (ls : List FileLine) (c : Element
 abbrev pub most_codes : ℕ
 most_codes = 200
 
--- the codes of these counts
-abbrev pub codes_of : List CodeCount → List (List ℕ)
-codes_of counts = map (λ c. c.code) counts
-
--- the code of a line is one of these
-abbrev pub has_code_among : List (List ℕ) → FileLine → Bool
-has_code_among codes l = list_any (λ c. same_bytes c (code_on l)) codes
-
 -- a code comes before another one by its bytes
 abbrev pub Precedes : List ℕ → List ℕ → Type 0
 Precedes a b = slice_cmp nat_cmp a b ≡ Less
 
--- a line of another code, unless that is among these: there are as many as are named, and all come before it
-abbrev pub IsBehind : List (List ℕ) → FileLine → Type 0
-IsBehind codes l = IsTrue (is_other l && not (has_code_among codes l))
-    → (length codes ≡ most_codes) × AllByRecursion (λ c. Precedes c (code_on l)) codes
+-- each code comes before those after it
+abbrev pub Rise : List CodeCount → Type 0
+Rise counts = AllPairs (λ a b. Precedes a.code b.code) counts
 
--- as many lines have a code as are counted, and some do
-abbrev pub IsCounted : List FileLine → CodeCount → Type 0
-IsCounted ls c = (0 < c.lines) × (c.lines ≡ lines_with ls c.code)
+-- how many of these codes come before one
+abbrev pub codes_before : List CodeCount → List ℕ → ℕ
+codes_before counts code = count_by (λ c. is_lt (slice_cmp nat_cmp c.code code)) counts
+
+-- how many lines are counted for a code: none if it has no count
+abbrev pub lines_for : List CodeCount → List ℕ → ℕ
+lines_for counts code = sum_by (λ c. if same_bytes c.code code then c.lines else 0) counts
+
+-- if each code has that many lines, and all codes together that many: the counts rise by their codes, and each has a
+-- line; the lines of each code are counted, unless as many of these codes as are named come before it; and the lines
+-- that aren't counted are further ones
+pub record CountCodes (lines_of : List ℕ → ℕ) (all : ℕ) (counts : List CodeCount) (further : ℕ) : Type 0 where
+  pub rising : Rise counts
+  pub some : All (λ c. 0 < c.lines) counts
+  pub each : (code : List ℕ) → (lines_for counts code ≡ lines_of code) ⊎ (most_codes ≤ codes_before counts code)
+  pub total : sum_by (λ c. c.lines) counts + further ≡ all
+
+-- so the smallest codes are counted, as many as are named
+pub record CountSmallest (lines_of : List ℕ → ℕ) (all : ℕ) (counts : List CodeCount) (further : ℕ) : Type 0 where
+  pub few : length counts ≤ most_codes
+  pub codes : CountCodes lines_of all counts further
 
 -- the smallest codes that are none of the five elements' are counted so, and that many lines have further ones
-pub record AreOthers (ls : List FileLine) (counts : List CodeCount) (further : ℕ) : Type 0 where
-  pub few : length counts ≤ most_codes
-  pub rising : IsStrictlySortedBy (slice_cmp nat_cmp) (codes_of counts)
-  pub lines : AllByRecursion (IsCounted ls) counts
-  pub behind : AllByRecursion (IsBehind (codes_of counts)) ls
-  pub further_lines : further ≡ count_by (λ l. is_other l && not (has_code_among (codes_of counts) l)) ls
+abbrev pub AreOthers : List FileLine → List CodeCount → ℕ → Type 0
+AreOthers ls counts further = CountSmallest (lines_with ls) (other_lines ls) counts further
 
 -- ---- the files
 

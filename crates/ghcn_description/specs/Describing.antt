@@ -1,5 +1,5 @@
 -- When lines and files are described so, and what each step of a describer adds.
-use Rattle.std.specs.Prelude.{◌≡◌, ℕ, ◌^◌, ◌≤◌, Bool, false, not, ◌&&◌, ◌||◌, List, [], ◌∷◌, ◌++◌, length, map}
+use Rattle.std.specs.Prelude.{◌≡◌, ℕ, ◌^◌, ◌≤◌, Bool, false, ◌&&◌, List, [], ◌∷◌, ◌++◌, length, map}
 use Rattle.std.specs.Bool.{OnTrue}
 use Rattle.std.specs.List.{list_any, AllZip, slice_index_or, slice_set}
 use Rattle.ghcn_fields.specs.Faults.{HaveNoFault}
@@ -24,9 +24,9 @@ use Rattle.ghcn_description.specs.declared.counts.Description.{Description}
 use Rattle.ghcn_description.specs.declared.counts.ElementCounts.{ElementCounts}
 use Rattle.ghcn_description.specs.declared.describer.Describer.{Describer}
 use Rattle.ghcn_description.specs.declared.describer.RowDescriber.{RowDescriber}
-use Rattle.ghcn_description.specs.Described.{AreCounts, AreOthers, IsDescription}
+use Rattle.ghcn_description.specs.Described.{AreOthers, AreSums, IsDescription}
 use Rattle.ghcn_description.specs.Lines.{unlisted_lines}
-use Rattle.ghcn_description.specs.Steps.{CountsMonth, has_day}
+use Rattle.ghcn_description.specs.Steps.{CountsMonth, with_mark}
 
 -- ---- lines
 
@@ -41,7 +41,7 @@ elements_with facts s = map (has_fact facts s.id) elements
 -- a describer has read these lines for these stations, and counted what is on them
 pub record HasDescribed (d : Describer) (stations : List Station) (keep : Keep) (ls : List FileLine) : Type 0 where
   pub read : HasReadFor d.reader stations nothing ls
-  pub counts : AllZip (AreCounts stations ls) d.elements elements
+  pub counts : AllZip (AreSums stations ls) d.elements elements
   pub with_days : d.with_days.items ≡ map (elements_with (usable_facts stations ls)) stations
   pub others : AreOthers ls d.others.counts.items d.others.further
   pub unlisted : d.unlisted ≡ unlisted_lines stations ls
@@ -55,15 +55,13 @@ pub record CountsAt (old new : Describer) (place : ℕ) (m : Month) : Type 0 whe
   pub reader : new.reader ≡ old.reader
   pub others : new.others ≡ old.others
   pub unlisted : new.unlisted ≡ old.unlisted
-  pub had : Bool
-  pub had_day : had ≡ slice_index_or (slice_index_or old.with_days.items place []) (element_index m.element) false
-  pub with_days : new.with_days.items ≡ slice_set old.with_days.items place
-      (slice_set (slice_index_or old.with_days.items place []) (element_index m.element) (had || has_day m))
+  pub with_days : new.with_days.items
+      ≡ slice_set old.with_days.items place (with_mark (slice_index_or old.with_days.items place []) m)
   pub before : ElementCounts
   pub after : ElementCounts
   pub there : before ≡ slice_index_or old.elements (element_index m.element) before
   pub elements : new.elements ≡ slice_set old.elements (element_index m.element) after
-  pub counted : CountsMonth before after m (has_day m && not had)
+  pub counted : CountsMonth before after m
 
 -- a describer adds the month of a line, or of one that is like it, unless its station is listed and has that month
 pub record AddsMonth (old new : Describer) (line : List ℕ) (added : Bool) : Type 0 where

@@ -10,7 +10,7 @@ ghost use Rattle.ghcn_series.specs.Steps.{IsOfMonth, OfMonth};
 ghost use Rattle.ghcn_description.specs.Describing.{HasDescribed, AddsMonth, CountsAt, Finishes};
 
 use crate::counts::sum;
-use crate::elements::{join_counts, join_marks, no_counts, place_of};
+use crate::elements::{count_series, join_counts, join_marks, no_counts, place_of};
 use crate::others::{Others, shown_code};
 use crate::{Description, ElementCounts};
 use ghcn_fields::Memory;
@@ -25,7 +25,7 @@ pub struct Describer {
     reader: Reader,
     /// Of each listed station, in their order, of which elements it has a usable day.
     with_days: Vec<[bool; 5]>,
-    /// Of the five elements, in their order.
+    /// Of the five elements, in their order, all but the series.
     elements: [ElementCounts; 5],
     others: Others,
     /// How many lines of the five elements belong to stations that aren't listed.
@@ -135,7 +135,7 @@ impl Describer {
         let mut with_days = self.with_days;
         join_marks(&mut with_days, &next.with_days);
         let mut elements = self.elements;
-        join_counts(&mut elements, &next.elements, &with_days)?;
+        join_counts(&mut elements, &next.elements)?;
         let mut others = self.others;
         others.join(&next.others)?;
         Ok(Some(Describer {
@@ -151,12 +151,14 @@ impl Describer {
     fn finish(self, files: u64, counts: &LineCounts) -> Description
         ensures { Finishes self files counts.now result }
     {
+        let mut elements = self.elements;
+        count_series(&mut elements, &self.with_days);
         let (others, further) = self.others.finish();
         Description {
             stations: self.with_days.len() as u64,
             files,
             lines: counts.lines,
-            elements: self.elements,
+            elements,
             others,
             further,
             unlisted: self.unlisted,
@@ -191,10 +193,8 @@ impl Describer {
             (λ m. flagged ≡ flagged_values m → CountsAt self.old self.new place m)) }
     {
         let at = place_of(row.element);
-        let has_day = row.word != 0;
-        let had_day = self.with_days[place][at];
-        self.with_days[place][at] = had_day | has_day;
-        self.elements[at].add(row, flagged, has_day & !had_day)?;
+        self.with_days[place][at] |= row.word != 0;
+        self.elements[at].add(row, flagged)?;
         Ok(())
     }
 }

@@ -9,7 +9,8 @@ ghost use Rattle.ghcn_files.specs.Elements.{elements, element_index};
 ghost use Rattle.ghcn_files.specs.Flags.{flagged_values};
 ghost use Rattle.ghcn_series.specs.Steps.{IsOfMonth, OfMonth};
 ghost use Rattle.ghcn_description.specs.Described.{IsSpan};
-ghost use Rattle.ghcn_description.specs.Steps.{CountsMonth, IsEmpty, JoinElements, JoinsCounts, days_of_month, has_mark};
+ghost use Rattle.ghcn_description.specs.Steps.{CountSeries, CountsMonth, IsEmpty, JoinElements, JoinsCounts};
+ghost use Rattle.ghcn_description.specs.Steps.{days_of_month, has_mark};
 
 use crate::counts::sum;
 use crate::{ElementCounts, Span};
@@ -31,27 +32,24 @@ impl ElementCounts {
         }
     }
 
-    /// Counts a month of a listed station with that many flagged values, and whether it has the first usable day of its
-    /// series.
-    pub(crate) fn add(&mut self, row: &MonthRow, flagged: u32, is_new: bool) -> Result<(), Memory>
+    /// Counts a month of a listed station with that many flagged values.
+    pub(crate) fn add(&mut self, row: &MonthRow, flagged: u32) -> Result<(), Memory>
         requires { IsOfMonth true row.now }
         ensures { OnOk result (OfMonth true row.now
-            (λ m. flagged ≡ flagged_values m → CountsMonth self.old self.new m is_new)) }
+            (λ m. flagged ≡ flagged_values m → CountsMonth self.old self.new m)) }
     {
         self.lines = sum(self.lines, 1)?;
-        self.series = sum(self.series, one_if(is_new))?;
         self.days = sum(self.days, row.word.count_ones() as u64)?;
         self.flagged = sum(self.flagged, flagged as u64)?;
         self.span = joined(self.span, span_of(row));
         Ok(())
     }
 
-    /// Adds what was counted on other lines, if that many stations have a usable day on either.
-    fn join(&mut self, next: &ElementCounts, series: u64) -> Result<(), Memory>
-        ensures { OnOk result (JoinsCounts self.old next.now series self.new) }
+    /// Adds what was counted on other lines.
+    fn join(&mut self, next: &ElementCounts) -> Result<(), Memory>
+        ensures { OnOk result (JoinsCounts self.old next.now self.new) }
     {
         self.lines = sum(self.lines, next.lines)?;
-        self.series = series;
         self.days = sum(self.days, next.days)?;
         self.flagged = sum(self.flagged, next.flagged)?;
         self.span = joined(self.span, next.span);
@@ -59,19 +57,26 @@ impl ElementCounts {
     }
 }
 
-/// Adds what was counted on other lines, by element, if this says of each station of which elements it has a usable day
-/// on either.
+/// Adds what was counted on other lines, by element.
 pub(crate) fn join_counts(
     elements: &mut [ElementCounts; 5],
     next: &[ElementCounts; 5],
-    with_days: &[[bool; 5]],
 ) -> Result<(), Memory>
-    ensures { OnOk result (JoinElements elements.old next.now with_days.now elements.new) }
+    ensures { OnOk result (JoinElements elements.old next.now elements.new) }
 {
     for at in 0..5 {
-        elements[at].join(&next[at], series_at(with_days, at))?;
+        elements[at].join(&next[at])?;
     }
     Ok(())
+}
+
+/// Counts the series by element, if this says of each station of which elements it has a usable day.
+pub(crate) fn count_series(elements: &mut [ElementCounts; 5], with_days: &[[bool; 5]])
+    ensures { CountSeries elements.old with_days.now elements.new }
+{
+    for at in 0..5 {
+        elements[at].series = series_at(with_days, at);
+    }
 }
 
 /// Marks of which elements stations have a usable day, on some lines or on others.

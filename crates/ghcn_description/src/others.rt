@@ -6,7 +6,7 @@ ghost use Rattle.std.specs.Ordering.{nat_cmp};
 ghost use Rattle.ghcn_fields.specs.Lines.{columns};
 ghost use Rattle.ghcn_description.specs.Described.{AreOthers};
 ghost use Rattle.ghcn_description.specs.Lines.{shown};
-ghost use Rattle.ghcn_description.specs.Steps.{HasCountedSome, CountsCode, JoinsCodes, IsPlaceOf, MakesRoom};
+ghost use Rattle.ghcn_description.specs.Steps.{HasCountedSome, CountsCode, JoinsCodes, IsPlaceOf, KeepsMost};
 
 use crate::CodeCount;
 use crate::counts::sum;
@@ -64,19 +64,15 @@ impl Others {
         requires place { IsPlaceOf code self.old.counts.items place }
         ensures { OnOk result (CountsCode self.old self.new code lines) }
     {
-        if place >= MOST_CODES {
-            return self.pass_over(lines);
-        }
-        self.make_room()?;
         self.counts.insert(place, CodeCount { code, lines })?;
-        Ok(())
+        self.trim()
     }
 
-    /// Removes the last code, if as many are named as may be.
-    fn make_room(&mut self) -> Result<(), Memory>
-        ensures { OnOk result (MakesRoom self.old self.new) }
+    /// Counts the lines of the last code as further ones, if more codes are named than may be.
+    fn trim(&mut self) -> Result<(), Memory>
+        ensures { OnOk result (KeepsMost self.old self.new) }
     {
-        if self.counts.len() < MOST_CODES {
+        if self.counts.len() <= MOST_CODES {
             return Ok(());
         }
         match self.counts.pop() {

@@ -4,6 +4,7 @@ pub mod LineLaws
 pub mod FaultLaws
 pub mod IdLaws
 pub mod Ordered
+pub mod Among
 pub mod ById
 pub mod KeyOrder
 pub mod ColumnSlices

@@ -4,7 +4,7 @@ use Rattle.std.proofs.Common.{None, Some, refl, sym, ap, ◌∙◌, subst}
 use Rattle.std.specs.Prelude.{◌==◌, ◌&&◌}
 use Rattle.std.specs.List.{filter_map, flat_map, cons_option, list_any, AllZip, AllByRecursion, IsDistinct, slice_get}
 use Rattle.std.proofs.lemmas.List.Elements.{filter-append}
-use Rattle.std.proofs.lemmas.Bool.{and_left, and_right, and_parts, or_right, eqb-true}
+use Rattle.std.proofs.lemmas.Bool.{and_parts, or_right, eqb-true}
 use Rattle.std.proofs.lemmas.Option.{same_Some}
 use Rattle.ghcn_fields.specs.Sorting.{sorted_by}
 use Rattle.ghcn_files.specs.declared.station.StationId.{StationId}
@@ -27,12 +27,13 @@ use Rattle.ghcn_series.specs.Held.{AreByStation, all_of, same_series}
 use Rattle.ghcn_series.specs.Kept.{kept}
 use Rattle.ghcn_series.specs.Gathered.{usable_days, kept_days, gathered_days, months_of, IsGatheringOf}
 use Rattle.ghcn_series.specs.Gathered.{AreByElement, IsStationOf, IsReady, gathered_series, station_series}
-use Rattle.ghcn_series.proofs.Places.{ids, same_id-refl}
-use Rattle.ghcn_series.proofs.StationMonths.{months_of-none, elements_differ, element_at}
+use Rattle.ghcn_series.proofs.Places.{same_id-refl}
+use Rattle.ghcn_series.proofs.StationMonths.{months_of-none, element_at}
 use Rattle.ghcn_series.proofs.SeriesPlaces.{AreOwn}
 use Rattle.ghcn_series.proofs.ReadySeries.{is_series, length-sorted, gathered-sorted}
 use Rattle.ghcn_series.proofs.FactsOfMonths.{selected-months}
-use Rattle.ghcn_series.proofs.ListFacts.{each-append, each-weaker, both_distinct, distinct_filter}
+use Rattle.ghcn_series.proofs.ListFacts.{each-append, each-weaker, distinct_filter}
+use Rattle.ghcn_series.proofs.DistinctSeries.{all_said, stations_apart}
 
 -- elements that are the same
 pub same_element-is : (a b : Element) → same_element a b ≡ true → a ≡ b
@@ -103,47 +104,6 @@ from_gatherings id (g ∷ gs) ready =
       | true ↦ λ is. from_gatherings id gs ready.1
       | false ↦ λ is. (is_series id g _ ready.0 is refl, from_gatherings id gs ready.1)
     ] refl
-
--- ---- no two series have the same station and element
-
--- the series of one element is none of those of the others
-others_apart : (facts : List Fact) (s : Station) (e : Element) (es : List Element)
-    → AllByRecursion (λ f. same_element e f ≡ false) es
-    → AllByRecursion (λ u. same_series (usable_of facts s e) u ≡ false) (map (usable_of facts s) es)
-others_apart facts s e [] other = tt
-others_apart facts s e (f ∷ fs) other =
-    (and_right (same_id s.id s.id) (same_element e f) other.0, others_apart facts s e fs other.1)
-
--- the series of distinct elements are distinct
-elements_apart : (facts : List Fact) (s : Station) (es : List Element) → IsDistinct same_element es
-    → IsDistinct same_series (map (usable_of facts s) es)
-unfolding IsDistinct
-elements_apart facts s [] apart = tt
-elements_apart facts s (e ∷ es) apart = (others_apart facts s e es apart.0, elements_apart facts s es apart.1)
-
--- all that may be said of these stations
-abbrev all_said : List Fact → List Station → List Usable
-all_said facts ss = flat_map (λ s. map (usable_of facts s) elements) ss
-
--- a series is none of those of stations with other IDs
-ids_apart : (facts : List Fact) (u : Usable) (ss : List Station) → AllByRecursion (λ i. same_id u.id i ≡ false) (ids ss)
-    → AllByRecursion (λ v. same_series u v ≡ false) (all_said facts ss)
-ids_apart facts u [] other = tt
-ids_apart facts u (s ∷ ss) other =
-    let each = λ (e : Element). and_left (same_id u.id s.id) (same_element u.element e) other.0 in
-    each-append (λ v. same_series u v ≡ false) (map (usable_of facts s) elements) (all_said facts ss)
-    (each Prcp, (each Snow, (each Snwd, (each Tmax, (each Tmin, tt))))) (ids_apart facts u ss other.1)
-
--- if no ID is listed twice, no two of all series have the same station and element
-pub stations_apart : (facts : List Fact) (ss : List Station) → IsDistinct same_id (ids ss)
-    → IsDistinct same_series (all_said facts ss)
-unfolding IsDistinct
-stations_apart facts [] apart = tt
-stations_apart facts (s ∷ ss) apart =
-    let each = λ (e : Element). ids_apart facts (usable_of facts s e) ss apart.0 in
-    both_distinct same_series (map (usable_of facts s) elements) (all_said facts ss)
-    (elements_apart facts s elements elements_differ) (stations_apart facts ss apart.1)
-    (each Prcp, (each Snow, (each Snwd, (each Tmax, (each Tmin, tt)))))
 
 -- a station's series have its ID
 ids_of_station : (id : StationId) (gs : List Gathering)

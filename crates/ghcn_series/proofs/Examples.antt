@@ -2,12 +2,13 @@
 use Rattle.std.proofs.Common.{◌≡◌, ◌∙◌, ap, ℕ, zero, suc, List, [], ◌∷◌, ◌++◌, refl, Some, None, Ok, Err, take}
 use Rattle.std.proofs.Common.{replicate, true, false, arith}
 use Rattle.std.specs.Prelude.{Result, codes, pos, neg_ℤ, map, ◌+◌, ◌-◌, ◌^◌, nat_le, if◌then◌else◌}
-use Rattle.std.specs.List.{repeat, flat_map, enumerate_from, IsDistinct}
+use Rattle.std.specs.List.{count_by, repeat, flat_map, enumerate_from, IsDistinct}
 use Rattle.std.proofs.lemmas.Int.{ints}
 use Rattle.std.proofs.lemmas.List.{length-replicate}
 use Rattle.jiff_core.specs.Calendar.{days_from_civil, day_count, days_of_years, days_of_months}
 use Rattle.ghcn_fields.specs.Days.{block_of}
 use Rattle.ghcn_fields.specs.Faults.{first_fault}
+use Rattle.ghcn_fields.specs.Lines.{lines}
 use Rattle.ghcn_files.specs.declared.element.Element.{Element}
 use Rattle.ghcn_files.specs.Elements.{nothing, everything, with_one, only}
 use Rattle.ghcn_files.specs.declared.element.Element.TheVariants.{Prcp, Snow, Tmax, Tmin}
@@ -22,18 +23,15 @@ use Rattle.ghcn_series.specs.declared.fault.DataFault.{DataFault}
 use Rattle.ghcn_series.specs.Series.{DayValue, Usable, Contents, value_on, series_of}
 use Rattle.ghcn_series.specs.DailyFaults.{FileLine, file_lines, daily_lines, daily_fault}
 use Rattle.ghcn_series.specs.Says.{in_64_bits, contents, contents_unless, data_of}
-use Rattle.ghcn_series.specs.Said.{facts_said, unlisted_said, IsMadeOf}
+use Rattle.ghcn_series.specs.Said.{IsMadeOf, IsSaid, SaysStations, is_unlisted}
+use Rattle.ghcn_series.specs.SaidLists.{facts_said, unlisted_said}
 use Rattle.ghcn_series.specs.Held.{IsContents}
-use Rattle.ghcn_series.specs.JoinedFiles.{files_together}
 use Rattle.ghcn_series.specs.Kept.{kept}
-use Rattle.ghcn_series.specs.Counted.{placed_after}
-use Rattle.ghcn_series.specs.LineKinds.{cuts_foreign, is_odd, foreign_of, odd_among}
 use Rattle.ghcn_series.specs.Packed.{IsNextBlock, next_block}
 use Rattle.ghcn_series.proofs.Members.{of_each}
 use Rattle.ghcn_series.proofs.RightData.{data-are-right}
 use Rattle.ghcn_series.proofs.SaidSeries.{series_said}
-use Rattle.ghcn_series.specs.LinesRead.{line_texts}
-use Rattle.ghcn_series.specs.Fed.{Files, nothing_fed, more, with_end, files_of, followed_by}
+use Rattle.ghcn_series.proofs.SaidStations.{stations-said}
 
 -- ---- lines and stations
 
@@ -46,11 +44,11 @@ abbrev bravo : Station
 bravo = station_of (codes "ZZA00000002  11.0000   21.0000  100.0    BRAVO")
 
 -- the list, with the second one first
-abbrev both : List Station
+abbrev pub both : List Station
 both = bravo ∷ alpha ∷ []
 
 -- lines, each with a line feed
-abbrev text : List (List ℕ) → List ℕ
+abbrev pub text : List (List ℕ) → List ℕ
 text [] = []
 text (l ∷ ls) = l ++ 10 ∷ text ls
 
@@ -59,11 +57,11 @@ abbrev gap : List ℕ
 gap = codes "-9999   "
 
 -- the line with this head and these groups, and missing days after them
-abbrev line : List ℕ → List ℕ → List ℕ
+abbrev pub line : List ℕ → List ℕ → List ℕ
 line head groups = take 269 (head ++ groups ++ repeat 31 gap)
 
 -- a line whose first day has 31.1
-abbrev warm : List ℕ → List ℕ
+abbrev pub warm : List ℕ → List ℕ
 warm head = line head (codes "  311   ")
 
 -- the series of a station and element with these days
@@ -145,7 +143,7 @@ unfolding days_of_group days_from_civil day_count days_of_years days_of_months
 unlisted_lines = refl
 
 -- a line of a listed station and one of another
-abbrev rainy : List (List ℕ)
+abbrev pub rainy : List (List ℕ)
 rainy = text (line (codes "ZZA00000001202007PRCP") (codes "   -5   " ++ codes "    5   ")
     ∷ warm (codes "ZZA00000009202007TMAX") ∷ []) ∷ []
 
@@ -156,11 +154,35 @@ unfolding days_of_group days_from_civil day_count days_of_years days_of_months
 facts_that_count = (refl, refl)
 
 -- the series that is made of the facts of two lines has their days in order
-made_of_two : IsMadeOf (facts_said both mixed)
+made_of_two : IsMadeOf (IsSaid mixed)
     (series alpha Tmin ((pos 18444, neg_ℤ (pos 5)) ∷ (pos 18475, pos 3) ∷ []))
 made_of_two =
     let made = series alpha Tmin ((pos 18444, neg_ℤ (pos 5)) ∷ (pos 18475, pos 3) ∷ []) in
     (series_said both mixed _ in_order made refl).0 refl
+
+-- so it is with columns: one line names an element and no listed station
+unlisted_by_columns : count_by (is_unlisted both) (flat_map lines rainy) ≡ 1
+unlisted_by_columns = refl
+
+-- a list with a blank line, and with a line that ends after the longitude
+abbrev short_list : List ℕ
+short_list = text (codes "ZZA00000002  11.0000   21.0000  100.0    BRAVO" ∷ []
+    ∷ codes "ZZA00000001  10.0000   20.0000" ∷ [])
+
+-- its stations
+abbrev two_stations : List Station
+two_stations = bravo ∷ record {
+  id = alpha.id;
+  latitude = pos 100_000;
+  longitude = pos 200_000;
+  elevation = None;
+  state = 32 ∷ 32 ∷ [];
+  name = replicate 30 32;
+} ∷ []
+
+-- the list says these
+says_stations : SaysStations short_list two_stations
+says_stations = (stations-said short_list two_stations refl two_stations).1 refl
 
 -- their number ends at the greatest one of 64 bits
 many_lines : (in_64_bits 2 ≡ 2) × (in_64_bits (2 ^ 64 - 1) ≡ 2 ^ 64 - 1) × (in_64_bits (2 ^ 64) ≡ 2 ^ 64 - 1)
@@ -266,24 +288,6 @@ looked_up : (series_of some alpha.id Snow ≡ Some (series alpha Snow ((pos 1844
     ≡ Some (pos 300) ∷ None ∷ Some (pos 305) ∷ [])
 looked_up = (refl, refl, refl)
 
--- ---- what was fed
-
--- nothing yet
-abbrev begun : Files
-begun = (nothing_fed (only Tmax) both).files
-
--- no file as long as no byte came and none was ended; one file by pieces
-pieces : (files_of begun ≡ []) × (files_of (more begun []) ≡ [])
-    × (files_of (more (more begun (codes "ab")) (codes "c")) ≡ codes "abc" ∷ [])
-pieces = (refl, refl, refl)
-
--- a file that was ended counts even if it is empty, and what comes then belongs to the next one
-ended : (files_of (with_end begun) ≡ [] ∷ [])
-    × (files_of (more (with_end (more begun (codes "ab"))) (codes "c")) ≡ codes "ab" ∷ codes "c" ∷ [])
-    × (files_of (with_end (more (with_end (more begun (codes "ab"))) (codes "c"))) ≡ codes "ab" ∷ codes "c" ∷ [])
-    × (files_of (with_end (with_end (more begun (codes "ab")))) ≡ codes "ab" ∷ [] ∷ [])
-ended = (refl, refl, refl, refl)
-
 -- ---- what is true of all data
 
 -- the list as a text
@@ -324,14 +328,6 @@ not_right = (
   λ h. let e : true ≡ false = h.listed.distinct.0.0 in absurd cc,
 )
 
--- lines of unlisted stations in two parts, and in both together
-unlisted_in_parts :
-    let other = text (warm (codes "ZZA00000009202007TMAX") ∷ warm (codes "ZZA00000008202007TMIN") ∷ []) ∷ [] in
-    (map (unlisted_said both) (rainy ∷ other ∷ []) ≡ 1 ∷ 2 ∷ [])
-    × (unlisted_said both (files_together (rainy ∷ other ∷ [])) ≡ 3)
-unfolding days_of_group
-unlisted_in_parts = (refl, refl)
-
 -- ---- the next block
 
 -- a day of block 576, and one of block 578
@@ -352,75 +348,3 @@ not_next = (
       ((λ e. absurd (omega (arith, ints, e))), ((λ e. absurd (omega (arith, ints, e))), tt)) h.has.0 h.has.1 h.has.2,
   λ h. absurd (omega (arith, ints, h.1.0)),
 )
-
--- ---- odd lines
-
--- a daily line of another code isn't odd
-other_code_is_not_odd : is_odd (line (codes "ZZA00000001202007WT01") []) ≡ false
-other_code_is_not_odd = refl
-
--- it is if a byte follows the last column, as the next file's first line does
-joined_line_is_odd : is_odd (line (codes "ZZA00000001202007WT01") [] ++ warm (codes "ZZA00000001202007TMAX")) ≡ true
-joined_line_is_odd = refl
-
--- and blanks there don't make it so
-blanks_after_are_not_odd : is_odd (line (codes "ZZA00000001202007WT01") [] ++ codes "  ") ≡ false
-blanks_after_are_not_odd = refl
-
--- a byte-order mark moves a line, and no code is at its place then
-marked_line_is_odd : is_odd (239 ∷ 187 ∷ 191 ∷ warm (codes "ZZA00000001202007TMAX")) ≡ true
-marked_line_is_odd = refl
-
--- a digit can't begin a code
-digit_begins_no_code : is_odd (codes "ZZA000000012020071MAX") ≡ true
-digit_begins_no_code = refl
-
--- nor can a small letter follow in one
-small_letter_is_in_no_code : is_odd (codes "ZZA00000001202007WTa1") ≡ true
-small_letter_is_in_no_code = refl
-
--- a line of one of the five elements isn't odd
-element_is_not_odd : is_odd (warm (codes "ZZA00000001202007TMAX")) ≡ false
-element_is_not_odd = refl
-
--- nor is a blank one
-blank_is_not_odd : is_odd (codes "   ") ≡ false
-blank_is_not_odd = refl
-
--- of two odd lines the first is named, by its file, from 0, and its line, from 1
-first_odd_line : (odd_among (daily_lines (text (codes "A" ∷ []) ∷ text (warm (codes "ZZA00000001202007TMAX") ∷ codes "A" ∷ [])
-    ∷ [])) ≡ record { count = 2; first = Some (record { file = 0; line = 1 }) })
-first_odd_line = refl
-
--- files that came, and then others: the first of these goes on with the current file, and those after it follow
-followed : (files_of (followed_by begun begun) ≡ [])
-    × (files_of (followed_by (with_end (more begun (codes "ab"))) (with_end begun)) ≡ codes "ab" ∷ [] ∷ [])
-    × (followed_by (more begun (codes "ab")) (more begun (codes "c")) ≡ more begun (codes "abc"))
-    × (files_of (followed_by (more begun (codes "ab")) (more (with_end (more begun (codes "c"))) (codes "d")))
-    ≡ codes "abc" ∷ codes "d" ∷ [])
-followed = (refl, refl, refl, refl)
-
--- a file is cut at a part that is foreign by itself, unless only blank lines come before that part
-cut_foreign : (cuts_foreign (codes "A") (codes "B" ∷ []) ≡ true)
-    × (cuts_foreign [] (codes "B" ∷ []) ≡ false)
-    × (cuts_foreign (text (warm (codes "ZZA00000001202007TMAX") ∷ [])) (codes "B" ∷ []) ≡ true)
-    × (cuts_foreign (text (warm (codes "ZZA00000001202007TMAX") ∷ [])) [] ≡ false)
-cut_foreign = (refl, refl, refl, refl)
-
--- lines with the same texts, whatever their numbers are
-texts_alone : line_texts (daily_lines (codes "a" ∷ codes "b" ∷ []))
-    ≡ line_texts (daily_lines (text (codes "a" ∷ [] ∷ codes "b" ∷ []) ∷ []))
-texts_alone = refl
-
--- a foreign file after two others has a place that is two greater
-foreign_after_two : (foreign_of (codes "x" ∷ []) ≡ record { count = 1; first = Some 0 })
-    × (foreign_of ([] ∷ [] ∷ codes "x" ∷ []) ≡ record { count = 1; first = Some (0 + 2) })
-foreign_after_two = (refl, refl)
-
--- so has the odd line of such a file, and a later line too if the file goes on after lines
-odd_after_two : (odd_among (daily_lines (codes "x" ∷ [])) ≡ record { count = 1; first = Some (record { file = 0; line = 1 }) })
-    × (odd_among (daily_lines ([] ∷ [] ∷ codes "x" ∷ []))
-    ≡ record { count = 1; first = Some (placed_after 2 0 (record { file = 0; line = 1 })) })
-    × (placed_after 2 7 (record { file = 0; line = 3 }) ≡ record { file = 2; line = 10 })
-    × (placed_after 2 7 (record { file = 1; line = 3 }) ≡ record { file = 3; line = 3 })
-odd_after_two = (refl, refl, refl, refl)

@@ -1,10 +1,9 @@
 -- What is counted of files, and of others that go on with the current one.
-use Rattle.std.proofs.Common.{◌≡◌, ℕ, zero, suc, ◌+◌, ◌<◌, Bool, true, false, cond, not}
+use Rattle.std.proofs.Common.{◌≡◌, ℕ, ◌+◌, ◌<◌, Bool, true, false, cond, not}
 use Rattle.std.proofs.Common.{List, [], ◌∷◌, ◌++◌, length, map}
 use Rattle.std.proofs.Common.{filter, Option, None, Some, refl, sym, ap, ◌∙◌, length-append, arith}
 use Rattle.std.specs.Prelude.{◌&&◌, ◌||◌, ◌==◌, get_or, if◌then◌else◌, nat_lt}
 use Rattle.std.specs.List.{count_by, enumerate_from, list_any, slice_get}
-use Rattle.std.proofs.Math.Bool.{or-false}
 use Rattle.std.proofs.lemmas.Bool.{ne_eqb}
 use Rattle.std.proofs.lemmas.Bool.Decides.{nat_tests}
 use Rattle.std.proofs.lemmas.List.Folds.{list_any-append}
@@ -14,12 +13,11 @@ use Rattle.ghcn_fields.specs.Bytes.{is_blank}
 use Rattle.ghcn_fields.specs.Lines.{lines, EndsLine}
 use Rattle.ghcn_files.proofs.LineLaws.{lines-append}
 use Rattle.ghcn_series.specs.declared.counts.LineCounts.{LineCounts}
-use Rattle.ghcn_series.specs.Counted.{HaveCounted, JoinsForeign, JoinsOdd, JoinsCounts, CutsForeign}
+use Rattle.ghcn_series.specs.Counted.{JoinsForeign, JoinsOdd, JoinsCounts, CutsForeign}
 use Rattle.ghcn_series.specs.Cut.{lines_to}
-use Rattle.ghcn_series.specs.DailyFaults.{daily_lines}
 use Rattle.ghcn_series.specs.Fed.{followed_by}
-use Rattle.ghcn_series.specs.LineKinds.{all_lines, blank_lines, cuts_foreign, has_element, is_foreign, foreign_of}
-use Rattle.ghcn_series.specs.LineKinds.{foreign_places, odd_among}
+use Rattle.ghcn_series.specs.LineKinds.{all_lines, blank_lines, has_element, is_foreign, foreign_of}
+use Rattle.ghcn_series.specs.LineKinds.{odd_among}
 use Rattle.ghcn_series.proofs.FedLines.{daily_lines-one}
 use Rattle.ghcn_series.proofs.JoinedCounts.{foreign-followed, odd_joined}
 use Rattle.ghcn_series.proofs.JoinedLines.{files_at, lines-followed}

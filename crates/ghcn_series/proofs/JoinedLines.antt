@@ -1,12 +1,11 @@
 -- The lines of files, of which the first one goes on with a file that has begun.
-use Rattle.std.proofs.Common.{◌≡◌, ℕ, ◌+◌, Bool, true, false, cond, not, List, [], ◌∷◌, ◌++◌, length, map, filter}
+use Rattle.std.proofs.Common.{◌≡◌, ℕ, ◌+◌, true, false, cond, not, List, [], ◌∷◌, ◌++◌, length, map, filter}
 use Rattle.std.proofs.Common.{refl, sym, subst, ap, ◌∙◌, append_assoc, length-append, inl, inr, arith}
 use Rattle.std.specs.List.{enumerate_from}
 use Rattle.std.proofs.lemmas.Bool.{true≢false}
 use Rattle.std.proofs.lemmas.List.{append-nil, map-append, nil_from_length}
 use Rattle.ghcn_fields.specs.Bytes.{is_blank}
 use Rattle.ghcn_fields.specs.Lines.{lines, EndsLine, HasNoLineFeed}
-use Rattle.ghcn_files.proofs.LineLaws.{lines-append}
 use Rattle.ghcn_series.specs.Cut.{lines_to}
 use Rattle.ghcn_series.specs.DailyFaults.{FileLine, file_line, not_blank, file_lines, daily_lines}
 use Rattle.ghcn_series.specs.Fed.{Files, followed_by}

@@ -28,6 +28,7 @@ pub mod SeriesPlaces
 pub mod ReadySeries
 pub mod FactsOfMonths
 pub mod AllSeries
+pub mod DistinctSeries
 pub mod ReadFiles
 pub mod FedLines
 pub mod FormOfLines
@@ -45,6 +46,7 @@ pub mod KeptFaults
 pub mod JoinedCutters
 pub mod FedFiles
 pub mod Examples
+pub mod CountExamples
 pub mod JoinedLists
 pub mod JoinedFiles
 pub mod SaidLines
@@ -53,6 +55,10 @@ pub mod Members
 pub mod JoinedSeries
 pub mod SaidMonths
 pub mod SaidSeries
+pub mod SaidNumbers
+pub mod SaidStations
+pub mod SaidFacts
+pub mod SaidDays
 pub mod RightData
 pub mod NextBlocks
 pub mod UnlistedLines

@@ -4,7 +4,7 @@ use Rattle.std.proofs.Common.{cond, filter, map, refl, ap}
 use Rattle.std.proofs.Common.{get_or, arith, sym}
 use Rattle.std.specs.List.{AllByRecursion, AllZip, slice_get, IsDistinct}
 use Rattle.std.proofs.Math.ListN.{set}
-pub use Rattle.ghcn_files.proofs.Ordered.{each-weaker}
+pub use Rattle.ghcn_files.proofs.Among.{each-weaker}
 
 module _ {X : Type 0} where
   -- what is true of two lists is true of both together

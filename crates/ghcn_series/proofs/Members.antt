@@ -2,7 +2,7 @@
 use Rattle.std.proofs.Common.{◌≡◌, ◌⊎◌, inl, inr, zero, suc, Bool, true, false, cond, List, [], ◌∷◌, ◌++◌, map}
 use Rattle.std.proofs.Common.{filter, Option, Some, None, refl, sym, ap, ◌∙◌, subst, ◌||◌, arith}
 use Rattle.std.specs.List.{Contains, list_any, flat_map, filter_map, cons_option, AllByRecursion}
-pub use Rattle.ghcn_files.proofs.Ordered.{In, of_one, for_each, in_permuted, found_in}
+pub use Rattle.ghcn_files.proofs.Among.{In, of_one, for_each, in_permuted, found_in}
 
 -- what is in a list by its place is in it by recursion
 pub contains-in : {X : Type 0} (xs : List X) (x : X) → Contains xs x → In xs x
@@ -121,7 +121,7 @@ in_right [] ys x h = h
 in_right (z ∷ xs) ys x h = inr (in_right xs ys x h)
 
 -- what is in both
-in_either : {X : Type 0} (xs ys : List X) (x : X) → In (xs ++ ys) x → In xs x ⊎ In ys x
+pub in_either : {X : Type 0} (xs ys : List X) (x : X) → In (xs ++ ys) x → In xs x ⊎ In ys x
 in_either [] ys x h = inr h
 in_either (z ∷ xs) ys x (inl e) = inl (inl e)
 in_either (z ∷ xs) ys x (inr h) = elim (in_either xs ys x h) [

@@ -34,10 +34,11 @@ use Rattle.ghcn_series.specs.DailyFaults.{FileLine, daily_lines, is_listed, mont
 use Rattle.ghcn_series.specs.Gathered.{months_of, usable_days}
 use Rattle.ghcn_series.specs.Held.{IsContents, same_series}
 use Rattle.ghcn_series.specs.Laws.{DataAreRight, ListsAreRight}
-use Rattle.ghcn_series.specs.Said.{facts_said, months_said}
+use Rattle.ghcn_series.specs.SaidLists.{facts_said, months_said}
 use Rattle.ghcn_series.specs.Says.{all_series, data_of, usable_of}
 use Rattle.ghcn_series.specs.Series.{Contents, DayValue, IsSeries, Usable, by_day}
-use Rattle.ghcn_series.proofs.AllSeries.{right_of, stations_apart}
+use Rattle.ghcn_series.proofs.AllSeries.{right_of}
+use Rattle.ghcn_series.proofs.DistinctSeries.{stations_apart}
 use Rattle.ghcn_series.proofs.FactsOfMonths.{selected-months}
 use Rattle.ghcn_series.proofs.JoinedFiles.{days_said}
 use Rattle.ghcn_series.proofs.ListFacts.{distinct_filter}

@@ -21,7 +21,7 @@ use Rattle.ghcn_series.specs.declared.fault.DataFault.{DataFault}
 use Rattle.ghcn_series.specs.declared.fault.DataFault.TheVariants.{DailyLine, TooManyFiles}
 use Rattle.ghcn_series.specs.DailyFaults.{FileLine, file_line, not_blank, file_lines, daily_lines, month_on, month_if_ok}
 use Rattle.ghcn_series.specs.DailyFaults.{daily_fault, daily_why, is_listed}
-use Rattle.ghcn_series.specs.Said.{stations_said, month_said, months_said, said_by}
+use Rattle.ghcn_series.specs.SaidLists.{stations_said, month_said, months_said, said_by}
 use Rattle.ghcn_series.specs.Says.{contents, contents_unless, data_of, all_series, facts_of, in_64_bits, is_usable}
 use Rattle.ghcn_series.specs.Series.{Contents}
 use Rattle.ghcn_series.proofs.CountedLines.{blank_line}

@@ -25,7 +25,7 @@ use Rattle.ghcn_series.specs.DailyFaults.{FileLine, daily_lines, month_on, month
 use Rattle.ghcn_series.specs.DailyFaults.{is_listed, same_month}
 use Rattle.ghcn_series.specs.Gathered.{same_time, months_of}
 use Rattle.ghcn_series.specs.JoinedFiles.{HaveData}
-use Rattle.ghcn_series.specs.Said.{facts_said, months_said}
+use Rattle.ghcn_series.specs.SaidLists.{facts_said, months_said}
 use Rattle.ghcn_series.specs.Series.{Contents, DayValue}
 use Rattle.ghcn_series.proofs.AllSeries.{same_element-is}
 use Rattle.ghcn_series.proofs.DistinctDays.{distinct_days}

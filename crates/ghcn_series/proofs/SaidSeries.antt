@@ -21,7 +21,8 @@ use Rattle.ghcn_files.specs.Ids.{same_id}
 use Rattle.ghcn_files.proofs.IdLaws.{same_id-is}
 use Rattle.ghcn_files.specs.Elements.{same_element, element_index}
 use Rattle.ghcn_series.specs.DailyFaults.{is_listed}
-use Rattle.ghcn_series.specs.Said.{facts_said, IsMadeOf}
+use Rattle.ghcn_series.specs.Said.{IsMadeOf, IsSaid}
+use Rattle.ghcn_series.specs.SaidLists.{facts_said}
 use Rattle.ghcn_series.specs.Says.{Fact, data_of}
 use Rattle.ghcn_series.specs.Series.{DayValue, Usable, Contents, value_on, by_day, series_of}
 use Rattle.ghcn_series.proofs.RisingDays.{keys-rise}
@@ -31,6 +32,7 @@ use Rattle.ghcn_series.proofs.FoundSeries.{if_it_has_days, series_made, series_f
 use Rattle.ghcn_series.proofs.JoinedFiles.{days_said}
 use Rattle.ghcn_series.proofs.Members.{In, contains-in, in-contains, in_kept, in_map, kept_in, map_in}
 use Rattle.ghcn_series.proofs.Places.{same_id-refl}
+use Rattle.ghcn_series.proofs.SaidFacts.{facts-said}
 use Rattle.ghcn_series.proofs.SaidLines.{held-said}
 use Rattle.ghcn_series.proofs.SaidMonths.{said-distinct}
 use Rattle.ghcn_series.proofs.SortedDays.{sorted_by-rises, sorted-are, lookup-is}
@@ -121,7 +123,7 @@ module _ (facts : List Fact) where
 
   -- a series that has a day is made of the facts of its station and element
   made-is : (id : StationId) (e : Element) → IsDistinct int_eq (keys_of (days_said facts id e))
-      → (length (series_made facts id e).days == 0) ≡ false → IsMadeOf facts (series_made facts id e)
+      → (length (series_made facts id e).days == 0) ≡ false → IsMadeOf (Contains facts) (series_made facts id e)
   made-is id e distinct some = record {
     some = omega (arith, eqb-false (length (series_made facts id e).days) 0 some);
     are = made-are id e;
@@ -130,17 +132,17 @@ module _ (facts : List Fact) where
 
   -- so it is with the series that is found
   made-from : (s : Usable) (id : StationId) (e : Element) → IsDistinct int_eq (keys_of (days_said facts id e))
-      → if_it_has_days (series_made facts id e) ≡ Some s → IsMadeOf facts s
+      → if_it_has_days (series_made facts id e) ≡ Some s → IsMadeOf (Contains facts) s
   made-from s id e distinct is =
       elim (length (series_made facts id e).days == 0) as (λ b. (length (series_made facts id e).days == 0) ≡ b
-      → cond b None (Some (series_made facts id e)) ≡ Some s → IsMadeOf facts s) [
+      → cond b None (Some (series_made facts id e)) ≡ Some s → IsMadeOf (Contains facts) s) [
         | true ↦ λ empty is. absurd cc
         | false ↦ λ some is.
-            subst (IsMadeOf facts) (same_Some (series_made facts id e) s is) (made-is id e distinct some)
+            subst (IsMadeOf (Contains facts)) (same_Some (series_made facts id e) s is) (made-is id e distinct some)
       ] refl is
 
   -- a series that is made of the facts has the days that they say, in their order
-  days-are : (s : Usable) → IsDistinct int_eq (keys_of (days_said facts s.id s.element)) → IsMadeOf facts s
+  days-are : (s : Usable) → IsDistinct int_eq (keys_of (days_said facts s.id s.element)) → IsMadeOf (Contains facts) s
       → s.days ≡ sorted_by by_day (days_said facts s.id s.element)
   days-are s distinct made =
       let xs : List DayValue = days_said facts s.id s.element in
@@ -153,7 +155,7 @@ module _ (facts : List Fact) where
       )))
 
   -- so it is the one that is found
-  made-found : (s : Usable) → IsDistinct int_eq (keys_of (days_said facts s.id s.element)) → IsMadeOf facts s
+  made-found : (s : Usable) → IsDistinct int_eq (keys_of (days_said facts s.id s.element)) → IsMadeOf (Contains facts) s
       → if_it_has_days (series_made facts s.id s.element) ≡ Some s
   made-found s distinct made =
       let same : s.days ≡ (series_made facts s.id s.element).days = days-are s distinct made in
@@ -161,11 +163,26 @@ module _ (facts : List Fact) where
       ap (λ (days : List DayValue). if_it_has_days (record { id = s.id; element = s.element; days = days })) (sym same)
       ∙ ap (λ (b : Bool). cond b None (Some s)) some
 
+-- ---- the series of files
+
+-- a series that is made of some facts is made of others, if those of its station and element are the same
+made-moved : (P Q : Fact → Type 0) (s : Usable)
+    → ((day value : ℤ) → P (fact_on s.id s.element day value) ↔ Q (fact_on s.id s.element day value))
+    → IsMadeOf P s → IsMadeOf Q s
+made-moved P Q s same made = record {
+  some = made.some;
+  are = λ day value. (
+    λ h. (same day value).0 ((made.are day value).0 h),
+    λ h. (made.are day value).1 ((same day value).1 h),
+  );
+  by_day = made.by_day;
+}
+
 -- the series of a listed station and an element in what files hold are those that the facts of the files make
-pub series_said : (stations : List Station) (files : List (List ℕ)) (held : Contents)
+pub series_listed : (stations : List Station) (files : List (List ℕ)) (held : Contents)
     → data_of stations files ≡ Ok held → (s : Usable) → is_listed stations s.id ≡ true
-    → (series_of held s.id s.element ≡ Some s) ↔ IsMadeOf (facts_said stations files) s
-series_said stations files held is s listed =
+    → (series_of held s.id s.element ≡ Some s) ↔ IsMadeOf (Contains (facts_said stations files)) s
+series_listed stations files held is s listed =
     let facts : List Fact = facts_said stations files in
     let distinct = said-distinct stations s.id s.element listed files held is in
     let found : series_of held s.id s.element ≡ if_it_has_days (series_made facts s.id s.element) =
@@ -173,4 +190,18 @@ series_said stations files held is s listed =
     ∙ series_found facts s.id s.element stations listed in (
       λ of. made-from facts s s.id s.element distinct (sym found ∙ of),
       λ made. found ∙ made-found facts s distinct made,
+    )
+
+-- and so they are those that the files say
+pub series_said : (stations : List Station) (files : List (List ℕ)) (held : Contents)
+    → data_of stations files ≡ Ok held → (s : Usable) → is_listed stations s.id ≡ true
+    → (series_of held s.id s.element ≡ Some s) ↔ IsMadeOf (IsSaid files) s
+series_said stations files held is s listed =
+    let own = series_listed stations files held is s listed in
+    let said : (day value : ℤ) → Contains (facts_said stations files) (fact_on s.id s.element day value)
+    ↔ IsSaid files (fact_on s.id s.element day value) =
+    λ day value. facts-said stations files held is (fact_on s.id s.element day value) listed in (
+      λ of. made-moved (Contains (facts_said stations files)) (IsSaid files) s said (own.0 of),
+      λ made. own.1 (made-moved (IsSaid files) (Contains (facts_said stations files)) s
+          (λ day value. ((said day value).1, (said day value).0)) made),
     )

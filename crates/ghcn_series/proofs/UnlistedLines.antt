@@ -1,17 +1,26 @@
--- The lines of unlisted stations in files are those in their parts.
-use Rattle.std.proofs.Common.{◌≡◌, ℕ, ◌+◌, cond, List, [], ◌∷◌, ◌++◌, map, refl, sym, ap, ◌∙◌, arith}
-use Rattle.std.specs.Prelude.{not}
-use Rattle.std.specs.List.{count_by, filter_map, flat_map, sum}
+-- The lines of unlisted stations in files are those in their parts, and those that name an element and no listed station.
+use Rattle.std.proofs.Common.{◌≡◌, ℕ, ◌+◌, Bool, true, false, cond, List, [], ◌∷◌, ◌++◌, map, Option, None, Some, refl}
+use Rattle.std.proofs.Common.{sym, ap, ◌∙◌, arith}
+use Rattle.std.specs.Prelude.{◌&&◌, ◌||◌, ◌-◌, ◌^◌, min, not}
+use Rattle.std.specs.List.{cons_option, count_by, filter_map, find, flat_map, list_any, sum}
+use Rattle.std.specs.Option.{option_map, option_map_or}
 use Rattle.std.proofs.lemmas.Grind.{flat_map-append}
 use Rattle.std.proofs.lemmas.List.Elements.{filter_map-append}
+use Rattle.std.proofs.lemmas.List.Recursion.{is_count_by}
 use Rattle.std.proofs.lemmas.List.Sums.{sum_by-append, sum_by-cons}
-use Rattle.ghcn_fields.specs.Lines.{lines}
+use Rattle.ghcn_fields.specs.Bytes.{same_bytes}
+use Rattle.ghcn_fields.specs.Lines.{columns, lines}
+use Rattle.ghcn_files.specs.declared.element.Element.{Element}
 use Rattle.ghcn_files.specs.declared.month.Month.{Month}
 use Rattle.ghcn_files.specs.declared.station.Station.{Station}
+use Rattle.ghcn_files.specs.Elements.{code_of, elements}
+use Rattle.ghcn_files.specs.Months.{month_of}
+use Rattle.ghcn_files.specs.StationLines.{id_of}
 use Rattle.ghcn_series.specs.DailyFaults.{is_listed}
 use Rattle.ghcn_series.specs.JoinedFiles.{files_together}
 use Rattle.ghcn_series.specs.Laws.{UnlistedAddUp}
-use Rattle.ghcn_series.specs.Said.{month_said, months_said, unlisted_said}
+use Rattle.ghcn_series.specs.Said.{is_unlisted}
+use Rattle.ghcn_series.specs.SaidLists.{month_said, months_said, unlisted_said}
 use Rattle.ghcn_series.specs.Says.{in_64_bits}
 
 -- the months of files, and of others after them
@@ -45,3 +54,54 @@ unlisted-add-up stations (p ∷ ps) =
     ∙ in_bits (unlisted_in stations p) (unlisted_in stations (files_together ps)) (sum all)
     (unlisted-add-up stations ps)
     ∙ ap in_64_bits (sym (sum_by-cons (λ (n : ℕ). n) (unlisted_said stations p) all))
+
+-- ---- by their columns
+
+-- what is made of the first that passes passes a test that all of that pass alike, if one passes and they do
+found_any : {X Y : Type 0} (test : X → Bool) (make : X → Y) (p : Y → Bool) (b : Bool) → ((x : X) → p (make x) ≡ b)
+    → (xs : List X) → option_map_or p (option_map make (find test xs)) false ≡ (list_any test xs && b)
+found_any test make p b alike [] = refl
+found_any test make p b alike (x ∷ xs) =
+    elim (test x) as (λ t. option_map_or p (option_map make (cond t (Some x) (find test xs))) false
+    ≡ ((t || list_any test xs) && b)) [
+      | true ↦ alike x
+      | false ↦ found_any test make p b alike xs
+    ]
+
+-- one more is counted if it passes
+one_more : (t : Bool) (n : ℕ) → cond t 1 0 + n ≡ cond t (1 + n) n
+one_more true n = omega arith
+one_more false n = omega arith
+
+module _ {X Y : Type 0} (make : X → Option Y) (p : Y → Bool) (q : X → Bool)
+    (same : (x : X) → option_map_or p (make x) false ≡ q x) where
+  -- with one thing more
+  count_more : (x : X) (xs : List X) → count_by p (filter_map make (x ∷ xs))
+      ≡ cond (q x) (1 + count_by p (filter_map make xs)) (count_by p (filter_map make xs))
+  count_more x xs =
+      let n : ℕ = count_by p (filter_map make xs) in
+      elim (make x) as (λ o. option_map_or p o false ≡ q x → count_by p (cons_option o (filter_map make xs))
+      ≡ cond (q x) (1 + n) n) [
+        | None ↦ λ e. ap (λ (b : Bool). cond b (1 + n) n) e
+        | Some y ↦ λ e.
+            sum_by-cons (λ (z : Y). cond (p z) 1 0) y (filter_map make xs) ∙ one_more (p y) n
+            ∙ ap (λ (b : Bool). cond b (1 + n) n) e
+      ] (same x)
+
+  -- of what is made of things, as many pass as of the things
+  count_made : (xs : List X) → count_by p (filter_map make xs) ≡ count_by q xs
+  count_made = is_count_by (λ (xs : List X). count_by p (filter_map make xs)) q refl count_more
+
+-- a line says a month of an unlisted station if it names an element and no listed station
+unlisted_line : (stations : List Station) (line : List ℕ)
+    → option_map_or (λ m. not (is_listed stations m.id)) (month_said line) false ≡ is_unlisted stations line
+unlisted_line stations line =
+    found_any (λ (e : Element). same_bytes (code_of e) (columns 18 21 line)) (λ (e : Element). month_of e line)
+    (λ (m : Month). not (is_listed stations m.id)) (not (is_listed stations (id_of line))) (λ e. refl) elements
+
+-- so many lines are of unlisted stations
+pub unlisted-said : (stations : List Station) (files : List (List ℕ))
+    → unlisted_said stations files ≡ min (count_by (is_unlisted stations) (flat_map lines files)) (2 ^ 64 - 1)
+unlisted-said stations files =
+    ap in_64_bits (count_made month_said (λ (m : Month). not (is_listed stations m.id)) (is_unlisted stations)
+    (unlisted_line stations) (flat_map lines files))

@@ -47,8 +47,8 @@ pub record JoinsForeign (these others : Foreign) (place : ℕ) (both : Foreign) 
   pub count : both.count ≡ these.count + others.count
   pub first : both.first ≡ option_or these.first (option_map (λ n. n + place) others.first)
 
--- the place of a line of files that come after that many more, the first of them after that many lines more of the same
--- file
+-- the place of a line in all files, if that many files were ended before its own files, and the first of these goes on
+-- after that many lines
 abbrev pub placed_after : ℕ → ℕ → LinePlace → LinePlace
 placed_after files lines place = record {
   file = place.file + files;
@@ -61,14 +61,14 @@ pub record JoinsOdd (these others : OddLines) (files lines : ℕ) (both : OddLin
   pub first : both.first ≡ option_or these.first (option_map (placed_after files lines) others.first)
 
 -- what was counted of two is what is counted of both together, if the first of the other files goes on after whole lines
--- of the current one, and no part of it is foreign by itself
+-- of the current one, and it isn't cut at a foreign part
 pub record JoinsCounts (these others both : LineCounts) (place line : ℕ) (ends : Bool) : Type 0 where
   pub holds : (files more : Files) → EndsLine files.current → cuts_foreign files.current more.ended ≡ false
       → place ≡ length files.ended → line ≡ length (lines files.current) → ends ≡ nat_lt 0 (length more.ended)
       → HaveCounted these files.ended files.current → HaveCounted others more.ended more.current
       → HaveCounted both (followed_by files more).ended (followed_by files more).current
 
--- a part of the current file of some counts is foreign by itself, if the files of others go on with it, or none is
+-- whether the current file of some counts is cut at a foreign part, if the files of other counts go on with it
 pub record CutsForeign (these others : LineCounts) (cuts : Bool) : Type 0 where
   pub is : (files more : Files) → HaveCounted these files.ended files.current
       → HaveCounted others more.ended more.current → cuts ≡ cuts_foreign files.current more.ended

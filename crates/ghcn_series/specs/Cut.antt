@@ -106,7 +106,7 @@ pub record StayApart {L : Type 0} (has_read : Reading L) (first next : Cutter L)
       ⊎ (cuts_foreign fed.files.current files.ended ≡ true)
 
 -- a next cutter can go on with the files of a first one, or both stay apart: both have looked at their lines, the first
--- one is at the end of a line, and no part of the file that goes on is foreign by itself
+-- one is at the end of a line, and the file that goes on isn't cut at a foreign part
 abbrev pub GoOn : {L : Type 0} → Reading L → Cutter L → Cutter L → Bool → Type 0
 GoOn has_read first next true = LooksAtLines first true × LooksAtLines next true × (first.rest.items ≡ [])
     × CutsForeign first.counts next.counts false

@@ -1,12 +1,15 @@
 -- What is true of all that files without an error hold, as statements for the contracts of public functions.
-use Rattle.std.specs.Prelude.{◌≡◌, ℕ, List, Ok, map}
-use Rattle.std.specs.List.{sum}
+use Rattle.std.specs.Prelude.{◌≡◌, ◌↔◌, ℕ, ◌-◌, ◌^◌, min, true, List, Some, Ok, map}
+use Rattle.std.specs.List.{count_by, flat_map, sum}
+use Rattle.ghcn_fields.specs.Lines.{lines}
 use Rattle.ghcn_files.specs.declared.station.Station.{Station}
 use Rattle.ghcn_files.specs.Listed.{listed, AreListed}
-use Rattle.ghcn_series.specs.Series.{Contents}
+use Rattle.ghcn_series.specs.DailyFaults.{is_listed}
+use Rattle.ghcn_series.specs.Series.{Contents, Usable, series_of}
 use Rattle.ghcn_series.specs.Held.{IsContents}
 use Rattle.ghcn_series.specs.JoinedFiles.{files_together}
-use Rattle.ghcn_series.specs.Said.{unlisted_said}
+use Rattle.ghcn_series.specs.Said.{IsMadeOf, IsSaid, SaysStations, is_unlisted}
+use Rattle.ghcn_series.specs.SaidLists.{unlisted_said}
 use Rattle.ghcn_series.specs.Says.{data_of, in_64_bits}
 
 -- what is true of every list of stations is true of a station list without an error
@@ -17,6 +20,22 @@ ListsAreRight = (text : List ℕ) (stations : List Station) → listed text ≡ 
 abbrev pub DataAreRight : Type 0
 DataAreRight = (text : List ℕ) (stations : List Station) (files : List (List ℕ)) (held : Contents)
     → listed text ≡ Ok stations → data_of stations files ≡ Ok held → IsContents held
+
+-- a list without an error says the stations that are read of it, in this order, and no others
+abbrev pub StationsAreSaid : Type 0
+StationsAreSaid = (text : List ℕ) (stations : List Station) → listed text ≡ Ok stations → (others : List Station)
+    → SaysStations text others ↔ (others ≡ stations)
+
+-- of a listed station, the series that files without an error hold are those that are made of the facts that they say
+abbrev pub SeriesAreSaid : Type 0
+SeriesAreSaid = (stations : List Station) (files : List (List ℕ)) (held : Contents) → data_of stations files ≡ Ok held
+    → (s : Usable) → is_listed stations s.id ≡ true
+    → (series_of held s.id s.element ≡ Some s) ↔ IsMadeOf (IsSaid files) s
+
+-- so many of their lines are of unlisted stations, up to 2^64 - 1
+abbrev pub UnlistedAreSaid : Type 0
+UnlistedAreSaid = (stations : List Station) (files : List (List ℕ)) (held : Contents) → data_of stations files ≡ Ok held
+    → held.unlisted ≡ min (count_by (is_unlisted stations) (flat_map lines files)) (2 ^ 64 - 1)
 
 -- the numbers of lines of unlisted stations in the parts of some files add up to that in all of them, up to 2^64 - 1
 abbrev pub UnlistedAddUp : Type 0

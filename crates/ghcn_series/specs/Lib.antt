@@ -16,5 +16,6 @@ pub mod Packed
 pub mod Parts
 pub mod JoinedFiles
 pub mod Said
+pub mod SaidLists
 pub mod FaultTexts
 pub mod Laws

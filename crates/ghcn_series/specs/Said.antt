@@ -1,53 +1,72 @@
--- What a station list and daily files say, defined for any lines. What they say of a line with an error, for example
--- that a bad number counts as 0 or as missing, doesn't matter here: that no line has one is a separate promise.
-use Rattle.std.specs.Prelude.{◌↔◌, ◌<◌, ℕ, not, List, length, map, filter, Option, ℤ}
-use Rattle.std.specs.List.{Contains, filter_map, flat_map, count_by}
+-- What the lines of a station list and of daily files say: which numbers their fields have, and not how these are read.
+use Rattle.std.specs.Prelude.{◌≡◌, ◌≢◌, ◌↔◌, ◌⊎◌, ◌<◌, ◌≤ℤ◌, ℕ, ◌+◌, ◌*◌, Bool, true, not, ◌&&◌, List, length, map, filter}
+use Rattle.std.specs.Prelude.{Some, ℤ, pos, neg_ℤ}
+use Rattle.std.specs.List.{AllZip, Contains, flat_map, list_any}
 use Rattle.std.specs.List.Sorted.{IsStrictlySortedBy}
-use Rattle.std.specs.Option.{option_map}
 use Rattle.std.specs.Ordering.{int_cmp}
-use Rattle.ghcn_fields.specs.Bytes.{is_blank}
+use Rattle.ghcn_fields.specs.Bytes.{is_blank, same_bytes}
+use Rattle.ghcn_fields.specs.Dates.{civil}
+use Rattle.ghcn_fields.specs.Days.{is_day}
+use Rattle.ghcn_fields.specs.Fields.{HasNumber}
 use Rattle.ghcn_fields.specs.Lines.{columns, lines}
-use Rattle.ghcn_files.specs.declared.month.Month.{Month}
 use Rattle.ghcn_files.specs.declared.station.Station.{Station}
-use Rattle.ghcn_files.specs.Elements.{element_of}
-use Rattle.ghcn_files.specs.Months.{month_of}
-use Rattle.ghcn_files.specs.StationLines.{station_of}
-use Rattle.ghcn_series.specs.DailyFaults.{is_listed}
-use Rattle.ghcn_series.specs.Says.{Fact, facts_of, is_usable, all_series, in_64_bits}
-use Rattle.ghcn_series.specs.Series.{Usable, Contents}
+use Rattle.ghcn_files.specs.Elements.{code_of, elements, may_be_negative}
+use Rattle.ghcn_files.specs.StationLines.{printable}
+use Rattle.ghcn_series.specs.Says.{Fact}
+use Rattle.ghcn_series.specs.Series.{Usable}
 
--- the stations of a list, in its order: one for each line that isn't blank
-abbrev pub stations_said : List ℕ → List Station
-stations_said text = map station_of (filter (λ l. not (is_blank l)) (lines text))
+-- ---- the station list
 
--- the month of a line of daily files, if the line has the code of one of the five elements
-abbrev pub month_said : List ℕ → Option Month
-month_said line = option_map (λ e. month_of e line) (element_of (columns 18 21 line))
+-- a line of the station list says a station. Latitude and longitude are in ten-thousandths of a degree, and the elevation
+-- is in tenths of a metre. There is none if the field has no number, or has -9999, which stands for a missing one.
+pub record SaysStation (line : List ℕ) (s : Station) : Type 0 where
+  pub id : s.id.0 ≡ columns 1 11 line
+  pub latitude : HasNumber 4 (columns 13 20 line) s.latitude
+  pub longitude : HasNumber 4 (columns 22 30 line) s.longitude
+  pub elevation : (v : ℤ) → (s.elevation ≡ Some v)
+      ↔ (HasNumber 1 (columns 32 37 line) v × (v ≢ neg_ℤ (pos 9999)))
+  pub state : s.state ≡ map printable (columns 39 40 line)
+  pub name : s.name ≡ map printable (columns 42 71 line)
 
--- the months of daily files, by file and line
-abbrev pub months_said : List (List ℕ) → List Month
-months_said files = filter_map month_said (flat_map lines files)
+-- a list says these stations, in its order: one on each line that isn't blank
+abbrev pub SaysStations : List ℕ → List Station → Type 0
+SaysStations text stations = AllZip SaysStation (filter (λ l. not (is_blank l)) (lines text)) stations
 
--- the facts of daily files that count, if these stations are listed
-abbrev pub facts_said : List Station → List (List ℕ) → List Fact
-facts_said stations files = filter (is_usable stations) (flat_map facts_of (months_said files))
+-- ---- daily files
 
--- how many lines of the five elements belong to stations that aren't listed, up to 2^64 - 1
-abbrev pub unlisted_said : List Station → List (List ℕ) → ℕ
-unlisted_said stations files = in_64_bits (count_by (λ m. not (is_listed stations m.id)) (months_said files))
+-- a line of a daily file says a fact: of its station and element, on a day of its year and month. In the group of columns
+-- of that day, the value is a number other than -9999, which stands for a missing one, and the quality flag is a blank.
+pub record SaysFact (line : List ℕ) (f : Fact) : Type 0 where
+  pub id : f.id.0 ≡ columns 1 11 line
+  pub element : code_of f.element ≡ columns 18 21 line
+  pub in_calendar : is_day f.day ≡ true
+  pub date : ℕ × ℕ × ℕ
+  pub of_day : civil f.day ≡ date
+  pub year : HasNumber 0 (columns 12 15 line) (pos date.0)
+  pub month : HasNumber 0 (columns 16 17 line) (pos date.1)
+  pub value : HasNumber 0 (columns (14 + 8 * date.2) (18 + 8 * date.2) line) f.value
+  pub there : f.value ≢ neg_ℤ (pos 9999)
+  pub unflagged : is_blank (columns (20 + 8 * date.2) (20 + 8 * date.2) line) ≡ true
+
+-- daily files say a fact that counts: a line of them says it, and it isn't negative if its element has no negative values
+pub record IsSaid (files : List (List ℕ)) (f : Fact) : Type 0 where
+  pub line : List ℕ
+  pub among : Contains (flat_map lines files) line
+  pub says : SaysFact line f
+  pub counts : (may_be_negative f.element ≡ true) ⊎ (pos 0 ≤ℤ f.value)
+
+-- a line of a daily file has the code of one of the five elements, but the ID of none of these stations
+abbrev pub is_unlisted : List Station → List ℕ → Bool
+is_unlisted stations line =
+    list_any (λ e. same_bytes (code_of e) (columns 18 21 line)) elements
+    && not (list_any (λ s. same_bytes s.id.0 (columns 1 11 line)) stations)
+
+-- ---- series
 
 -- a series is made of facts: it has a day, its days and values are those of the facts of its station and element, in
 -- order of day, each day once
-pub record IsMadeOf (facts : List Fact) (s : Usable) : Type 0 where
+pub record IsMadeOf (IsFact : Fact → Type 0) (s : Usable) : Type 0 where
   pub some : 0 < length s.days
   pub are : (day value : ℤ) → Contains s.days (day, value)
-      ↔ Contains facts (record { id = s.id; element = s.element; day = day; value = value })
+      ↔ IsFact (record { id = s.id; element = s.element; day = day; value = value })
   pub by_day : IsStrictlySortedBy int_cmp (map (λ x. x.0) s.days)
-
--- what daily files say of stations, and how many months of other stations
-abbrev pub said_by : List Station → List (List ℕ) → Contents
-said_by stations files = record {
-  stations = stations;
-  series = all_series stations (facts_said stations files);
-  unlisted = unlisted_said stations files;
-}

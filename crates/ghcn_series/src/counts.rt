@@ -225,8 +225,8 @@ impl LineCounts {
         })
     }
 
-    /// Whether the current file, if the first of other files goes on with it, has a part that is foreign by itself. It
-    /// isn't known then whether the whole file is foreign.
+    /// Whether the lines of the current file so far are foreign by themselves, or aren't all blank and the part that
+    /// ends it is foreign by itself. Then it may be unknown whether the file is foreign.
     pub(crate) fn cuts_foreign(&self, next: &Self) -> bool
         ensures { CutsForeign self.now next.now result }
     {
@@ -249,8 +249,7 @@ pub(crate) fn lines_if(passes: bool, lines: u64) -> u64
     if passes { lines } else { 0 }
 }
 
-/// Whether a test that passed in a file, or passed in the part that came last, passes in the current file: the first
-/// one counts if the file goes on.
+/// Whether the current file passes a test: its last part does, or what came before, if the file goes on.
 pub(crate) fn goes_on(before: bool, last: bool, ended: bool) -> bool
     ensures { result ≡ (last || (before && not ended)) }
 {

@@ -12,6 +12,15 @@ pub fn data_are_right()
     ensures held { laws.DataAreRight }
 {}
 
+/// If a station list has no error, its lines say the stations that are read of it, and no others. If
+/// the daily files have none either, the series of these stations are made of the facts that the lines
+/// of the files say, and so many of these are of other stations.
+pub fn data_are_said()
+    ensures stations { laws.StationsAreSaid }
+    ensures series { laws.SeriesAreSaid }
+    ensures unlisted { laws.UnlistedAreSaid }
+{}
+
 /// The number of lines of unlisted stations in files is the sum over the parts that the files are
 /// cut into.
 pub fn unlisted_add_up()

@@ -26,7 +26,7 @@ pub use cutter::{Cutter, JoinLines, LineReader};
 pub use data::Data;
 pub use days::{BlockDays, Days};
 pub use fault::{DailyWhy, DataFault};
-pub use laws::{data_are_right, unlisted_add_up};
+pub use laws::{data_are_right, data_are_said, unlisted_add_up};
 pub use reader::Reader;
 pub use rows::RowReader;
 pub use series::Series;

@@ -19,7 +19,7 @@ use Rattle.rank_papers.specs.ReportLines.{Reported, IsReportOf, read_report, Say
 use Rattle.rank_papers.specs.Certificate.{Certified, Entry, title_line, certificate_text, kth_line, counted, entry_line}
 use Rattle.rank_papers.specs.Certificate.{end_line}
 use Rattle.rank_papers.specs.Certificate.{IsCount, AreCounts, IsCertificate, IsCertificateOf, IsRightEntry, count_of}
-use Rattle.rank_papers.specs.Certificate.{counts_of, SaysRight}
+use Rattle.rank_papers.specs.Certificate.{counts_of, SaysRightCertificate}
 use Rattle.rank_papers.specs.CertificateLines.{read_certificate}
 use Rattle.rank_papers.specs.Laws.{CertificatesAreRead, RightCertificatesSayRight, ReportsAreRead, RightReportsSayRight}
 use Rattle.rank_head.specs.HeadTests.{of_rows, same_query, same_score}
@@ -125,7 +125,7 @@ module _ (q : Asked) (c : Contents) (asked : IsAsked q) (right : IsContents c) (
 
   -- a certificate whose tests pass beside the best rows says what is right
   certificate_right : (bytes : List ℕ) (rows : List Candidate) (z : Certified) → rows ≡ best_of_query q c
-      → IsCertificateOf z bytes → AllByRecursion Passes (certificate_tests q c rows z) → SaysRight q c z
+      → IsCertificateOf z bytes → AllByRecursion Passes (certificate_tests q c rows z) → SaysRightCertificate q c z
   certificate_right bytes rows z best is h =
       let kth : z.kth ≡ kth_of_query q c = score_from z.kth (kth_of_query q c) h.1.0 in
       let parts = each-parts Passes (tests_of_lines rows z) _ h.1.1 in
@@ -138,7 +138,7 @@ module _ (q : Asked) (c : Contents) (asked : IsAsked q) (right : IsContents c) (
       }
 
   -- and the tests of one that says so pass
-  certificate_passes : (rows : List Candidate) (z : Certified) → rows ≡ best_of_query q c → SaysRight q c z
+  certificate_passes : (rows : List Candidate) (z : Certified) → rows ≡ best_of_query q c → SaysRightCertificate q c z
       → AllByRecursion Passes (certificate_tests q c rows z)
   certificate_passes rows z best says =
       let pass = right_pass q c z.kth rows z.counts z.entries

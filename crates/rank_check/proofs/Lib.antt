@@ -1,6 +1,7 @@
 pub mod Each
 pub mod SortedCandidates
 pub mod Examples
+pub mod PieceExamples
 pub mod GroupExamples
 pub mod Accepted
 pub mod RightRows
@@ -9,6 +10,7 @@ pub mod AcceptedWhereRight
 pub mod Surveying
 pub mod Places
 pub mod Marks
+pub mod MarkCounts
 pub mod SortedTops
 pub mod Failing
 pub mod Judging
@@ -21,4 +23,6 @@ pub mod QueryMembers
 pub mod RowsWithin
 pub mod RisingIds
 pub mod PiecesSay
+pub mod StationRows
 pub mod SaidInPieces
+pub mod EntryLists

@@ -1,5 +1,5 @@
 -- If all pieces are right, the report and the certificate say what is right.
-use Rattle.std.proofs.Common.{◌≡◌, ◌⊎◌, inl, inr, ℕ, zero, suc, ◌+◌, ◌-◌, ◌≤◌, ◌<◌, Bool, true, false, cond, not, List}
+use Rattle.std.proofs.Common.{◌≡◌, ◌⊎◌, inl, inr, ℕ, zero, suc, ◌-◌, ◌≤◌, ◌<◌, Bool, true, false, cond, not, List}
 use Rattle.std.proofs.Common.{[]}
 use Rattle.std.proofs.Common.{◌∷◌, length, map, take, filter, Option, Some, None, refl, sym, ap, ◌∙◌, subst, arith}
 use Rattle.std.proofs.Common.{◌||◌}
@@ -11,7 +11,6 @@ use Rattle.std.specs.Cmp.Lexicographic.{bytes_decides}
 use Rattle.std.proofs.lemmas.Bool.{and_parts, eqb-true, leb-true}
 use Rattle.std.proofs.lemmas.List.{length-map}
 use Rattle.std.proofs.lemmas.List.Sorted.{IsPermutation-sym}
-use Rattle.std.proofs.lemmas.List.Sums.{sum_by-cons}
 use Rattle.ghcn_fields.specs.Bytes.{same_bytes}
 use Rattle.ghcn_files.specs.declared.station.Station.{Station}
 use Rattle.ghcn_files.specs.declared.station.StationId.{StationId}
@@ -28,7 +27,8 @@ use Rattle.rank_scores.specs.Morsels.{all_candidates, morsels, best_of_query, kt
 use Rattle.rank_scores.proofs.Ranks.{Descends}
 use Rattle.rank_papers.specs.Report.{Named, trimmed}
 use Rattle.rank_papers.specs.ReportLines.{Reported, IsReported, SaysRightReport, name_of}
-use Rattle.rank_papers.specs.Certificate.{Entry, Certified, IsCertified, IsEntry, IsCount, IsRightEntry, SaysRight}
+use Rattle.rank_papers.specs.Certificate.{Entry, Certified, IsCertified, IsEntry, IsCount, IsRightEntry}
+use Rattle.rank_papers.specs.Certificate.{SaysRightCertificate}
 use Rattle.rank_papers.specs.Certificate.{count_of, counts_of, kth_of_best}
 use Rattle.rank_head.specs.HeadTests.{of_rows, IdsRise, is_scanned}
 use Rattle.rank_check.specs.Tests.{is_one_of}
@@ -45,26 +45,10 @@ use Rattle.rank_check.proofs.QueryMembers.{permuted_in, own_id, station_of, mors
 use Rattle.rank_check.proofs.QueryMembers.{is_morsel_of, candidate_in, in_candidates}
 use Rattle.rank_check.proofs.RightLines.{above_from, below_from}
 use Rattle.rank_check.proofs.RisingIds.{ids_of, same_ids, rise_ids, morsel_ids}
-use Rattle.rank_check.proofs.RowsWithin.{rows_in_order, order_descends, kept_descends, within_front, first_within, same_rows}
+use Rattle.rank_check.proofs.RowsWithin.{rows_in_order, order_descends, kept_descends, within_front, first_within}
+use Rattle.rank_check.proofs.RowsWithin.{same_rows}
 use Rattle.rank_check.proofs.SortedCandidates.{in_order, ordered-permutation, ordered-descends, best_first}
-
--- the candidate of a row that is there is there
-pub row_in : (rows : List Named) (d : Candidate) → In (of_rows rows) d → (row : Named) × In rows row × (row.0 ≡ d)
-row_in rows d h = map_in (λ (r : Named). r.0) rows d h
-
--- how many rows belong to a station
-pub rows_counted : (id : StationId) (rows : List Named)
-    → length (rows_with id rows) ≡ count_by (λ c. same_id c.id id) (of_rows rows)
-rows_counted id [] = refl
-rows_counted id (row ∷ rows) =
-    let test : Candidate → ℕ = λ c. cond (same_id c.id id) 1 0 in
-    by (same_id row.0.id id) (rows_counted id rows) ∙ sym (sum_by-cons test row.0 (of_rows rows))
-  where
-    by : (b : Bool) → length (rows_with id rows) ≡ count_by (λ c. same_id c.id id) (of_rows rows)
-        → length (cond b (row ∷ rows_with id rows) (rows_with id rows))
-        ≡ cond b 1 0 + count_by (λ c. same_id c.id id) (of_rows rows)
-    by true e = omega (arith, e)
-    by false e = omega (arith, e)
+use Rattle.rank_check.proofs.StationRows.{row_in, rows_counted}
 
 module _ (q : Asked) (c : Contents) (right : IsContents c) (rows : List Named) where
   -- the last row, if there are as many as were asked for
@@ -331,7 +315,7 @@ counts_two z is e = by is.counts
 -- so a report and a certificate whose pieces are right say what is right
 pub pieces_say : (q : Asked) (c : Contents) (r : Reported) (z : Certified) → IsAsked q → IsContents c
     → AreApart (all_candidates q c) → IsReported r → IsCertified z → z.version ≡ 2 → AreRightPieces q c r z
-    → SaysRightReport q c r × SaysRight q c z
+    → SaysRightReport q c r × SaysRightCertificate q c z
 pieces_say q c r z asked right apart can is version h =
     let rows : List Named = r.rows in
     let es : List Entry = z.entries in

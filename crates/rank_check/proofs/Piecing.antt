@@ -11,7 +11,7 @@ use Rattle.ghcn_files.specs.declared.station.Station.{Station}
 use Rattle.ghcn_files.specs.declared.station.StationId.{StationId}
 use Rattle.ghcn_files.specs.Ids.{same_id}
 use Rattle.ghcn_files.proofs.IdLaws.{same_id-is, same_id-laws}
-use Rattle.ghcn_files.proofs.Ordered.{each-weaker}
+use Rattle.ghcn_files.proofs.Among.{each-weaker}
 use Rattle.ghcn_series.specs.Series.{Usable}
 use Rattle.ghcn_series.proofs.Members.{contains-in, in-contains, of_each, itself}
 use Rattle.rank_query.specs.Asked.{Asked}

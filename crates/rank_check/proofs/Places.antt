@@ -16,7 +16,7 @@ use Rattle.rank_scores.proofs.Listing.{full_cmp_total}
 use Rattle.rank_scores.proofs.Ranks.{rank_cmp_total}
 use Rattle.rank_check.specs.declared.tally.Mark.{Mark}
 use Rattle.rank_check.specs.Marks.{candidates_at, unmet}
-use Rattle.rank_check.specs.Marks.{IsPlace, precedes_first, AreInOrder}
+use Rattle.rank_check.specs.Marks.{IsPlace, precedes_first, AreMarksInOrder}
 
 -- ---- the order of candidates
 
@@ -86,7 +86,7 @@ at-mark marks i c = get_or-map (λ m. m.candidate) marks i (unmet c)
 -- ---- places
 
 -- the marks that a candidate doesn't precede come before the others
-pub parted : (marks : List Mark) → AreInOrder marks → (d : Candidate)
+pub parted : (marks : List Mark) → AreMarksInOrder marks → (d : Candidate)
     → IsPartitionedBy (λ m. not (precedes d m.candidate)) marks
 parted marks up d i j m le lt e =
     let a : Candidate = (get_or marks i m).candidate in
@@ -127,7 +127,7 @@ place-found marks d p bound point = (
 )
 
 -- a candidate that precedes the first mark precedes all
-pub place-first : (marks : List Mark) → AreInOrder marks → (d : Candidate) → precedes_first d marks ≡ true
+pub place-first : (marks : List Mark) → AreMarksInOrder marks → (d : Candidate) → precedes_first d marks ≡ true
     → IsPlace (candidates_at marks) d 0
 place-first [] up d e = absurd cc
 place-first (m ∷ marks) up d e = (

@@ -3,6 +3,7 @@ use Rattle.std.proofs.Common.{◌≡◌, true, List, [], ◌∷◌, map}
 use Rattle.std.specs.Cmp.{IsStrictWeakOrder}
 use Rattle.ghcn_files.specs.declared.station.StationId.{StationId}
 use Rattle.ghcn_files.proofs.IdOrder.{strictly_ranks}
+use Rattle.ghcn_files.proofs.Among as among
 use Rattle.ghcn_files.proofs.Ordered as ordered
 use Rattle.ghcn_series.specs.Series.{Usable, Contents}
 use Rattle.ghcn_series.specs.Held.{IsContents}
@@ -41,7 +42,7 @@ rise_ids [] h = tt
 rise_ids (e ∷ []) h = (tt, tt)
 rise_ids (e ∷ f ∷ es) h =
     let rest = rise_ids (f ∷ es) h.1 in
-    let more = ordered.each-weaker (IsBefore f.id) (IsBefore e.id) (ids_of es)
+    let more = among.each-weaker (IsBefore f.id) (IsBefore e.id) (ids_of es)
     (λ i g. ordered.before_on stands_before ranks e.id f.id i h.0 g) rest.0 in
     ((h.0, more), rest)
 

@@ -1,14 +1,13 @@
 -- If a report and a certificate say what is right, all their pieces are right.
 use Rattle.std.proofs.Common.{◌≡◌, inl, ℕ, suc, ◌-◌, ◌≤◌, Bool, true, false, cond, not, List, []}
-use Rattle.std.proofs.Common.{◌∷◌, length, map, take, filter, Option, Some, None, refl, sym, ap, ◌∙◌, subst, arith}
+use Rattle.std.proofs.Common.{◌∷◌, length, map, take, filter, Option, Some, refl, sym, ap, ◌∙◌, subst, arith}
 use Rattle.std.proofs.Common.{◌||◌}
 use Rattle.std.proofs.Common.{ℤ, ◌≤ℤ◌, eq-eqb, Ok}
-use Rattle.std.specs.Prelude.{slice_get, nat_le, ◌&&◌, int_lt}
+use Rattle.std.specs.Prelude.{slice_get, nat_le, ◌&&◌}
 use Rattle.std.specs.List.{find, list_any, count_by, AllByRecursion, AllZip}
 use Rattle.std.specs.Option.{option_map}
 use Rattle.std.specs.Cmp.Lexicographic.{bytes_decides}
 use Rattle.std.proofs.lemmas.Bool.{and_parts, leb-true}
-use Rattle.std.proofs.lemmas.Int.{ints}
 use Rattle.std.proofs.lemmas.List.Sorted.{IsPermutation-sym}
 use Rattle.std.proofs.lemmas.Option.{slice_get-map}
 use Rattle.ghcn_fields.specs.Bytes.{same_bytes}
@@ -30,7 +29,8 @@ use Rattle.rank_papers.specs.CertificateLines.{read_certificate}
 use Rattle.rank_papers.specs.Laws.{CertificatesAreRead, RightCertificatesSayRight, ReportsAreRead, RightReportsSayRight}
 use Rattle.rank_head.specs.HeadTests.{of_rows, is_scanned}
 use Rattle.rank_check.specs.Laws.{AcceptedWhereRight}
-use Rattle.rank_papers.specs.Certificate.{Entry, Certified, IsRightEntry, SaysRight, count_of, counts_of, kth_of_best}
+use Rattle.rank_papers.specs.Certificate.{Entry, Certified, IsRightEntry, SaysRightCertificate, count_of, counts_of}
+use Rattle.rank_papers.specs.Certificate.{kth_of_best}
 use Rattle.rank_check.specs.Tests.{is_one_of}
 use Rattle.rank_check.specs.Pieces.{is_morsel, is_within_worst, score_of, is_row_of, piece_tests}
 use Rattle.rank_check.specs.InPieces.{rows_with, worst_of, own_series, IsAccepted, IsAbsent, AreRightPieces}
@@ -41,37 +41,15 @@ use Rattle.rank_check.proofs.KthScores.{kth-best, last_taken}
 use Rattle.ghcn_series.proofs.Members.{In, of_one, for_each, in_any, kept_in, in_kept, in_map}
 use Rattle.rank_check.proofs.Members.{in_among, zip_in}
 use Rattle.rank_check.proofs.Piecing.{none_failing, all_passes, or_made}
-use Rattle.rank_check.proofs.PiecesSay.{row_in, rows_counted, pieces_say}
+use Rattle.rank_check.proofs.PiecesSay.{pieces_say}
+use Rattle.rank_check.proofs.StationRows.{row_in, rows_counted}
 use Rattle.rank_check.proofs.QueryMembers.{permuted_in, own_id, listed_found, station_of, morsel_of, is_morsel_of}
 use Rattle.rank_check.proofs.QueryMembers.{one_morsel, candidate_in, in_candidates, candidate_id}
 use Rattle.rank_check.proofs.RightLines.{above_to, below_to}
 use Rattle.rank_check.proofs.RisingIds.{ids_of, RiseAll, ids_rise, morsel_ids}
-use Rattle.rank_check.proofs.RowsWithin.{order_rows, kept_descends, descends_order, first_within, within_score}
+use Rattle.rank_check.proofs.RowsWithin.{order_rows, kept_descends, descends_order, first_within}
 use Rattle.rank_check.proofs.SortedCandidates.{in_order, ordered-permutation, ordered-descends, best_first}
-
--- ---- two lists, one by one
-
--- the IDs of entries that name series are theirs
-named_ids : (q : Asked) (kth : Option ℤ) (es : List Entry) (ms : List Usable) → AllZip (IsRightEntry q kth) es ms
-    → ids_of es ≡ map (λ (s : Usable). s.id) ms
-named_ids q kth [] [] h = refl
-named_ids q kth [] (m ∷ ms) h = absurd h
-named_ids q kth (e ∷ es) [] h = absurd h
-named_ids q kth (e ∷ es) (m ∷ ms) h =
-    ap (λ (i : StationId). i ∷ ids_of es) h.0.named
-    ∙ ap (λ (l : List StationId). m.id ∷ l) (named_ids q kth es ms h.1)
-
--- ---- scores
-
--- a number below another isn't at least it
-not_both : (a b c : ℤ) → int_lt b a ≡ true → a ≤ℤ c → c ≤ℤ b → ⊥
-not_both a b c e f g = grind (arith, ints)
-
--- nothing that is within has a score of at most a bound below the k-th score
-below_out : (worst : Option Candidate) (bound : ℤ) (d : Candidate) → bound_is_below (score_of worst) bound ≡ true
-    → is_within_worst worst d ≡ true → d.score ≤ℤ bound → ⊥
-below_out None bound d e w h = cc
-below_out (Some w) bound d e k h = not_both w.score bound d.score e (within_score w d k) h
+use Rattle.rank_check.proofs.EntryLists.{named_ids, below_out}
 
 module _ (q : Asked) (c : Contents) (right : IsContents c) (apart : AreApart (all_candidates q c)) (some : 1 ≤ q.k)
     (rows : List Named) (best_are : of_rows rows ≡ best_of_query q c) where
@@ -287,7 +265,8 @@ module _ (q : Asked) (c : Contents) (right : IsContents c) (apart : AreApart (al
 
 -- so a report and a certificate that say what is right have right pieces
 pub said_in_pieces : (q : Asked) (c : Contents) (r : Reported) (z : Certified) → IsAsked q → IsContents c
-    → AreApart (all_candidates q c) → z.version ≡ 2 → SaysRightReport q c r × SaysRight q c z → AreRightPieces q c r z
+    → AreApart (all_candidates q c) → z.version ≡ 2 → SaysRightReport q c r × SaysRightCertificate q c z
+    → AreRightPieces q c r z
 said_in_pieces q c r z asked right apart version h =
     let some : 1 ≤ q.k = leb-true 1 q.k (and_parts (nat_le 1 q.k) (nat_le q.k 1000) asked.k).0 in
     let best = h.0.best in
@@ -343,7 +322,7 @@ accepted_in_pieces certificates right_certificates reports right_reports accepte
           let read_z : read_certificate certificate ≡ Ok told.0 = (certificates certificate told.0).1 told.1 in
           let same_r : said.0 ≡ r = cc in
           let same_z : told.0 ≡ z = cc in
-          law.0 (subst (SaysRightReport q c) same_r said.2, subst (SaysRight q c) same_z told.2),
+          law.0 (subst (SaysRightReport q c) same_r said.2, subst (SaysRightCertificate q c) same_z told.2),
       λ h.
           let both = law.1 h in
           (accepted q c report certificate asked right).1 (

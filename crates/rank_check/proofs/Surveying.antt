@@ -26,7 +26,8 @@ use Rattle.rank_scores.specs.Order.{full_cmp, rank_cmp, precedes, rank_in}
 use Rattle.rank_scores.proofs.Listing.{full_cmp_total}
 use Rattle.rank_check.specs.declared.tally.Met.{Met}
 use Rattle.rank_check.specs.Tests.{is_one_of}
-use Rattle.ghcn_files.proofs.Ordered.{each-weaker, first_trans, first_either}
+use Rattle.ghcn_files.proofs.Ordered.{first_trans, first_either}
+use Rattle.ghcn_files.proofs.Among.{each-weaker}
 use Rattle.rank_check.specs.Marks.{known, may_reach}
 use Rattle.rank_check.proofs.Each.{each-more}
 use Rattle.rank_check.specs.Survey.{IsLast, reaches, later, top, met, met_by, raised, top_score, Tallied}

@@ -14,7 +14,7 @@ use Rattle.rank_query.specs.Asked.{Asked, IsAsked, score_element}
 use Rattle.rank_scores.specs.declared.candidate.Candidate.{Candidate}
 use Rattle.rank_papers.specs.Report.{Named}
 use Rattle.rank_papers.specs.ReportLines.{Reported, IsReported, IsReportOf, SaysRightReport}
-use Rattle.rank_papers.specs.Certificate.{Entry, Certified, IsCertified, IsCertificateOf, SaysRight}
+use Rattle.rank_papers.specs.Certificate.{Entry, Certified, IsCertified, IsCertificateOf, SaysRightCertificate}
 use Rattle.rank_head.specs.RightHead.{IsRightHead}
 use Rattle.rank_check.specs.declared.verdict.Verdict.TheVariants.{Accepted}
 use Rattle.rank_check.specs.Tests.{verdict}
@@ -57,7 +57,7 @@ pub record AreRightPieces (q : Asked) (c : Contents) (r : Reported) (z : Certifi
 abbrev pub RightInPieces : Type 0
 RightInPieces = (q : Asked) (c : Contents) (r : Reported) (z : Certified) → IsAsked q → IsContents c → IsReported r
     → IsCertified z → z.version ≡ 2
-    → (SaysRightReport q c r × SaysRight q c z) ↔ AreRightPieces q c r z
+    → (SaysRightReport q c r × SaysRightCertificate q c z) ↔ AreRightPieces q c r z
 
 -- so the verdict on the texts of such a report and such a certificate accepts if and only if their pieces are right
 abbrev pub AcceptedInPieces : Type 0

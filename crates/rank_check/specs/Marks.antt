@@ -41,19 +41,19 @@ abbrev pub known : List Mark → Candidate → Met
 known marks c = record { candidate = c; present = is_met marks c; ahead = in_64_bits (passed marks c) }
 
 -- the marks are in the order of candidates
-abbrev pub AreInOrder : List Mark → Type 0
-AreInOrder marks = IsSorted full_cmp (candidates_at marks)
+abbrev pub AreMarksInOrder : List Mark → Type 0
+AreMarksInOrder marks = IsSorted full_cmp (candidates_at marks)
 
 -- these are marks of the rows that nothing was offered to
 pub record AreUnmet (rows : List Candidate) (marks : List Mark) : Type 0 where
-  pub order : AreInOrder marks
+  pub order : AreMarksInOrder marks
   pub marked : AllByRecursion (Contains (candidates_at marks)) rows
   pub blank : marks ≡ map unmet (candidates_at marks)
 
 -- the rows have marks in order, and none comes after the last
 pub record AreMarked (last : Option Candidate) (rows : List Candidate) (marks : List Mark) : Type 0 where
   pub behind : IsLast last rows
-  pub order : AreInOrder marks
+  pub order : AreMarksInOrder marks
   pub marked : AllByRecursion (Contains (candidates_at marks)) rows
 
 -- a mark once a candidate was offered that may be its own

@@ -168,7 +168,7 @@ impl FloorSink for Tally {
 // Few candidates score as much as the last row, so it isn't built into the loops over days.
 #[inline(never)]
 fn meet(last: &Option<Candidate>, marks: &mut Vec<Mark>, candidate: Candidate)
-    requires { order.AreInOrder marks.old.items }
+    requires { order.AreMarksInOrder marks.old.items }
     ensures same { order.candidates_at marks.new.items ≡ order.candidates_at marks.old.items }
     ensures reached { survey.reaches last.now candidate ≡ true →
         order.Meets candidate marks.old.items marks.new.items }
@@ -181,7 +181,7 @@ fn meet(last: &Option<Candidate>, marks: &mut Vec<Mark>, candidate: Candidate)
 
 /// Takes one more candidate into account at the marks of some.
 fn meet_marks(marks: &mut [Mark], candidate: &Candidate)
-    requires { order.AreInOrder marks.old }
+    requires { order.AreMarksInOrder marks.old }
     ensures { order.Meets candidate.now marks.old marks.new }
 {
     let place = place_of(marks, candidate);
@@ -193,7 +193,7 @@ fn meet_marks(marks: &mut [Mark], candidate: &Candidate)
 
 /// The place of the first mark that the candidate precedes, or the number of all marks.
 fn place_of(marks: &[Mark], candidate: &Candidate) -> usize
-    requires { order.AreInOrder marks.now }
+    requires { order.AreMarksInOrder marks.now }
     ensures bound { result ≤ length marks.now }
     ensures place { order.IsPlace (order.candidates_at marks.now) candidate.now result }
 {
@@ -295,7 +295,7 @@ fn unmet(alloc: Global, ordered: &[Candidate]) -> Result<Vec<Mark>, Memory>
 
 /// What marks know of each of some candidates.
 fn known_rows(alloc: Global, rows: &[Candidate], marks: &[Mark]) -> Result<Vec<Met>, Memory>
-    requires { order.AreInOrder marks.now }
+    requires { order.AreMarksInOrder marks.now }
     ensures { IfOk result (λ found. found.items ≡ map (order.known marks.now) rows.now) }
 {
     let mut found = Vec::new(alloc);
@@ -307,7 +307,7 @@ fn known_rows(alloc: Global, rows: &[Candidate], marks: &[Mark]) -> Result<Vec<M
 
 /// What marks know of a candidate.
 fn known(marks: &[Mark], candidate: &Candidate) -> Met
-    requires { order.AreInOrder marks.now }
+    requires { order.AreMarksInOrder marks.now }
     ensures { result ≡ order.known marks.now candidate.now }
 {
     let place = place_of(marks, candidate);

@@ -7,4 +7,5 @@ pub mod MeasuredPapers
 pub mod StableSorts
 pub mod Orders
 pub mod FirstRows
+pub mod RowFloors
 pub mod ReadParts

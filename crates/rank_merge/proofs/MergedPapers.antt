@@ -5,7 +5,8 @@ use Rattle.std.specs.Prelude.{int_lt}
 use Rattle.std.specs.List.{flat_map, AllByRecursion, AllZip}
 use Rattle.std.proofs.lemmas.List.{map-append, take-map}
 use Rattle.std.proofs.lemmas.List.Sorted.{sum_by-IsPermutation}
-use Rattle.ghcn_files.proofs.Ordered.{each-weaker, sorted-map}
+use Rattle.ghcn_files.proofs.Ordered.{sorted-map}
+use Rattle.ghcn_files.proofs.Among.{each-weaker}
 use Rattle.ghcn_fields.specs.Sorting.{sorted_by}
 use Rattle.ghcn_files.specs.declared.station.Station.{Station}
 use Rattle.ghcn_files.specs.declared.station.StationId.{StationId}
@@ -25,7 +26,7 @@ use Rattle.rank_pool.proofs.Places.{first-first_left, first-first_right}
 use Rattle.rank_pool.proofs.Ranked.{best-first, kth_score-kth}
 use Rattle.rank_papers.specs.Report.{Named}
 use Rattle.rank_papers.specs.ReportLines.{SaysRightReport, name_of}
-use Rattle.rank_papers.specs.Certificate.{Entry, IsRightEntry, SaysRight, kth_of_best, counts_of}
+use Rattle.rank_papers.specs.Certificate.{Entry, IsRightEntry, SaysRightCertificate, kth_of_best, counts_of}
 use Rattle.rank_papers.proofs.PlanLines.{sorted-zip}
 use Rattle.rank_papers.proofs.PlanPapers.{kth-best, some_asked}
 use Rattle.rank_head.specs.HeadTests.{of_rows}
@@ -45,7 +46,7 @@ WithData = Contents × Part
 pub record IsRightPart (q : Asked) (p : WithData) : Type 0 where
   pub contents : IsContents p.0
   pub report : SaysRightReport q p.0 p.1.report
-  pub certificate : SaysRight q p.0 p.1.certificate
+  pub certificate : SaysRightCertificate q p.0 p.1.certificate
 
 -- the data of parts
 abbrev pub data_of_parts : List WithData → List Contents
@@ -193,7 +194,7 @@ module _ (q : Asked) where
 
     -- the merged report and certificate say what is right of the whole
     pub merged_say : SaysRightReport q c (merged_report q (parts_alone ps))
-        × SaysRight q c (merged_certificate q (parts_alone ps))
+        × SaysRightCertificate q c (merged_certificate q (parts_alone ps))
     merged_say = (
       record { asked = refl; best = merged_best; named = names_merged },
       record {

@@ -23,7 +23,7 @@ use Rattle.rank_scores.specs.Cut.{Filed, IsDataOf, morsel_ids, CutByFiles}
 use Rattle.rank_scores.specs.Morsels.{id_comes_first}
 use Rattle.rank_papers.specs.Report.{IsReport, report_text}
 use Rattle.rank_papers.specs.ReportLines.{IsReported, IsReportOf, IsRow, SaysRightReport, read_report}
-use Rattle.rank_papers.specs.Certificate.{Entry, IsCertified, IsCertificate, SaysRight}
+use Rattle.rank_papers.specs.Certificate.{Entry, IsCertified, IsCertificate, SaysRightCertificate}
 use Rattle.rank_papers.specs.Certificate.{certificate_text}
 use Rattle.rank_papers.specs.CertificateLines.{read_certificate}
 use Rattle.rank_papers.specs.Laws.{CertificatesAreRead, RightCertificatesSayRight, ReportsAreRead, RightReportsSayRight}
@@ -238,7 +238,7 @@ module _ (known : Known) (cut : CutByFiles) {q : Asked} {stations : List Station
   told = answered q whole papers (twice (merged_entries whole)) (sym (ap (papers_of q) all.passed) ∙ m.merged)
 
   -- they say what is right
-  say : SaysRightReport q dataset (merged_report q whole) × SaysRight q dataset (merged_certificate q whole)
+  say : SaysRightReport q dataset (merged_report q whole) × SaysRightCertificate q dataset (merged_certificate q whole)
   say = merged_say q dataset m.asked contents all.read (cut q stations parts
       (data_of_parts all.read) dataset all.data_are
       m.read (apart_from q all.read all.right told.0)) all.right

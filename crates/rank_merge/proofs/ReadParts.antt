@@ -16,7 +16,7 @@ use Rattle.rank_merge.specs.declared.part.Papers.{Papers}
 use Rattle.rank_merge.specs.Merged.{Part, rows_of, entries_of_parts, first_rows}
 use Rattle.rank_merge.specs.Merging.{Texts, part_of, and_parts, parts_from, is_memory}
 use Rattle.rank_merge.specs.Found.{AreOfParts, IsFloor, part_in}
-use Rattle.rank_merge.proofs.FirstRows.{first_of_first}
+use Rattle.rank_merge.proofs.RowFloors.{first_of_first}
 use Rattle.std.proofs.lemmas.Int.{ints}
 
 -- ---- what was read before

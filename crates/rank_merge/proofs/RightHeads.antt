@@ -22,7 +22,7 @@ use Rattle.rank_scores.specs.Morsels.{admitted_series, has_admitted, morsels, al
 use Rattle.rank_scores.specs.Morsels.{kth_of_query}
 use Rattle.rank_scores.proofs.Ranks.{Descends}
 use Rattle.rank_papers.specs.Report.{Named}
-use Rattle.rank_papers.specs.Certificate.{Entry, IsRightEntry, Certified, SaysRight, kth_of_best, counts_of}
+use Rattle.rank_papers.specs.Certificate.{Entry, IsRightEntry, Certified, SaysRightCertificate, kth_of_best, counts_of}
 use Rattle.rank_head.specs.HeadTests.{of_rows, stands_before, IdsRise, is_scanned}
 use Rattle.rank_head.specs.RightHead.{AreInOrder, IsRightHead}
 use Rattle.rank_pool.proofs.Orders.{take-all, sorted-all}
@@ -228,7 +228,8 @@ module _ (q : Asked) (c : Contents) (asked : IsAsked q) (right : IsContents c) w
   best_seen es h = grind (arith, ints, best_are, take-all, sorted-all, all_seen es h)
 
   -- the head of a report and a certificate that say what is right
-  pub right_head : (r : Reported) (z : Certified) → SaysRightReport q c r → SaysRight q c z → IsRightHead q r z
+  pub right_head : (r : Reported) (z : Certified) → SaysRightReport q c r → SaysRightCertificate q c z
+      → IsRightHead q r z
   right_head r z report certificate = record {
     report = report.asked;
     certificate = certificate.asked;

@@ -3,7 +3,7 @@ use Rattle.std.proofs.Common.{◌≡◌, ◌⊎◌, inl, inr, ℕ, zero, suc, �
 use Rattle.std.proofs.Common.{length, take, refl, sym, ap, ◌∙◌, subst, arith, true}
 use Rattle.std.specs.List.{flat_map, AllByRecursion, Contains}
 use Rattle.std.specs.List.Sorted.{IsStrictlySortedBy}
-use Rattle.std.specs.Ordering.{is_lt, is_le, ordering_then, ordering_reverse}
+use Rattle.std.specs.Ordering.{int_cmp, is_lt, is_le, ordering_then, ordering_reverse}
 use Rattle.std.specs.declared.cmp.Ordering.{Ordering}
 use Rattle.std.specs.declared.cmp.Ordering.TheVariants.{Less, Equal, Greater}
 use Rattle.std.proofs.lemmas.List.{length-take}
@@ -54,19 +54,23 @@ one_before a b = by (full_cmp a b) (full_cmp b a) refl refl (full_cmp_total.anti
     by Greater Equal e f t = absurd (let back : Greater ≡ Equal = sym e ∙ t ∙ ap ordering_reverse f in cc)
     by Greater Greater e f t = absurd (let back : Greater ≡ Less = sym e ∙ t ∙ ap ordering_reverse f in cc)
 
--- the first comparison decides
-first_stands : (o l : Ordering) → is_lt o ≡ true → ordering_then o l ≡ Less
-first_stands Less l e = refl
-first_stands Equal l e = absurd cc
-first_stands Greater l e = absurd cc
+-- a comes before b by rank
+abbrev Ranked : Candidate → Candidate → Type 0
+Ranked a b = rank_cmp a b ≡ Less
 
--- a candidate that precedes another is listed before it
-precedes_before : (a b : Candidate) → precedes a b ≡ true → Before a b
-precedes_before a b e = first_stands (rank_cmp a b) _ e
+-- a candidate that comes before another by rank is listed before it
+ranked_before : (a b : Candidate) → Ranked a b → Before a b
+ranked_before a b e = ap (λ (o : Ordering). ordering_then o (int_cmp a.last b.last)) e
 
--- so candidates that descend by rank do so by listing
-descends-before : (xs : List Candidate) → Descends xs → Descend Before xs
-descends-before xs = descend-weaker (λ a b. precedes a b ≡ true) Before xs precedes_before
+-- what is less
+less_is : (o : Ordering) → is_lt o ≡ true → o ≡ Less
+less_is Less e = refl
+less_is Equal e = absurd cc
+less_is Greater e = absurd cc
+
+-- candidates that descend come one before the other by rank
+descends-ranked : (xs : List Candidate) → Descends xs → Descend Ranked xs
+descends-ranked xs = descend-weaker (λ a b. precedes a b ≡ true) Ranked xs (λ a b. less_is (rank_cmp a b))
 
 -- a list in order descends
 pub sorted-descends : {X : Type 0} (order : X → X → Ordering) (xs : List X) → IsStrictlySortedBy order xs
@@ -84,15 +88,16 @@ descends-sorted order (x ∷ xs) h = (h.0, descends-sorted order xs h.1)
 
 -- ---- the first k of what has a property
 
--- these are the first k of what has a property
-record AreTop (P : Candidate → Type 0) (k : ℕ) (top : List Candidate) : Type 0 where
+-- these are the first k of what has a property, in an order
+record AreTop (R : Candidate → Candidate → Type 0) (P : Candidate → Type 0) (k : ℕ) (top : List Candidate)
+    : Type 0 where
   few : length top ≤ k
   have : AllByRecursion P top
-  order : Descend Before top
-  others : (x : Candidate) → P x → In top x ⊎ ((length top ≡ k) × AllByRecursion (λ b. Before b x) top)
+  order : Descend R top
+  others : (x : Candidate) → P x → In top x ⊎ ((length top ≡ k) × AllByRecursion (λ b. R b x) top)
 
 -- nothing that has the property is listed before the first
-none_before : (P : Candidate → Type 0) (k : ℕ) (y x : Candidate) (ys : List Candidate) → AreTop P k (y ∷ ys) → P x
+none_before : (P : Candidate → Type 0) (k : ℕ) (y x : Candidate) (ys : List Candidate) → AreTop Before P k (y ∷ ys) → P x
     → Before x y → ⊥
 none_before P k y x ys t p b = by (t.others x p)
   where
@@ -102,8 +107,8 @@ none_before P k y x ys t p b = by (t.others x p)
     by (inr all) = asym x y b all.1.0
 
 -- if there are none, nothing has the property or none is wanted
-none_first : (P : Candidate → Type 0) (k : ℕ) (y : Candidate) (ys : List Candidate) → AreTop P k []
-    → AreTop P k (y ∷ ys) → ⊥
+none_first : (P : Candidate → Type 0) (k : ℕ) (y : Candidate) (ys : List Candidate) → AreTop Before P k []
+    → AreTop Before P k (y ∷ ys) → ⊥
 none_first P k y ys s t =
     elim (s.others y t.have.0) [
       | inl h ↦ h
@@ -111,8 +116,8 @@ none_first P k y ys s t =
     ]
 
 -- what comes after the first are the first of what is listed after it
-tail_top : (P : Candidate → Type 0) (k : ℕ) (x : Candidate) (xs : List Candidate) → AreTop P (suc k) (x ∷ xs)
-    → AreTop (λ z. P z × Before x z) k xs
+tail_top : (P : Candidate → Type 0) (k : ℕ) (x : Candidate) (xs : List Candidate) → AreTop Before P (suc k) (x ∷ xs)
+    → AreTop Before (λ z. P z × Before x z) k xs
 tail_top P k x xs t = record {
   few = omega (arith, t.few);
   have = from_both P (Before x) (λ z. P z × Before x z) xs (λ z p b. (p, b)) t.have.1 t.order.0;
@@ -128,7 +133,7 @@ tail_top P k x xs t = record {
     by z b (inr all) = inr (omega (arith, all.0), all.1.1)
 
 -- there is one list of the first k
-one_top : (P : Candidate → Type 0) (k : ℕ) (xs ys : List Candidate) → AreTop P k xs → AreTop P k ys → xs ≡ ys
+one_top : (P : Candidate → Type 0) (k : ℕ) (xs ys : List Candidate) → AreTop Before P k xs → AreTop Before P k ys → xs ≡ ys
 one_top P k [] [] s t = refl
 one_top P k [] (y ∷ ys) s t = absurd (none_first P k y ys s t)
 one_top P k (x ∷ xs) [] s t = absurd (none_first P k x xs t s)
@@ -136,7 +141,7 @@ one_top P zero (x ∷ xs) (y ∷ ys) s t = absurd (omega (arith, s.few))
 one_top P (suc k) (x ∷ xs) (y ∷ ys) s t =
     let same : x ≡ y = by (one_before x y) in
     let rest : xs ≡ ys = one_top (λ z. P z × Before x z) k xs ys (tail_top P k x xs s)
-    (subst (λ (w : Candidate). AreTop (λ z. P z × Before w z) k ys) (sym same) (tail_top P k y ys t)) in
+    (subst (λ (w : Candidate). AreTop Before (λ z. P z × Before w z) k ys) (sym same) (tail_top P k y ys t)) in
     λ i. same i ∷ rest i
   where
     by : (x ≡ y) ⊎ Before x y ⊎ Before y x → x ≡ y
@@ -144,67 +149,69 @@ one_top P (suc k) (x ∷ xs) (y ∷ ys) s t =
     by (inr (inl b)) = absurd (none_before P (suc k) y x ys t s.have.0 b)
     by (inr (inr b)) = absurd (none_before P (suc k) x y xs s t.have.0 b)
 
--- the first k of a list that descends descend
-take-descends : (k : ℕ) (xs : List Candidate) → Descend Before xs → Descend Before (take k xs)
-take-descends zero xs h = tt
-take-descends (suc k) [] h = tt
-take-descends (suc k) (x ∷ xs) h = (take-all (Before x) k xs h.0, take-descends k xs h.1)
+module _ (R : Candidate → Candidate → Type 0) where
+  -- the first k of a list that descends descend
+  take-descends : (k : ℕ) (xs : List Candidate) → Descend R xs → Descend R (take k xs)
+  take-descends zero xs h = tt
+  take-descends (suc k) [] h = tt
+  take-descends (suc k) (x ∷ xs) h = (take-all (R x) k xs h.0, take-descends k xs h.1)
 
--- another of the list comes after k
-out_of_take : (k : ℕ) (xs : List Candidate) → Descend Before xs → (z : Candidate) → In xs z
-    → In (take k xs) z ⊎ ((length (take k xs) ≡ k) × AllByRecursion (λ b. Before b z) (take k xs))
-out_of_take zero xs h z i = inr (refl, tt)
-out_of_take (suc k) [] h z i = absurd i
-out_of_take (suc k) (x ∷ xs) h z (inl e) = inl (inl e)
-out_of_take (suc k) (x ∷ xs) h z (inr i) = by (out_of_take k xs h.1 z i)
-  where
-    by : In (take k xs) z ⊎ ((length (take k xs) ≡ k) × AllByRecursion (λ b. Before b z) (take k xs))
-        → In (x ∷ take k xs) z
-        ⊎ ((length (x ∷ take k xs) ≡ suc k) × AllByRecursion (λ b. Before b z) (x ∷ take k xs))
-    by (inl j) = inl (inr j)
-    by (inr all) = inr (ap suc all.0, (of_one (Before x) xs z h.0 i, all.1))
+  -- another of the list comes after k
+  out_of_take : (k : ℕ) (xs : List Candidate) → Descend R xs → (z : Candidate) → In xs z
+      → In (take k xs) z ⊎ ((length (take k xs) ≡ k) × AllByRecursion (λ b. R b z) (take k xs))
+  out_of_take zero xs h z i = inr (refl, tt)
+  out_of_take (suc k) [] h z i = absurd i
+  out_of_take (suc k) (x ∷ xs) h z (inl e) = inl (inl e)
+  out_of_take (suc k) (x ∷ xs) h z (inr i) = by (out_of_take k xs h.1 z i)
+    where
+      by : In (take k xs) z ⊎ ((length (take k xs) ≡ k) × AllByRecursion (λ b. R b z) (take k xs))
+          → In (x ∷ take k xs) z
+          ⊎ ((length (x ∷ take k xs) ≡ suc k) × AllByRecursion (λ b. R b z) (x ∷ take k xs))
+      by (inl j) = inl (inr j)
+      by (inr all) = inr (ap suc all.0, (of_one (R x) xs z h.0 i, all.1))
 
--- so they are the first k of what is in the list
-take_top : (P : Candidate → Type 0) (k : ℕ) (xs : List Candidate) → Descend Before xs → AllByRecursion P xs
-    → ((x : Candidate) → P x → In xs x) → AreTop P k (take k xs)
-take_top P k xs h all inside = record {
-  few = omega (arith, length-take k xs);
-  have = take-all P k xs all;
-  order = take-descends k xs h;
-  others = λ x p. out_of_take k xs h x (inside x p);
-}
+  -- so they are the first k of what is in the list
+  take_top : (P : Candidate → Type 0) (k : ℕ) (xs : List Candidate) → Descend R xs → AllByRecursion P xs
+      → ((x : Candidate) → P x → In xs x) → AreTop R P k (take k xs)
+  take_top P k xs h all inside = record {
+    few = omega (arith, length-take k xs);
+    have = take-all P k xs all;
+    order = take-descends k xs h;
+    others = λ x p. out_of_take k xs h x (inside x p);
+  }
 
 -- ---- the best of a query
 
--- the first k of its candidates are the best
-top_best : (q : Asked) (IsOne : Usable → Type 0) (best : List Candidate) → AreTop (IsOfQuery q IsOne) q.k best
+-- the first k of its candidates by rank are the best
+top_best : (q : Asked) (IsOne : Usable → Type 0) (best : List Candidate) → AreTop Ranked (IsOfQuery q IsOne) q.k best
     → AreBest q IsOne best
 top_best q IsOne best t = record {
   few = t.few;
   of_query = t.have;
-  order = descends-sorted full_cmp best t.order;
+  order = descends-sorted rank_cmp best t.order;
   others = λ x p. by x (t.others x p);
 }
   where
-    by : (x : Candidate) → In best x ⊎ ((length best ≡ q.k) × AllByRecursion (λ b. Before b x) best)
-        → Contains best x ⊎ ((length best ≡ q.k) × AllByRecursion (λ b. Before b x) best)
+    by : (x : Candidate) → In best x ⊎ ((length best ≡ q.k) × AllByRecursion (λ b. Ranked b x) best)
+        → Contains best x ⊎ ((length best ≡ q.k) × AllByRecursion (λ b. Ranked b x) best)
     by x (inl h) = inl (in-contains best x h)
     by x (inr all) = inr all
 
--- and the other way round
+-- and the best are the first k as they are listed
 best_top : (q : Asked) (IsOne : Usable → Type 0) (best : List Candidate) → AreBest q IsOne best
-    → AreTop (IsOfQuery q IsOne) q.k best
+    → AreTop Before (IsOfQuery q IsOne) q.k best
 best_top q IsOne best b = record {
   few = b.few;
   have = b.of_query;
-  order = sorted-descends full_cmp best b.order;
+  order = descend-weaker Ranked Before best ranked_before (sorted-descends rank_cmp best b.order);
   others = λ x p. by x (b.others x p);
 }
   where
-    by : (x : Candidate) → Contains best x ⊎ ((length best ≡ q.k) × AllByRecursion (λ b. Before b x) best)
+    by : (x : Candidate) → Contains best x ⊎ ((length best ≡ q.k) × AllByRecursion (λ b. Ranked b x) best)
         → In best x ⊎ ((length best ≡ q.k) × AllByRecursion (λ b. Before b x) best)
     by x (inl h) = inl (contains-in best x h)
-    by x (inr all) = inr all
+    by x (inr all) =
+        inr (all.0, from_each (λ b. Ranked b x) (λ b. Before b x) best (λ b. ranked_before b x) all.1)
 
 -- so there is one list of the best
 pub best_are_one : (q : Asked) (IsOne : Usable → Type 0) → HaveOneBest q IsOne
@@ -251,8 +258,8 @@ module _ (q : Asked) (c : Contents) (asked : IsAsked q) (right : IsContents c) w
       let back : AllByRecursion (In all) xs =
       in_permuted xs all (IsPermutation-sym all xs (in_order-permutation all)) in
       subst (AreBest q (IsHeldSeries q c)) (sym (best-first q.k all (all_apart q c right)))
-      (top_best q (IsHeldSeries q c) (take q.k xs) (take_top (IsOfQuery q (IsHeldSeries q c)) q.k xs
-      (descends-before xs (in_order-descends all (all_apart q c right)))
+      (top_best q (IsHeldSeries q c) (take q.k xs) (take_top Ranked (IsOfQuery q (IsHeldSeries q c)) q.k xs
+      (descends-ranked xs (in_order-descends all (all_apart q c right)))
       (from_each (In all) (IsOfQuery q (IsHeldSeries q c)) xs
       (λ x h. of_one (IsOfQuery q (IsHeldSeries q c)) all x of_query h) back)
       (λ x p. of_one (In xs) all x moved (is_listed x p))))

@@ -20,7 +20,7 @@ use Rattle.rank_scores.proofs.Exactly.{bounds}
 use Rattle.rank_scores.proofs.Rising.{all-filter, from_each}
 use Rattle.rank_scores.proofs.QueryCandidates.{all_apart}
 use Rattle.rank_pool.proofs.Orders.{sorted-all}
-use Rattle.rank_papers.specs.Report.{query_line}
+use Rattle.rank_papers.specs.Report.{IsReportOfBest, query_line}
 use Rattle.rank_papers.specs.Certificate.{Entry, IsCertificate, IsRightEntry, certificate_text, counted, count_of}
 use Rattle.rank_papers.specs.Certificate.{counts_of, kth_of_best, title_line, kth_line, entry_line, end_line}
 use Rattle.rank_papers.specs.Right.{IsOfQuery, AreSeriesOf, AreBest, IsRightReport, IsTrueEntry, IsRightCertificate}
@@ -98,18 +98,9 @@ text_with version q kth es lines =
 -- the right report has the best, however these are said to be the best
 pub reports_found : ReportsAreFound
 reports_found q c bytes asked right = (
-  λ h. record {
-    rows = h.rows;
-    best = (best_found q c (map (λ row. row.0) h.rows) asked right).0 h.best;
-    listed = h.listed;
-    text = h.text;
-  },
-  λ h. record {
-    rows = h.rows;
-    best = (best_found q c (map (λ row. row.0) h.rows) asked right).1 h.best;
-    listed = h.listed;
-    text = h.text;
-  },
+  λ h. (best_of_query q c, (best_found q c (best_of_query q c) asked right).0 refl, h),
+  λ h. subst (λ (best : List Candidate). IsReportOfBest q c.stations best bytes)
+      ((best_found q c h.0 asked right).1 h.1) h.2,
 )
 
 module _ (q : Asked) (c : Contents) (asked : IsAsked q) (right : IsContents c) where
@@ -161,25 +152,27 @@ module _ (q : Asked) (c : Contents) (asked : IsAsked q) (right : IsContents c) w
   certificate_true : (version : ℕ) (bytes : List ℕ) (h : IsCertificate q c bytes) → h.version ≡ version
       → IsRightCertificateFor version q c bytes
   certificate_true version bytes h e =
-      subst (λ (v : ℕ). IsRightCertificateFor v q c bytes) e (record {
-        known = h.known;
-        best = best_of_query q c;
-        are = (best_found q c (best_of_query q c) asked right).0 refl;
-        kth = kth_of_query q c;
-        of_last = sym kth_found;
-        series = morsels q c;
-        all = morsels_are q c right;
-        entries = h.entries;
-        right = entries_true (kth_of_query q c) h.entries (morsels q c) morsels_right h.right;
-        text = h.text ∙ ap (text_with h.version q (kth_of_query q c) h.entries)
-            (lines_are h.version (best_of_query q c) h.entries h.known);
-      })
+      subst (λ (v : ℕ). IsRightCertificateFor v q c bytes) e (
+        best_of_query q c,
+        (best_found q c (best_of_query q c) asked right).0 refl,
+        record {
+          known = h.known;
+          kth = kth_of_query q c;
+          of_last = sym kth_found;
+          series = morsels q c;
+          all = morsels_are q c right;
+          entries = h.entries;
+          right = entries_true (kth_of_query q c) h.entries (morsels q c) morsels_right h.right;
+          text = h.text ∙ ap (text_with h.version q (kth_of_query q c) h.entries)
+              (lines_are h.version (best_of_query q c) h.entries h.known);
+        },
+      )
 
   -- and a right one has what is found
   certificate_found : (version : ℕ) (bytes : List ℕ) → IsRightCertificateFor version q c bytes
       → (h : IsCertificate q c bytes) × (h.version ≡ version)
-  certificate_found version bytes h =
-      let best : h.best ≡ best_of_query q c = (best_found q c h.best asked right).1 h.are in
+  certificate_found version bytes (found, are, h) =
+      let best : found ≡ best_of_query q c = (best_found q c found asked right).1 are in
       let series : h.series ≡ morsels q c =
       one_series q (IsHeldSeries q c) h.series (morsels q c) h.all (morsels_are q c right) in
       let kth : h.kth ≡ kth_of_query q c = h.of_last ∙ ap (kth_of_best q.k) best ∙ kth_found in (
@@ -190,7 +183,7 @@ module _ (q : Asked) (c : Contents) (asked : IsAsked q) (right : IsContents c) w
           right = entries_right (kth_of_query q c) h.entries (morsels q c) morsels_right
               (subst (λ (k : Option ℤ). AllZip (IsTrueEntry q k) h.entries (morsels q c)) kth
               (subst (λ (ss : List Usable). AllZip (IsTrueEntry q h.kth) h.entries ss) series h.right));
-          text = h.text ∙ ap (text_with version q h.kth h.entries) (sym (lines_are version h.best h.entries h.known))
+          text = h.text ∙ ap (text_with version q h.kth h.entries) (sym (lines_are version found h.entries h.known))
               ∙ λ i. certificate_text (record {
                 version = version;
                 query = q;
@@ -238,28 +231,25 @@ module _ (q : Asked) (A B : Usable → Type 0) (same : (s : Usable) → A s ↔ 
   -- so a right report of the one is right for the other
   pub report-moved : (stations : List Station) (bytes : List ℕ) → IsRightReport q stations A bytes
       → IsRightReport q stations B bytes
-  report-moved stations bytes h = record {
-    rows = h.rows;
-    best = best-moved (map (λ row. row.0) h.rows) h.best;
-    listed = h.listed;
-    text = h.text;
-  }
+  report-moved stations bytes h = (h.0, best-moved h.0 h.1, h.2)
 
   -- and a right certificate
   pub certificate-moved : (version : ℕ) (bytes : List ℕ) → IsRightCertificate version q A bytes
       → IsRightCertificate version q B bytes
-  certificate-moved version bytes h = record {
-    known = h.known;
-    best = h.best;
-    are = best-moved h.best h.are;
-    kth = h.kth;
-    of_last = h.of_last;
-    series = h.series;
-    all = series-moved h.series h.all;
-    entries = h.entries;
-    right = h.right;
-    text = h.text;
-  }
+  certificate-moved version bytes (best, are, h) = (
+    best,
+    best-moved best are,
+    record {
+      known = h.known;
+      kth = h.kth;
+      of_last = h.of_last;
+      series = h.series;
+      all = series-moved h.series h.all;
+      entries = h.entries;
+      right = h.right;
+      text = h.text;
+    },
+  )
 
 -- what holds both ways holds so the other way round
 pub turned : {A B : Type 0} → A ↔ B → B ↔ A

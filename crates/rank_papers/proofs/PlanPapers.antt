@@ -49,8 +49,10 @@ report-of_plan items p a q stations best (Err e) answer query listed same h = h
 report-of_plan items p a q stations best (Ok paper) answer query listed same h = λ q2 c asked right is.
     let own : q ≡ q2 = query ∙ ap (λ (x : Planned). x.query) is in
     let theirs : best ≡ best_of_query q2 c = same ∙ best_is p a q2 c answer asked right is in
-    subst (λ (x : Asked). IsReportOfBest x stations best (items paper)) own h c
-    (sym (listed ∙ ap (λ (x : Planned). x.stations) is)) theirs
+    let list : stations ≡ c.stations = listed ∙ ap (λ (x : Planned). x.stations) is in
+    subst (λ (x : Asked). IsReportOfBest x c.stations (best_of_query q2 c) (items paper)) own
+    (subst (λ (ss : List Station). IsReportOfBest q ss (best_of_query q2 c) (items paper)) list
+    (subst (λ (b : List Candidate). IsReportOfBest q stations b (items paper)) theirs h))
 
 -- ---- the k-th score
 

@@ -1,5 +1,5 @@
 -- Rows of candidates with their stations, one after the other.
-use Rattle.std.proofs.Common.{◌≡◌, ℕ, ◌+◌, ◌<◌, List, [], ◌∷◌, ◌++◌, length, take, get_or, Option, Some, None, refl, sym, ap, ◌∙◌, append_assoc, append-nil, length-append, arith, map, IsTrue, subst}
+use Rattle.std.proofs.Common.{◌≡◌, ℕ, ◌+◌, ◌<◌, List, [], ◌∷◌, ◌++◌, length, take, get_or, Option, Some, None, refl, sym, ap, ◌∙◌, append_assoc, append-nil, length-append, arith, map, IsTrue}
 use Rattle.std.specs.Prelude.{codes}
 use Rattle.std.specs.List.{enumerate_from, find, cons_option, AllByRecursion}
 use Rattle.std.specs.Option.{option_map, is_some}
@@ -123,14 +123,11 @@ module _ (stations : List Station) where
 -- ---- the report
 
 module _ (q : Asked) (stations : List Station) (best : List Candidate) (listed : AreOfListed stations best) where
-  -- that text is the right report, if the candidates are the best
+  -- that text is the report of these candidates
   pub report-right : (bytes : List ℕ) → bytes ≡ text_of_best q stations best → IsReportOfBest q stations best bytes
-  report-right bytes text c same is =
-      let AreStations : List Station → Type 0 = λ sts.
-      AllByRecursion (λ row. find (is_station_of row.0.id) sts ≡ Some row.1) (with_stations stations best) in
-      record {
-        rows = with_stations stations best;
-        best = candidates_are stations best listed ∙ is;
-        listed = subst AreStations (sym same) (stations_are stations best);
-        text = text;
-      }
+  report-right bytes text = record {
+    rows = with_stations stations best;
+    best = candidates_are stations best listed;
+    listed = stations_are stations best;
+    text = text;
+  }

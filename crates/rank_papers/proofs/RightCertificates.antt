@@ -1,5 +1,7 @@
 -- A right certificate is a text of the form that says what is right.
-use Rattle.std.proofs.Common.{◌≡◌, ◌⊎◌, inl, inr, ℕ, zero, suc, ◌≤◌, min, take, map, subst, Bool, true, false, cond, not, List, [], ◌∷◌, length, Option, Some, None, refl, sym, ap, ◌∙◌, arith, ℤ, FitsSigned, w64}
+use Rattle.std.proofs.Common.{◌≡◌, ◌⊎◌, inl, inr, ℕ, zero, suc, ◌≤◌, min, take, map, subst, Bool, true, false, cond}
+use Rattle.std.proofs.Common.{not, List, [], ◌∷◌, length, Option, Some, None, refl, sym, ap, ◌∙◌, arith, ℤ, FitsSigned}
+use Rattle.std.proofs.Common.{w64}
 use Rattle.std.specs.Prelude.{◌==◌, ◌||◌, nat_le, IfSome, filter}
 use Rattle.std.specs.List.{flat_map, filter_map, cons_option, count_by, list_all, AllByRecursion, AllZip}
 use Rattle.std.specs.Option.{option_map}
@@ -31,7 +33,9 @@ use Rattle.rank_pool.specs.First.{in_order}
 use Rattle.rank_pool.proofs.Ranked.{best-first}
 use Rattle.rank_sched.proofs.Lists.{each-append, each-weaker}
 use Rattle.rank_sched.proofs.ScoreRanges.{candidates_ranged}
-use Rattle.rank_papers.specs.Certificate.{Entry, Certified, certificate_text, IsEntry, IsCount, AreCounts, IsCertificateOf, IsRightEntry, count_of, counts_of, IsCertificate, SaysRight}
+use Rattle.rank_papers.specs.Certificate.{Entry, Certified, certificate_text, IsEntry, IsCount, AreCounts}
+use Rattle.rank_papers.specs.Certificate.{IsCertificateOf, IsRightEntry, count_of, counts_of, IsCertificate}
+use Rattle.rank_papers.specs.Certificate.{SaysRightCertificate}
 use Rattle.rank_papers.specs.Laws.{RightCertificatesSayRight}
 use Rattle.rank_papers.proofs.Counts.{has_version}
 use Rattle.rank_papers.proofs.ListedStations.{station_fields}
@@ -173,7 +177,7 @@ right_counts w best es (inr e) few = inr (
 
 module _ (q : Asked) (c : Contents) (bytes : List ℕ) (asked : IsAsked q) (right : IsContents c) where
   -- a right certificate has the form, and says what is right
-  says_right : IsCertificate q c bytes → (v : Certified) × IsCertificateOf v bytes × SaysRight q c v
+  says_right : IsCertificate q c bytes → (v : Certified) × IsCertificateOf v bytes × SaysRightCertificate q c v
   says_right h = (
     record {
       version = h.version;
@@ -196,7 +200,7 @@ module _ (q : Asked) (c : Contents) (bytes : List ℕ) (asked : IsAsked q) (righ
   )
 
   -- and what says so is a right certificate
-  right_where : (v : Certified) → IsCertificateOf v bytes → SaysRight q c v → IsCertificate q c bytes
+  right_where : (v : Certified) → IsCertificateOf v bytes → SaysRightCertificate q c v → IsCertificate q c bytes
   right_where v is says = record {
     version = v.version;
     known = has_version v.version v.entries v.counts is.can_be.counts;

@@ -1,5 +1,6 @@
 -- IDs in order, counted by two searches, and the rows that they belong to.
-use Rattle.std.proofs.Common.{◌≡◌, ℕ, zero, suc, ◌+◌, ◌-◌, ◌≤◌, Bool, true, false, cond, List, [], ◌∷◌, length, take, map}
+use Rattle.std.proofs.Common.{◌≡◌, ℕ, zero, suc, ◌+◌, ◌-◌, ◌≤◌, Bool, true, false, cond, List, [], ◌∷◌, length, take}
+use Rattle.std.proofs.Common.{map}
 use Rattle.std.proofs.Common.{refl, sym, ap, ◌∙◌, subst, arith, get_or, leb, ◌<◌, inl, inr, Option}
 use Rattle.std.specs.List.{count_by}
 use Rattle.std.specs.List.Sorted.{IsPartitionPoint, IsPartitionedBy, IsPermutation}
@@ -21,7 +22,7 @@ use Rattle.ghcn_files.specs.declared.station.StationId.{StationId}
 use Rattle.ghcn_files.specs.Ids.{same_id}
 use Rattle.rank_scores.specs.declared.candidate.Candidate.{Candidate}
 use Rattle.rank_papers.specs.Certificate.{Entry, count_of}
-use Rattle.rank_papers.specs.StationRows.{AreInOrder, count_in, is_gap}
+use Rattle.rank_papers.specs.StationRows.{AreIdsInOrder, count_in, is_gap}
 
 -- ---- how many pass a test that the first ones pass
 
@@ -76,7 +77,7 @@ module _ (id : StationId) where
   abbrev pub beside : StationId → Ordering
   beside i = slice_cmp nat_cmp i.0 id.0
 
-  module _ (ids : List StationId) (up : AreInOrder ids) where
+  module _ (ids : List StationId) (up : AreIdsInOrder ids) where
     -- those before this ID come first
     pub less_first : IsPartitionedBy (λ i. is_lt (beside i)) ids
     less_first i j d le lt e =
@@ -142,7 +143,7 @@ greater Less e = absurd cc
 greater Equal e = absurd cc
 greater Greater e = refl
 
-module _ (id : StationId) (ids : List StationId) (up : AreInOrder ids) (place : ℕ) (within : place ≤ length ids)
+module _ (id : StationId) (ids : List StationId) (up : AreIdsInOrder ids) (place : ℕ) (within : place ≤ length ids)
     (lower : 0 < place → is_lt (beside id (get_or ids (place - 1) id)) ≡ true)
     (higher : place < length ids → is_le (beside id (get_or ids place id)) ≡ false) where
   -- those in front of the place are before the ID
@@ -188,7 +189,7 @@ module _ (id : StationId) (ids : List StationId) (p : StationId → Bool) where
   ]
 
 -- an ID that would come at a place among some in order, and is the same as neither neighbour, isn't among them
-pub gap-none : (id : StationId) (ids : List StationId) → AreInOrder ids → (place : ℕ) → is_gap ids id place ≡ true
+pub gap-none : (id : StationId) (ids : List StationId) → AreIdsInOrder ids → (place : ℕ) → is_gap ids id place ≡ true
     → count_by (λ i. same_id i id) ids ≡ 0
 gap-none id ids up zero h =
     gap-counts id ids up zero (omega arith) (λ lt. absurd (omega (arith, lt)))

@@ -1,5 +1,6 @@
 -- The text of a certificate, and when it is right.
-use Rattle.std.specs.Prelude.{◌≡◌, ◌⊎◌, ◌≤◌, ℕ, ◌-◌, ◌==◌, Bool, true, ◌&&◌, not, if◌then◌else◌, List, [], ◌∷◌, ◌++◌, length, map, codes, Option, ℤ, FitsSigned, IfSome, IsTrue, slice_get}
+use Rattle.std.specs.Prelude.{◌≡◌, ◌⊎◌, ◌≤◌, ℕ, ◌-◌, ◌==◌, Bool, true, ◌&&◌, not, if◌then◌else◌, List, [], ◌∷◌, ◌++◌}
+use Rattle.std.specs.Prelude.{length, map, codes, Option, ℤ, FitsSigned, IfSome, IsTrue, slice_get}
 use Rattle.std.specs.List.{flat_map, count_by, AllByRecursion, AllZip}
 use Rattle.std.specs.Option.{option_map, option_map_or}
 use Rattle.std.specs.Int.{w64}
@@ -143,7 +144,7 @@ pub record IsCertificate (q : Asked) (c : Contents) (bytes : List ℕ) : Type 0 
 
 -- what a certificate says is right: it has the query, the k-th score, a right entry for each series, and the
 -- counts that its version has of the best candidates
-pub record SaysRight (q : Asked) (c : Contents) (v : Certified) : Type 0 where
+pub record SaysRightCertificate (q : Asked) (c : Contents) (v : Certified) : Type 0 where
   pub asked : v.query ≡ q
   pub kth : v.kth ≡ kth_of_query q c
   pub entries : AreRightEntries q c v.entries

@@ -5,7 +5,7 @@ use Rattle.ghcn_series.specs.Held.{IsContents}
 use Rattle.rank_query.specs.Asked.{Asked, IsAsked}
 use Rattle.rank_papers.specs.Report.{IsReport}
 use Rattle.rank_papers.specs.ReportLines.{Reported, IsReportOf, read_report, SaysRightReport}
-use Rattle.rank_papers.specs.Certificate.{Certified, IsCertificateOf, IsCertificate, SaysRight}
+use Rattle.rank_papers.specs.Certificate.{Certified, IsCertificateOf, IsCertificate, SaysRightCertificate}
 use Rattle.rank_papers.specs.CertificateLines.{read_certificate}
 use Rattle.rank_papers.specs.Places.{IsReportText, IsCertificateText, IsFirstBadLine}
 
@@ -21,7 +21,7 @@ CertificatesGoWrong = (bytes : List ℕ) (n : ℕ) →
 -- a certificate is right for a query and data if and only if it has the form and says what is right
 abbrev pub RightCertificatesSayRight : Type 0
 RightCertificatesSayRight = (q : Asked) (c : Contents) (bytes : List ℕ) → IsAsked q → IsContents c →
-    IsCertificate q c bytes ↔ ((v : Certified) × IsCertificateOf v bytes × SaysRight q c v)
+    IsCertificate q c bytes ↔ ((v : Certified) × IsCertificateOf v bytes × SaysRightCertificate q c v)
 
 -- a text is read as a value if and only if it is the text of a report that says this
 abbrev pub ReportsAreRead : Type 0

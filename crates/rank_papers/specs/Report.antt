@@ -76,12 +76,17 @@ with_station stations c = option_map (λ station. (c, station)) (find (is_statio
 abbrev pub with_stations : List Station → List Candidate → List (Candidate × Station)
 with_stations stations cs = filter_map (with_station stations) cs
 
--- the right report: its rows are the best candidates of the query, each with its listed station
-pub record IsReport (q : Asked) (c : Contents) (bytes : List ℕ) : Type 0 where
+-- the report of a query with these best candidates: a row for each, with its listed station
+pub record IsReportOfBest (q : Asked) (stations : List Station) (candidates : List Candidate) (bytes : List ℕ)
+    : Type 0 where
   pub rows : List (Candidate × Station)
-  pub best : map (λ row. row.0) rows ≡ best_of_query q c
-  pub listed : AllByRecursion (λ row. find (is_station_of row.0.id) c.stations ≡ Some row.1) rows
-  pub text : bytes ≡ report_text q (map named rows)
+  pub best : map (λ row. row.0) rows ≡ candidates
+  pub listed : AllByRecursion (λ row. find (is_station_of row.0.id) stations ≡ Some row.1) rows
+  pub text : bytes ≡ report_text q (map (λ row. (row.0, trimmed row.1.name)) rows)
+
+-- the right report of a query and data: that of the best candidates
+abbrev pub IsReport : Asked → Contents → List ℕ → Type 0
+IsReport q c bytes = IsReportOfBest q c.stations (best_of_query q c) bytes
 
 -- the rows of candidates of listed stations
 abbrev pub rows_of_best : List Station → List Candidate → List Named
@@ -90,8 +95,3 @@ rows_of_best stations best = map named (with_stations stations best)
 -- the text of the report with these best candidates of listed stations
 abbrev pub text_of_best : Asked → List Station → List Candidate → List ℕ
 text_of_best q stations best = report_text q (rows_of_best stations best)
-
--- the bytes are the right report of all data with these stations and these best candidates of the query
-abbrev pub IsReportOfBest : Asked → List Station → List Candidate → List ℕ → Type 0
-IsReportOfBest q stations best bytes =
-    (c : Contents) → c.stations ≡ stations → best ≡ best_of_query q c → IsReport q c bytes

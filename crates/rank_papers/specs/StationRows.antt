@@ -10,8 +10,8 @@ use Rattle.ghcn_files.specs.Ids.{same_id}
 use Rattle.rank_papers.specs.Certificate.{Entry}
 
 -- no ID comes after the next
-abbrev pub AreInOrder : List StationId → Type 0
-AreInOrder ids = IsSorted (λ a b. slice_cmp nat_cmp a.0 b.0) ids
+abbrev pub AreIdsInOrder : List StationId → Type 0
+AreIdsInOrder ids = IsSorted (λ a b. slice_cmp nat_cmp a.0 b.0) ids
 
 -- how many of some IDs are that of an entry; of one that was skipped none is counted
 abbrev pub count_in : List StationId → Entry → ℕ

@@ -5,7 +5,7 @@ use Rattle.ghcn_fields.specs.NumberTexts.{tenths}
 use Rattle.ghcn_files.specs.declared.element.Element.{Element}
 use Rattle.ghcn_files.specs.declared.element.Element.TheVariants.{Prcp, Snow, Snwd, Tmax, Tmin}
 use Rattle.rank_query.specs.declared.score.Score.{Score}
-use Rattle.rank_query.specs.declared.score.Score.TheVariants.{Highest, Lowest, Sum, Dry, Wet, Hot, Cold}
+use Rattle.rank_query.specs.declared.score.Score.TheVariants.{Highest, Lowest, Sum}
 use Rattle.rank_papers.specs.declared.measure.Measure.{Measure}
 use Rattle.rank_papers.specs.declared.measure.Measure.TheVariants.{Degrees, Millimetres, WholeMillimetres, Days}
 
@@ -22,10 +22,7 @@ abbrev pub measure_of_score : Score → Measure
 measure_of_score (Highest e) = element_measure e
 measure_of_score (Lowest e) = element_measure e
 measure_of_score (Sum n e) = element_measure e
-measure_of_score Dry = Days
-measure_of_score Wet = Days
-measure_of_score (Hot t) = Days
-measure_of_score (Cold t) = Days
+measure_of_score spell = Days
 
 -- a value in raw units as it is printed, without its unit: tenths of a degree or of a millimetre with one decimal,
 -- whole millimetres and days as whole numbers
@@ -44,10 +41,5 @@ unit_text Days = codes "days"
 
 -- the value of a score: if the lowest are ranked, a score is the negated value
 abbrev pub value_of : Score → ℤ → ℤ
-value_of (Highest e) score = score
 value_of (Lowest e) score = neg_ℤ score
-value_of (Sum n e) score = score
-value_of Dry score = score
-value_of Wet score = score
-value_of (Hot t) score = score
-value_of (Cold t) score = score
+value_of other score = score

@@ -27,7 +27,7 @@ pub fn row_counts(alloc: Global, rows: &[Candidate], lines: &[Line]) -> Result<V
 
 /// The IDs of rows, in order.
 fn sorted_ids(alloc: Global, rows: &[Candidate]) -> Result<Vec<StationId>, Memory>
-    ensures order { IfOk result (λ ids. counts.AreInOrder ids.items) }
+    ensures order { IfOk result (λ ids. counts.AreIdsInOrder ids.items) }
     ensures all { IfOk result (λ ids. IsPermutation (map (λ c. c.id) rows.now) ids.items) }
 {
     let mut ids = ids_of(alloc, rows)?;
@@ -44,7 +44,7 @@ fn ids_of(alloc: Global, rows: &[Candidate]) -> Result<Vec<StationId>, Memory>
 
 /// How many of some IDs are that of each line.
 fn counts_in(alloc: Global, ids: &[StationId], lines: &[Line]) -> Result<Vec<u64>, Memory>
-    requires { counts.AreInOrder ids.now }
+    requires { counts.AreIdsInOrder ids.now }
     ensures { IfOk result (λ found. found.items ≡ map (counts.count_in ids.now) lines.now) }
 {
     let mut found = Vec::new(alloc);
@@ -60,7 +60,7 @@ fn counts_in(alloc: Global, ids: &[StationId], lines: &[Line]) -> Result<Vec<u64
 /// How many of some IDs are that of a line, none if it was skipped, and the place after
 /// them.
 fn count_of(ids: &[StationId], line: &Line, place: usize) -> (u64, usize)
-    requires { counts.AreInOrder ids.now }
+    requires { counts.AreIdsInOrder ids.now }
     ensures { result.0 ≡ counts.count_in ids.now line.now }
 {
     if line.skipped {
@@ -73,7 +73,7 @@ fn count_of(ids: &[StationId], line: &Line, place: usize) -> (u64, usize)
 /// How often an ID is among some in order, and the place after it. A place is looked at first, that
 /// after the line before: lines rise by ID, and most belong to stations without rows.
 fn count(ids: &[StationId], id: &StationId, place: usize) -> (u64, usize)
-    requires { counts.AreInOrder ids.now }
+    requires { counts.AreIdsInOrder ids.now }
     ensures { result.0 ≡ count_by (λ i. same_id i id.now) ids.now }
 {
     if is_gap(ids, id, place) {

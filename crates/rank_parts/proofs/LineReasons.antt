@@ -26,7 +26,7 @@ use Rattle.rank_check.specs.InPieces.{rows_with, worst_of, own_series}
 use Rattle.std.proofs.lemmas.List.{take_all}
 use Rattle.std.proofs.lemmas.Option.{slice_get-map}
 use Rattle.ghcn_series.proofs.Members.{In, of_one, for_each, found_in, any_in, kept_in}
-use Rattle.rank_check.proofs.PiecesSay.{rows_counted}
+use Rattle.rank_check.proofs.StationRows.{rows_counted}
 use Rattle.rank_check.proofs.RisingIds.{RiseAll, ids_of, rise_ids}
 use Rattle.rank_check.proofs.RowsWithin.{rows_in_order, order_descends, descends_order, kept_descends, first_within}
 use Rattle.rank_parts.specs.Parts.{why_at, why_of_line}

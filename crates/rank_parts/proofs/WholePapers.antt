@@ -13,7 +13,7 @@ use Rattle.rank_scores.specs.Morsels.{morsels, kth_of_query}
 use Rattle.rank_scores.specs.Cut.{IsCut, IsDataOf, Filed, CutByFiles}
 use Rattle.rank_papers.specs.Report.{IsReport}
 use Rattle.rank_papers.specs.ReportLines.{Reported, IsReported, SaysRightReport, read_report}
-use Rattle.rank_papers.specs.Certificate.{Certified, IsCertified, IsCertificate, IsRightEntry, SaysRight}
+use Rattle.rank_papers.specs.Certificate.{Certified, IsCertified, IsCertificate, IsRightEntry, SaysRightCertificate}
 use Rattle.rank_papers.specs.Certificate.{count_of, counts_of}
 use Rattle.rank_papers.specs.CertificateLines.{read_certificate}
 use Rattle.rank_papers.specs.Laws.{CertificatesAreRead, RightCertificatesSayRight, ReportsAreRead, RightReportsSayRight}
@@ -37,7 +37,7 @@ module _ (heads : HeadsAreRight) (pieces : RightInPieces) (q : Asked) (c : Conte
     (certificate : IsCertified z) where
   -- a report and a certificate whose head is right, and in which no part sees anything to refuse, say what is right
   say : right.IsRightHead q r z → (ns : List ℕ) → AllZip (λ d n. SeesNothing q d r z n (length z.entries)) ds ns
-      → sum ns ≡ length z.entries → SaysRightReport q c r × SaysRight q c z
+      → sum ns ≡ length z.entries → SaysRightReport q c r × SaysRightCertificate q c z
   say head ns seen adds =
       let k = k_within q asked in
       let few = few_rows q r report head.report in
@@ -76,7 +76,7 @@ module _ (heads : HeadsAreRight) (pieces : RightInPieces) (q : Asked) (c : Conte
   -- a report and a certificate that all parts accept say what is right
   accepted_say : (m : ℕ) (ns : List ℕ) → 0 < length ds
       → AllZip (λ d n. part_judged q d (Ok r) (Ok z) ≡ Accepted n m) ds ns → sum ns ≡ m
-      → SaysRightReport q c r × SaysRight q c z
+      → SaysRightReport q c r × SaysRightCertificate q c z
   accepted_say m ns some h adds =
       let seen = all_seen m ds ns h in
       let first = first_sees m ds ns some seen in
@@ -86,7 +86,7 @@ module _ (heads : HeadsAreRight) (pieces : RightInPieces) (q : Asked) (c : Conte
   -- ---- and back
 
   -- a report and a certificate that say what is right have a right head
-  head_of : SaysRightReport q c r → SaysRight q c z → AreRightPieces q c r (recounted r.rows z)
+  head_of : SaysRightReport q c r → SaysRightCertificate q c z → AreRightPieces q c r (recounted r.rows z)
       → right.IsRightHead q r z
   head_of said told h = record {
     report = said.asked;
@@ -99,7 +99,7 @@ module _ (heads : HeadsAreRight) (pieces : RightInPieces) (q : Asked) (c : Conte
   }
 
   -- and right pieces
-  pieces_of : SaysRightReport q c r → SaysRight q c z → AreRightPieces q c r (recounted r.rows z)
+  pieces_of : SaysRightReport q c r → SaysRightCertificate q c z → AreRightPieces q c r (recounted r.rows z)
   pieces_of said told =
       let few = few_rows q r report said.asked in
       let k = k_within q asked in
@@ -115,7 +115,7 @@ module _ (heads : HeadsAreRight) (pieces : RightInPieces) (q : Asked) (c : Conte
       )
 
   -- so each part accepts them
-  accepted_by : SaysRightReport q c r → SaysRight q c z
+  accepted_by : SaysRightReport q c r → SaysRightCertificate q c z
       → AllZip (λ d n. part_judged q d (Ok r) (Ok z) ≡ Accepted n (length z.entries)) ds
       (map (λ (d : Contents). length (morsels q d)) ds)
   accepted_by said told = each ds (λ d h. h)
@@ -132,7 +132,7 @@ module _ (heads : HeadsAreRight) (pieces : RightInPieces) (q : Asked) (c : Conte
       )
 
   -- and the numbers of their series add up
-  added : SaysRightReport q c r → SaysRight q c z
+  added : SaysRightReport q c r → SaysRightCertificate q c z
       → sum (map (λ (d : Contents). length (morsels q d)) ds) ≡ length z.entries
   added said told =
       add_up q c ds dataset cut r z (pieces_of said told)

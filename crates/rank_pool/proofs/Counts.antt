@@ -9,7 +9,8 @@ use Rattle.std.specs.declared.cmp.Ordering.{Ordering}
 use Rattle.std.proofs.lemmas.Int.{ints}
 use Rattle.std.proofs.lemmas.List.Sorted.{sum_by-IsPermutation}
 use Rattle.std.proofs.lemmas.List.Sums.{sum_by-cons, sum_by-append}
-use Rattle.ghcn_files.proofs.Ordered.{sorted-permutation, each-weaker}
+use Rattle.ghcn_files.proofs.Ordered.{sorted-permutation}
+use Rattle.ghcn_files.proofs.Among.{each-weaker}
 use Rattle.rank_scores.specs.declared.candidate.Candidate.{Candidate}
 use Rattle.rank_scores.specs.Order.{bound_is_below}
 use Rattle.rank_pool.specs.First.{comes_first, in_order, kth, above}

@@ -13,7 +13,7 @@ use Rattle.rank_query.proofs.Cited.{word_text, words_of, map, List, [], ◌∷�
 use Rattle.rank_query.proofs.Cited.{date_text, Element, nat_le, list_all, is_visible, ◌&&◌}
 use Rattle.rank_query.specs.Laws.{IsShortLine}
 use Rattle.rank_query.proofs.OneWords.{IsOneWord, words_of-join}
-use Rattle.ghcn_files.proofs.Ordered.{each-weaker}
+use Rattle.ghcn_files.proofs.Among.{each-weaker}
 use Rattle.rank_query.proofs.PrintedWords.{IsShortWord, length-join, printable-join, known_word}
 use Rattle.rank_query.proofs.PrintedWords.{decimal_numeral, decimal_word, code_word, visible_word, date_word}
 use Rattle.rank_query.proofs.PrintedWords.{dates_word}

@@ -33,7 +33,7 @@ pub use Rattle.ghcn_fields.specs.Numbers.{after_blanks, decimal_number, joined, 
 pub use Rattle.ghcn_fields.specs.Numbers.{with_sign}
 pub use Rattle.ghcn_fields.specs.declared.field.Field.{Field}
 pub use Rattle.ghcn_fields.specs.declared.field.Field.TheVariants.{Bad, Blank, Number}
-pub use Rattle.ghcn_files.specs.Elements.{code_of, element_of, elements}
+pub use Rattle.ghcn_files.specs.Elements.{code_of, element_of, elements, may_be_negative}
 pub use Rattle.ghcn_files.specs.Ids.{is_visible}
 pub use Rattle.ghcn_files.specs.StationLines.{is_number_within, is_printable, number_of}
 pub use Rattle.ghcn_files.specs.declared.element.Element.{Element}
@@ -42,7 +42,7 @@ pub use Rattle.jiff_core.specs.Calendar.{days_in_month}
 unfoldable pub use Rattle.jiff_core.specs.Calendar.{day_count, days_from_civil, days_of_months, days_of_years}
 pub use Rattle.memchr.specs.Find.{IsFirstByte, is_byte}
 pub use Rattle.rank_query.specs.Asked.{Asked, IsAsked, is_code, is_fall, is_heat, is_period}
-pub use Rattle.rank_query.specs.Asked.{is_day_of_2000, is_region, is_score, is_season, is_temperature}
+pub use Rattle.rank_query.specs.Asked.{is_day_of_2000, is_region, is_score, is_season}
 pub use Rattle.rank_query.specs.FaultKinds.{IsFaultAmong, edge, has_form, is_behind_box, is_behind_first_day}
 pub use Rattle.rank_query.specs.FaultKinds.{is_date_word}
 pub use Rattle.rank_query.specs.FaultKinds.{is_dates_word}

@@ -29,6 +29,9 @@ pub mod QueryStops
 pub mod FaultPlaces
 pub mod Places
 pub mod FaultKinds
+pub mod WordFaults
 pub mod ReadAsked
 pub mod Asks
 pub mod Examples
+pub mod MeaningExamples
+pub mod FaultExamples

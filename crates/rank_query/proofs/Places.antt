@@ -8,7 +8,7 @@ use Rattle.rank_query.proofs.Cited.{date}
 use Rattle.rank_query.proofs.Cited.{edge, other, is_number, is_decimal, is_date_word, is_behind_box}
 use Rattle.rank_query.proofs.Cited.{is_behind_first_day}
 use Rattle.rank_query.proofs.Cited.{place_behind, Per, group}
-use Rattle.ghcn_files.proofs.Ordered.{each-weaker}
+use Rattle.ghcn_files.proofs.Among.{each-weaker}
 use Rattle.rank_query.proofs.ReadingSteps.{or_fault_ok}
 use Rattle.rank_query.proofs.WordValues.{element_code}
 

@@ -1,7 +1,7 @@
 -- Where the reading of a score stops.
 use Rattle.rank_query.proofs.Cited.{◌≡◌, true, inl, inr, List, [], ◌∷◌, Ok, Err, codes, refl, sym, ◌∙◌}
 use Rattle.rank_query.proofs.Cited.{AllByRecursion, is_within, Prcp, Tmax, Score, Highest, Lowest, Sum, Dry, Wet, Hot, Cold}
-use Rattle.rank_query.proofs.Cited.{QueryFault, UnexpectedWord, QueryEnds, is_temperature, is_fall, is_heat, is_score}
+use Rattle.rank_query.proofs.Cited.{QueryFault, UnexpectedWord, QueryEnds, may_be_negative, is_fall, is_heat, is_score}
 use Rattle.rank_query.proofs.Cited.{Word, says, Read, number, sum_at, ℤ}
 use Rattle.rank_query.proofs.Cited.{heat, made_into, no_score_at, one_word, score_at}
 use Rattle.rank_query.proofs.RegionWords.{and_true}
@@ -33,7 +33,7 @@ parts : AllByRecursion (λ row. ReadsPart Score GoodScore row.1) score_rows
 parts = (
   part_made Highest (λ e is. refl) (part_word (reads_element (λ e. true) Prcp refl refl)),
   (
-    part_made Lowest (λ e is. is) (part_word (reads_element is_temperature Tmax refl refl)),
+    part_made Lowest (λ e is. is) (part_word (reads_element may_be_negative Tmax refl refl)),
     (
       sum_part,
       (

@@ -1,7 +1,7 @@
 -- The words of a score: those that are read as a score spell it, and those that spell it are read as it.
 use Rattle.rank_query.proofs.Cited.{◌++◌}
 use Rattle.rank_query.proofs.Cited.{◌≡◌, ℕ, true, List, [], ◌∷◌, Ok, codes, refl, and_parts, is_within, Element}
-use Rattle.rank_query.proofs.Cited.{code_of, Score, Highest, Lowest, Sum, Dry, Wet, Hot, Cold, is_temperature, is_fall}
+use Rattle.rank_query.proofs.Cited.{code_of, Score, Highest, Lowest, Sum, Dry, Wet, Hot, Cold, may_be_negative, is_fall}
 use Rattle.rank_query.proofs.Cited.{is_heat, is_score, Word, says, Read, one_word, number, element, heat, highest_at, lowest_at}
 use Rattle.rank_query.proofs.Cited.{sum_at, dry_at, wet_at, hot_at, cold_at, no_score_at, score_at, score_words, QueryWord}
 use Rattle.rank_query.proofs.Cited.{Count, Exactly, Tenths, Bool, ℤ, sym, subst}
@@ -53,7 +53,7 @@ unfolding score_at
 score_took = rows_took score_words score_rows no_score_at (
   made_took (codes "highest") Highest _ score_words _ (λ e. refl) (element_took (λ e. true)),
   (
-    made_took (codes "lowest") Lowest _ score_words _ (λ e. refl) (element_took is_temperature),
+    made_took (codes "lowest") Lowest _ score_words _ (λ e. refl) (element_took may_be_negative),
     (
       sum_took,
       (
@@ -104,7 +104,7 @@ unfolding score_at says
 score_read (Highest e) others is = behind_read score_at highest_at (codes "highest") (λ at ws. refl)
     (made_read Highest (element_read (λ e. true) e refl))
 score_read (Lowest e) others is = behind_read score_at lowest_at (codes "lowest") (λ at ws. refl)
-    (made_read Lowest (element_read is_temperature e is))
+    (made_read Lowest (element_read may_be_negative e is))
 score_read (Sum k e) others is =
     behind_read score_at sum_at (codes "sum") (λ at ws. refl) (sum_read k e others is)
 score_read Dry others is = behind_read score_at dry_at (codes "dry") (λ at ws. refl) (always_read (λ ws. refl))

@@ -15,7 +15,7 @@ use Rattle.std.proofs.Math.Seq.{take-append_seam, drop-append-add}
 use Rattle.ghcn_fields.proofs.DateTexts.{read_date-law}
 use Rattle.ghcn_fields.proofs.DecimalTexts.{spells-from_signed, signed-from_spells}
 use Rattle.ghcn_fields.proofs.FieldNumbers.{scaled_field-number}
-use Rattle.ghcn_files.proofs.Ordered.{found_in}
+use Rattle.ghcn_files.proofs.Among.{found_in}
 use Rattle.rank_query.proofs.OneWords.{stands_in_word, HasNoBlank}
 use Rattle.rank_query.proofs.ReadingSteps.{test_ok, or_fault_ok, tested_ok, tested_again}
 

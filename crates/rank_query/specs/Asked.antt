@@ -4,8 +4,9 @@ use Rattle.std.specs.Prelude.{int_le, IsTrue}
 use Rattle.std.specs.List.{list_all}
 use Rattle.ghcn_fields.specs.Days.{is_within, is_day}
 use Rattle.ghcn_files.specs.declared.element.Element.{Element}
-use Rattle.ghcn_files.specs.declared.element.Element.TheVariants.{Prcp, Snow, Snwd, Tmax, Tmin}
-use Rattle.ghcn_files.specs.Ids.{is_visible, is_id}
+use Rattle.ghcn_files.specs.declared.element.Element.TheVariants.{Prcp, Snow, Tmax, Tmin}
+use Rattle.ghcn_files.specs.Elements.{may_be_negative}
+use Rattle.ghcn_files.specs.Ids.{is_visible}
 use Rattle.rank_query.specs.declared.score.Score.{Score}
 use Rattle.rank_query.specs.declared.score.Score.TheVariants.{Highest, Lowest, Sum, Dry, Wet, Hot, Cold}
 use Rattle.rank_query.specs.declared.region.Region.{Region}
@@ -40,37 +41,26 @@ score_element Wet = Prcp
 score_element (Hot t) = Tmax
 score_element (Cold t) = Tmin
 
--- the element is a temperature, the only kind of element whose lowest values can be asked for
-abbrev pub is_temperature : Element → Bool
-is_temperature Prcp = false
-is_temperature Snow = false
-is_temperature Snwd = false
-is_temperature Tmax = true
-is_temperature Tmin = true
-
 -- the element is an amount that falls on a day, precipitation or snowfall, the only kind of element whose sums can be
 -- asked for
 abbrev pub is_fall : Element → Bool
 is_fall Prcp = true
 is_fall Snow = true
-is_fall Snwd = false
-is_fall Tmax = false
-is_fall Tmin = false
+is_fall other = false
 
 -- a number of tenths of a degree that can be asked for in hot or cold spells: from -100 to 100 degrees
 abbrev pub is_heat : ℤ → Bool
 is_heat t = int_le (neg_ℤ (pos 1_000)) t && int_le t (pos 1_000)
 
--- a score that can be asked for: sums are of 1 to 366 days, and the degrees of hot and cold spells are within their
--- limits
+-- a score that can be asked for: the lowest values of a temperature, the only kind of element that may be negative, sums
+-- of 1 to 366 days, and hot and cold spells with degrees within their limits; dry and wet spells, and the highest values,
+-- always
 abbrev pub is_score : Score → Bool
-is_score (Highest e) = true
-is_score (Lowest e) = is_temperature e
+is_score (Lowest e) = may_be_negative e
 is_score (Sum n e) = is_within 1 366 n && is_fall e
-is_score Dry = true
-is_score Wet = true
 is_score (Hot t) = is_heat t
 is_score (Cold t) = is_heat t
+is_score other = true
 
 -- a code is that many visible bytes
 abbrev pub is_code : ℕ → List ℕ → Bool
@@ -89,7 +79,7 @@ is_region (Inside south west north east) =
     && is_longitude west && is_longitude east
 is_region (Country code) = is_code 2 code
 is_region (State code) = is_code 2 code
-is_region (Only id) = is_id id.0
+is_region (Only id) = is_code 11 id.0
 
 -- a day of the year 2000, which has 29 February
 abbrev pub is_day_of_2000 : ℤ → Bool

@@ -1,10 +1,14 @@
 -- Which query a text denotes, and not how it is read.
 use Rattle.std.specs.Prelude.{ℕ, ◌≤◌, List, length}
+use Rattle.std.specs.List.{AllZip}
 use Rattle.rank_query.specs.Asked.{Asked, IsAsked}
-use Rattle.rank_query.specs.Spelling.{IsSpelling}
+use Rattle.rank_query.specs.QueryTexts.{query_words}
+use Rattle.rank_query.specs.Spelling.{SpellsWord}
+use Rattle.rank_query.specs.Words.{words_of}
 
--- a text denotes a query: the query can be asked, and the text spells it in at most 256 bytes
+-- a text denotes a query: the query can be asked, the words of the text spell those of the query, one by one, and the text
+-- has at most 256 bytes
 pub record Asks (text : List ℕ) (q : Asked) : Type 0 where
   pub can : IsAsked q
-  pub spells : IsSpelling text q
+  pub spells : AllZip SpellsWord (words_of text) (query_words q)
   pub short : length text ≤ 256

@@ -1,6 +1,7 @@
 -- Reading a query text from left to right, with the first error that is met.
 use Rattle.std.specs.Prelude.{ℕ, true, nat_lt, if◌then◌else◌, List, [], ◌∷◌, length, codes, Option, None, Some}
 use Rattle.std.specs.Prelude.{Result, Ok, Err, ℤ, pos, neg_ℤ, int_le}
+use Rattle.ghcn_files.specs.Elements.{may_be_negative}
 use Rattle.rank_query.specs.declared.score.Score.{Score}
 use Rattle.rank_query.specs.declared.score.Score.TheVariants.{Highest, Lowest, Sum, Dry, Wet, Hot, Cold}
 use Rattle.rank_query.specs.declared.region.Region.{Region}
@@ -11,7 +12,7 @@ use Rattle.rank_query.specs.declared.fault.QueryFault.{QueryFault}
 use Rattle.rank_query.specs.declared.fault.QueryFault.TheVariants.{QueryTooLong, UnexpectedWord, EmptyPeriod}
 use Rattle.rank_query.specs.declared.per.Per.{Per}
 use Rattle.rank_query.specs.declared.per.Per.TheVariants.{Each}
-use Rattle.rank_query.specs.Asked.{Asked, is_temperature, is_fall}
+use Rattle.rank_query.specs.Asked.{Asked, is_fall}
 use Rattle.rank_query.specs.Words.{Word, numbered_words}
 use Rattle.rank_query.specs.Readers.{◌>>=◌, Read, next_word, keyword, one_word, made_into, by_word}
 use Rattle.rank_query.specs.WordValues.{number, element, heat, months, dates, degrees, code, date, group}
@@ -28,7 +29,7 @@ highest_at ws = made_into Highest (one_word (element (λ e. true)) ws)
 
 -- the lowest values of a temperature
 abbrev pub lowest_at : List Word → Read Score
-lowest_at ws = made_into Lowest (one_word (element is_temperature) ws)
+lowest_at ws = made_into Lowest (one_word (element may_be_negative) ws)
 
 -- the sums of some days of rain or snow
 unfoldable pub sum_at : List Word → Read Score

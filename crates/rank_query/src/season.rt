@@ -66,7 +66,7 @@ fn month_of(day: Day) -> (u8, i32)
 /// Whether a month lies from a first to a last one, over the turn of the year if the first is
 /// greater.
 fn is_between_months(first: u8, last: u8, month: u8) -> bool
-    ensures { result ≡ admits.is_between_months first last month }
+    ensures { result ≡ admits.is_between_edges (pos first) (pos last) (pos month) }
 {
     if first <= last {
         first <= month && month <= last

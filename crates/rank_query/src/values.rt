@@ -4,7 +4,8 @@ ghost use Rattle.std.specs.Prelude.{◌≡◌, true, ◌+◌, ◌<◌, ◌^◌, 
 ghost use Rattle.std.specs.Option.{option_map};
 ghost use Rattle.ghcn_fields.specs.Numbers.{natural, joined, decimal_number, signed_by};
 ghost use Rattle.ghcn_fields.specs.Days.{is_within};
-ghost use Rattle.rank_query.specs.Asked.{is_code, is_temperature, is_fall, is_heat, is_day_of_2000};
+ghost use Rattle.ghcn_files.specs.Elements.{may_be_negative};
+ghost use Rattle.rank_query.specs.Asked.{is_code, is_fall, is_heat, is_day_of_2000};
 ghost use Rattle.rank_query.specs.Readers as readers;
 ghost use Rattle.rank_query.specs.Readers.{Gives, one_word};
 ghost use Rattle.rank_query.specs.WordValues as values;
@@ -89,8 +90,8 @@ pub(crate) fn element(words: &mut Words) -> Result<Element, QueryFault>
 /// The temperature that the next word names.
 #[tactic(auto, unfolding(crate::specs::WordValues::element))]
 pub(crate) fn temperature(words: &mut Words) -> Result<Element, QueryFault>
-    ensures read { Gives (λ e. (e, words.new)) result (one_word (values.element is_temperature) words.old) }
-    ensures allowed { IfOk result (λ e. IsTrue (is_temperature e)) }
+    ensures read { Gives (λ e. (e, words.new)) result (one_word (values.element may_be_negative) words.old) }
+    ensures allowed { IfOk result (λ e. IsTrue (may_be_negative e)) }
 {
     let (at, word) = needed(words)?;
     match Element::of_code(word) {

@@ -1,7 +1,9 @@
 pub mod Examples
+pub mod RecordExamples
 pub mod Machines
 pub mod Lists
 pub mod SoundSteps
+pub mod Floors
 pub mod Totals
 pub mod Reached
 pub mod Workers
@@ -17,6 +19,7 @@ pub mod Measures
 pub mod PlanOrder
 pub mod PlanMade
 pub mod MachineSteps
+pub mod TurnsAndHauls
 pub mod Replays
 pub mod ScoreRanges
 pub mod FairPlans

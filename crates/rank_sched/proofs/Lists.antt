@@ -9,7 +9,7 @@ use Rattle.std.proofs.lemmas.Grind.{flat_map-append}
 use Rattle.std.proofs.lemmas.List.{map-append}
 use Rattle.std.proofs.lemmas.List.Elements.{All-append, All-contains, Contains-append_left, Contains-append_right}
 use Rattle.ghcn_fields.specs.Floor.{IsAtLeast}
-pub use Rattle.ghcn_files.proofs.Ordered.{each-weaker}
+pub use Rattle.ghcn_files.proofs.Among.{each-weaker}
 pub use Rattle.ghcn_series.proofs.ListFacts.{each-append}
 use Rattle.rank_scores.specs.declared.candidate.Candidate.{Candidate}
 use Rattle.rank_pool.specs.First.{first, kth, in_order}

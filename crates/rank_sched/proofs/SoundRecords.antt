@@ -25,7 +25,7 @@ use Rattle.rank_sched.specs.Machine.{greater_floor}
 use Rattle.rank_sched.specs.SoundRun.{NumbersRise}
 use Rattle.rank_sched.specs.Task.{Task}
 use Rattle.rank_sched.proofs.Lists.{each-weaker, one_there}
-use Rattle.rank_sched.proofs.SoundSteps.{floor-more}
+use Rattle.rank_sched.proofs.Floors.{floor-more}
 use Rattle.rank_sched.proofs.OneList.{by-other}
 use Rattle.rank_sched.proofs.Totals.{times-cons, range-push}
 

@@ -10,6 +10,7 @@ use Rattle.std.proofs.lemmas.Cmp.{int_cmp_total, on_total}
 use Rattle.std.proofs.lemmas.Int.{ints}
 use Rattle.std.proofs.lemmas.List.Elements.{filter-append}
 use Rattle.ghcn_fields.specs.Sorting.{placed, sorted_by}
+use Rattle.ghcn_files.proofs.Among as among
 use Rattle.ghcn_files.proofs.Ordered as ordered
 use Rattle.ghcn_files.specs.declared.station.StationId.{StationId}
 use Rattle.ghcn_files.specs.declared.element.Element.{Element}
@@ -42,7 +43,7 @@ module _ {X : Type 0} (cmp : X → X → Ordering) (total : IsTotalOrder cmp) (f
   before_all : (x y : X) (ys : List X) → first x y ≡ true → AllByRecursion (λ z. first y z ≡ true) ys
       → AllByRecursion (λ z. first x z ≡ true) ys
   before_all x y ys e h =
-      ordered.each-weaker (λ z. first y z ≡ true) (λ z. first x z ≡ true) ys
+      among.each-weaker (λ z. first y z ≡ true) (λ z. first x z ≡ true) ys
       (λ z f. ordered.first_trans cmp total first first-is x y z e f) h
 
   -- what passes takes its place among those that pass

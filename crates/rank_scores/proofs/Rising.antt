@@ -9,7 +9,8 @@ use Rattle.std.specs.Ordering.{int_cmp}
 use Rattle.std.specs.declared.cmp.Ordering.TheVariants.{Less}
 use Rattle.std.proofs.lemmas.Bool.{cond_both, and_parts}
 use Rattle.std.proofs.lemmas.Int.{ints}
-pub use Rattle.ghcn_files.proofs.Ordered.{each-map, each-weaker as from_each}
+pub use Rattle.ghcn_files.proofs.Ordered.{each-map}
+pub use Rattle.ghcn_files.proofs.Among.{each-weaker as from_each}
 pub use Rattle.ghcn_series.proofs.ListFacts.{all-filter}
 use Rattle.ghcn_series.specs.Series.{DayValue, Usable, IsSeries, value_on, is_by_day}
 use Rattle.rank_query.specs.Asked.{Asked}

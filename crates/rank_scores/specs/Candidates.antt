@@ -33,15 +33,16 @@ pub data Shape : Type 0 where
   Windows : ℕ → Shape
   Spells : (ℤ → Bool) → Shape
 
--- what a score of the query language ranks
+-- what a score of the query language ranks: of spells, days of less than 1 mm, of at least 1 mm, of at least that many
+-- tenths of a degree, or of at most that many; precipitation is in tenths of a millimetre
 abbrev pub shape : Score → Shape
 shape (Highest e) = Days (λ v. v)
 shape (Lowest e) = Days neg_ℤ
 shape (Sum n e) = Windows n
-shape Dry = Spells (test_of spells.Dry)
-shape Wet = Spells (test_of spells.Wet)
-shape (Hot t) = Spells (test_of (spells.Hot t))
-shape (Cold t) = Spells (test_of (spells.Cold t))
+shape Dry = Spells (λ v. int_lt v (pos 10))
+shape Wet = Spells (λ v. int_le (pos 10) v)
+shape (Hot t) = Spells (λ v. int_le t v)
+shape (Cold t) = Spells (λ v. int_le v t)
 
 -- the admitted usable days of a series, with their values
 abbrev pub admitted : Asked → Usable → List DayValue
@@ -114,13 +115,10 @@ candidates q s = leaders q.per (contenders q s)
 abbrev pub IsContenderOf : Asked → Usable → Candidate → Type 0
 IsContenderOf q s c = (c.id ≡ s.id) × IsContender (shape q.score) (admitted q s) c.first c.last c.score
 
--- no contender of the series that is a rival of c precedes it
-abbrev pub IsUnrivalled : Asked → Usable → Candidate → Type 0
-IsUnrivalled q s c = (d : Candidate) → IsContenderOf q s d → are_rivals q.per d c ≡ true → precedes d c ≡ false
-
--- a candidate is a contender that no rival precedes
+-- a candidate is a contender of the series that none of its rivals precedes
 abbrev pub IsCandidateOf : Asked → Usable → Candidate → Type 0
-IsCandidateOf q s c = IsContenderOf q s c × IsUnrivalled q s c
+IsCandidateOf q s c = IsContenderOf q s c
+    × ((d : Candidate) → IsContenderOf q s d → are_rivals q.per d c ≡ true → precedes d c ≡ false)
 
 -- the list has the contenders of the series, and nothing else
 abbrev pub AreTheContenders : Asked → Usable → List Candidate → Type 0

@@ -1,6 +1,6 @@
 use Rattle.std.proofs.Common.{◌≡◌, true, rules}
 use Rattle.rank_pool.specs.First.{comes_first}
-use Rattle.rank_merge.proofs.FirstRows.{one_in_front}
+use Rattle.rank_merge.proofs.RowFloors.{one_in_front}
 use Rattle.rank_merge.proofs.rows.behind.Goals as goal
 
 -- one row more that the floor comes before

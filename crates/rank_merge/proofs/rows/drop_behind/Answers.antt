@@ -5,7 +5,7 @@ use Rattle.rank_pool.specs.First.{comes_first}
 use Rattle.rank_papers.specs.declared.paper.Row.{Row}
 use Rattle.rank_papers.specs.ReportLines.{named_in}
 use Rattle.rank_merge.specs.Found.{IsCut}
-use Rattle.rank_merge.proofs.FirstRows.{cut_off}
+use Rattle.rank_merge.proofs.RowFloors.{cut_off}
 use Rattle.rank_merge.proofs.rows.drop_behind.Goals as goal
 
 -- the rows from the place on were removed

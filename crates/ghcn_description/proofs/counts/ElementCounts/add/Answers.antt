@@ -7,8 +7,7 @@ pub returns : goal.returns
 returns c m right of flagged = record {
   element = refl;
   lines = c.in_ok-self.ensures;
-  series = c.in_ok-self-2.ensures ∙ ap (λ n. c.args.self.now.series + n) c.one_if.ensures;
-  days = c.in_ok-self-3.ensures ∙ ap (λ n. c.args.self.now.days + n) (ones-of_row m c.args.row.now right of);
-  flagged = c.in_ok-self-4.ensures ∙ ap (λ n. c.args.self.now.flagged + n) flagged;
+  days = c.in_ok-self-2.ensures ∙ ap (λ n. c.args.self.now.days + n) (ones-of_row m c.args.row.now right of);
+  flagged = c.in_ok-self-3.ensures ∙ ap (λ n. c.args.self.now.flagged + n) flagged;
   span = λ days is. c.joined-self.ensures days _ is (c.span_of.ensures m right of);
 }

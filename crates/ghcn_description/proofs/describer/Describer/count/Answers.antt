@@ -1,8 +1,8 @@
 use Rattle.std.proofs.Common.{◌≡◌, ℕ, Bool, false, not, List, [], get_or, set, refl, sym, ap, ◌∙◌, subst}
-use Rattle.std.specs.Prelude.{◌&&◌, ◌||◌, ◌==◌}
+use Rattle.std.specs.Prelude.{◌||◌, ◌==◌}
 use Rattle.std.proofs.lemmas.List.{get_or_default}
 use Rattle.ghcn_files.specs.Elements.{element_index}
-use Rattle.ghcn_description.specs.Steps.{CountsMonth, has_day}
+use Rattle.ghcn_description.specs.Steps.{CountsMonth}
 use Rattle.ghcn_description.proofs.MonthFigures.{word-has_day}
 use Rattle.ghcn_description.proofs.describer.Describer.count.Goals as goal
 
@@ -15,26 +15,20 @@ returns c m right of flagged =
     let index : ℕ = element_index m.element in
     let bits : List Bool = get_or items place [] in
     let is_at : at ≡ index = c.place_of-at.ensures ∙ ap element_index of.element in
-    let read : c.index.result.now ≡ bits =
-    c.index.ensures ∙ get_or_default items place c.index.result.now [] c.requires.place in
     let lent : c.index_mut.result.now ≡ bits =
     c.index_mut.ensures.value ∙ get_or_default items place c.index_mut.result.now [] c.requires.place in
-    let had : Bool = get_or c.index.result.now at false in
-    let has : not (c.args.row.now.word == 0) ≡ has_day m = word-has_day m c.args.row.now right of in
     record {
       reader = refl;
       others = refl;
       unlisted = refl;
-      had = had;
-      had_day = ap (λ b. get_or b at false) read ∙ ap (λ k. get_or bits k false) is_at;
-      with_days = ap (λ b. set items place (set b at (had || not (c.args.row.now.word == 0)))) lent
-          ∙ ap (λ k. set items place (set bits k (had || not (c.args.row.now.word == 0)))) is_at
-          ∙ ap (λ t. set items place (set bits index (had || t))) has;
+      with_days = ap (λ b. set items place (set b at (get_or b at false || not (c.args.row.now.word == 0)))) lent
+          ∙ ap (λ k. set items place (set bits k (get_or bits k false || not (c.args.row.now.word == 0)))) is_at
+          ∙ ap (λ t. set items place (set bits index (get_or bits index false || t)))
+          (word-has_day m c.args.row.now right of);
       before = c.index-self-at.result;
       after = c.add.new.self;
       there = c.index-self-at.is ∙ ap (λ k. get_or c.args.self.now.elements k c.index-self-at.result) is_at;
       elements = ap (λ k. set c.args.self.now.elements k c.add.new.self) is_at;
-      counted = subst (λ t. CountsMonth c.index-self-at.result c.add.new.self m (t && not had)) has
-          (subst (λ e. CountsMonth e c.add.new.self m (not (c.args.row.now.word == 0) && not had))
-          (sym c.index-self-at.is) (c.in_ok-add.ensures m right of flagged));
+      counted = subst (λ e. CountsMonth e c.add.new.self m) (sym c.index-self-at.is)
+          (c.in_ok-add.ensures m right of flagged);
     }

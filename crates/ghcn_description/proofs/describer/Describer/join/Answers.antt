@@ -1,9 +1,7 @@
-use Rattle.std.proofs.Common.{◌≡◌, Bool, List, length, ap, ap₂, arith, subst, ◌∙◌}
+use Rattle.std.proofs.Common.{◌≡◌, Bool, List, length, ap₂, arith, ◌∙◌}
 use Rattle.std.specs.Prelude.{◌||◌}
 use lib.Lanes.{zip2}
-use Rattle.std.specs.Vec.{with_items}
 use Rattle.std.proofs.lemmas.List.{with_items_is}
-use Rattle.ghcn_description.specs.Steps.{JoinElements}
 use Rattle.ghcn_description.proofs.JoinedLines.{described-joined, described-apart}
 use Rattle.ghcn_description.proofs.describer.Describer.join.Goals as goal
 
@@ -21,6 +19,4 @@ returns-clause-joined c =
     let marks = with_items_is c.args.self.with_days news long ∙ c.join_marks.ensures
     ∙ ap₂ (zip2 (zip2 ◌||◌)) c.deref_mut.ensures.value c.deref.ensures.value in
     described-joined c.args.self c.args.next _ (rw c.in-Some.is at c.in_ok-reader.ensures.joined) marks
-    (subst (λ (m : List (List Bool)). JoinElements c.args.self.elements c.args.next.elements m c.join_counts.new.elements)
-    c.deref-2.ensures.value c.in_ok-join_counts.ensures)
-    c.in_ok-join.ensures c.in_ok-sum.ensures
+    c.in_ok-join_counts.ensures c.in_ok-join.ensures c.in_ok-sum.ensures

@@ -1,7 +1,8 @@
-use Rattle.std.proofs.Common.{◌+◌, ◌∷◌, [], ◌++◌, false, refl, ap, ◌∙◌, subst, arith}
+use Rattle.std.proofs.Common.{◌∷◌, [], ◌++◌, false, refl, ap, ◌∙◌, subst, arith}
 use Rattle.std.specs.Prelude.{replicate}
+use Rattle.std.proofs.lemmas.List.{replicate_more}
 use Rattle.ghcn_series.specs.Gathered.{HasReadFor}
-use Rattle.ghcn_description.proofs.DescribedLines.{described-nothing, one-more}
+use Rattle.ghcn_description.proofs.DescribedLines.{described-nothing}
 use Rattle.ghcn_description.proofs.describer.Describer.new.Goals as goal
 
 -- one station more has none
@@ -11,7 +12,7 @@ loop-preserved c = record {
   within = omega (arith, c.loop-test.true);
   marks = c.in_ok-push.ensures.items
       ∙ ap (λ bs. bs ++ (false ∷ false ∷ false ∷ false ∷ false ∷ []) ∷ []) c.loop.invariant.marks
-      ∙ one-more c.loop.counter (c.loop.counter + 1) (false ∷ false ∷ false ∷ false ∷ false ∷ []) refl;
+      ∙ replicate_more c.loop.counter (false ∷ false ∷ false ∷ false ∷ false ∷ []);
 }
 
 -- no line is read

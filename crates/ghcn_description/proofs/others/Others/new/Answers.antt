@@ -1,4 +1,4 @@
-use Rattle.ghcn_description.proofs.OtherCodes.{nothing-counted}
+use Rattle.ghcn_description.proofs.LinesOfCodes.{nothing-counted}
 use Rattle.ghcn_description.proofs.others.Others.new.Goals as goal
 
 -- no line has another code

@@ -1,7 +1,7 @@
 use Rattle.std.proofs.Common.{◌≡◌, ◌++◌, ◌∙◌, map, Ok, Err, OnOk}
 use Rattle.rank_papers.specs.ReportLines.{named_in}
 use Rattle.rank_merge.specs.Merged.{first_rows}
-use Rattle.rank_merge.proofs.FirstRows.{gathered_rows}
+use Rattle.rank_merge.proofs.RowFloors.{gathered_rows}
 use Rattle.rank_merge.proofs.gathering.Gathered.add.Goals as goal
 
 -- the floor is one of the rows of all parts, too

@@ -3,7 +3,7 @@ use Rattle.std.specs.Prelude.{slice_get}
 use Rattle.std.specs.Option.{option_map}
 use Rattle.rank_papers.specs.declared.paper.Row.{Row}
 use Rattle.rank_papers.specs.ReportLines.{named_in}
-use Rattle.rank_merge.proofs.FirstRows.{first_again, kept_floor}
+use Rattle.rank_merge.proofs.RowFloors.{first_again, kept_floor}
 use Rattle.rank_merge.proofs.gathering.Gathered.settle.Goals as goal
 
 -- the first rows of those that stay are theirs

@@ -5,7 +5,8 @@ use Rattle.rank_sched.specs.Run.{Running}
 use Rattle.rank_sched.specs.declared.event.Event.TheVariants.{Settle}
 use Rattle.std.proofs.lemmas.List.{length-set}
 use Rattle.std.proofs.lemmas.Option.{slice_get_within}
-use Rattle.rank_sched.proofs.MachineSteps.{settle_made, same_state_of, not_looked, is_now_by}
+use Rattle.rank_sched.proofs.MachineSteps.{settle_made, same_state_of, not_looked}
+use Rattle.rank_sched.proofs.TurnsAndHauls.{is_now_by}
 use Rattle.rank_sched.proofs.MachineSteps.{running_failed, no_worker_refused, not_now_refused, still_running}
 use Rattle.rank_sched.proofs.machine.Machine.settle.Goals as goal
 

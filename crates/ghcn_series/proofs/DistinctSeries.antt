@@ -1,0 +1,56 @@
+-- No two series have the same station and element.
+use Rattle.std.proofs.Common.{◌≡◌, false, List, [], ◌∷◌, map}
+use Rattle.std.specs.List.{flat_map, AllByRecursion, IsDistinct}
+use Rattle.std.proofs.lemmas.Bool.{and_left, and_right}
+use Rattle.ghcn_files.specs.declared.station.Station.{Station}
+use Rattle.ghcn_files.specs.declared.element.Element.{Element}
+use Rattle.ghcn_files.specs.declared.element.Element.TheVariants.{Prcp, Snow, Snwd, Tmax, Tmin}
+use Rattle.ghcn_files.specs.Ids.{same_id}
+use Rattle.ghcn_files.specs.Elements.{elements, same_element}
+use Rattle.ghcn_series.specs.Series.{Usable}
+use Rattle.ghcn_series.specs.Says.{Fact, usable_of}
+use Rattle.ghcn_series.specs.Held.{same_series}
+use Rattle.ghcn_series.proofs.Places.{ids}
+use Rattle.ghcn_series.proofs.StationMonths.{elements_differ}
+use Rattle.ghcn_series.proofs.ListFacts.{each-append, both_distinct}
+
+-- ---- no two series have the same station and element
+
+-- the series of one element is none of those of the others
+others_apart : (facts : List Fact) (s : Station) (e : Element) (es : List Element)
+    → AllByRecursion (λ f. same_element e f ≡ false) es
+    → AllByRecursion (λ u. same_series (usable_of facts s e) u ≡ false) (map (usable_of facts s) es)
+others_apart facts s e [] other = tt
+others_apart facts s e (f ∷ fs) other =
+    (and_right (same_id s.id s.id) (same_element e f) other.0, others_apart facts s e fs other.1)
+
+-- the series of distinct elements are distinct
+elements_apart : (facts : List Fact) (s : Station) (es : List Element) → IsDistinct same_element es
+    → IsDistinct same_series (map (usable_of facts s) es)
+unfolding IsDistinct
+elements_apart facts s [] apart = tt
+elements_apart facts s (e ∷ es) apart = (others_apart facts s e es apart.0, elements_apart facts s es apart.1)
+
+-- all that may be said of these stations
+abbrev pub all_said : List Fact → List Station → List Usable
+all_said facts ss = flat_map (λ s. map (usable_of facts s) elements) ss
+
+-- a series is none of those of stations with other IDs
+ids_apart : (facts : List Fact) (u : Usable) (ss : List Station) → AllByRecursion (λ i. same_id u.id i ≡ false) (ids ss)
+    → AllByRecursion (λ v. same_series u v ≡ false) (all_said facts ss)
+ids_apart facts u [] other = tt
+ids_apart facts u (s ∷ ss) other =
+    let each = λ (e : Element). and_left (same_id u.id s.id) (same_element u.element e) other.0 in
+    each-append (λ v. same_series u v ≡ false) (map (usable_of facts s) elements) (all_said facts ss)
+    (each Prcp, (each Snow, (each Snwd, (each Tmax, (each Tmin, tt))))) (ids_apart facts u ss other.1)
+
+-- if no ID is listed twice, no two of all series have the same station and element
+pub stations_apart : (facts : List Fact) (ss : List Station) → IsDistinct same_id (ids ss)
+    → IsDistinct same_series (all_said facts ss)
+unfolding IsDistinct
+stations_apart facts [] apart = tt
+stations_apart facts (s ∷ ss) apart =
+    let each = λ (e : Element). ids_apart facts (usable_of facts s e) ss apart.0 in
+    both_distinct same_series (map (usable_of facts s) elements) (all_said facts ss)
+    (elements_apart facts s elements elements_differ) (stations_apart facts ss apart.1)
+    (each Prcp, (each Snow, (each Snwd, (each Tmax, (each Tmin, tt)))))
