@@ -48,7 +48,7 @@ pub use Rattle.rank_blocks.specs.Blocks.{block_start, blocks_total, days_in, day
 pub use Rattle.rank_blocks.specs.Bounds.{blocks_bound, blocks_of_window, bound, bound_for, first_blocks}
 pub use Rattle.rank_blocks.specs.Bounds.{greatest_by, greatest_total, holds_such, spell_bound}
 pub use Rattle.rank_blocks.specs.DayRuns.{AllFrom, AllPass, AreBitsOf, AreRuns, ComeFirst, ComeLast, Continues}
-pub use Rattle.rank_blocks.specs.DayRuns.{FollowAtMost, NoneBetween, has_bit, runs_before}
+pub use Rattle.rank_blocks.specs.DayRuns.{FollowAtMost, IsLongest, NoneBetween, has_bit, runs_before}
 pub use Rattle.rank_blocks.specs.Greatest.{IsBlocksBound, IsBlocksTotal, IsBound, IsBoundFor, IsGreatest, IsRunLength}
 pub use Rattle.rank_blocks.specs.Greatest.{IsDayScore, IsSumBound}
 pub use Rattle.rank_blocks.specs.Reached.{IsNear, IsRangeOf, IsTotalFrom, counts, days_in_range, in_range, summaries_in}

@@ -1,7 +1,7 @@
 -- The longest run of days, block by block.
 use Rattle.rank_blocks.proofs.Cited.{◌≡◌, ℕ, zero, suc, ◌+◌, ◌-◌, ◌<◌, ◌≤◌, Bool, true, false, max, ◌⊎◌, inl, inr, sym}
 use Rattle.rank_blocks.proofs.Cited.{ap, ◌∙◌, arith, ℤ, pos, ◌≤ℤ◌, ◌<ℤ◌, ◌+ℤ◌, ◌-ℤ◌, ints, max-eq_left, max-eq_right}
-use Rattle.rank_blocks.proofs.Cited.{Runs, block_start, has_bit, ComeFirst, ComeLast, FollowAtMost, AllFrom, AreRuns}
+use Rattle.rank_blocks.proofs.Cited.{Runs, block_start, has_bit, ComeFirst, ComeLast, IsLongest, AllFrom, AreRuns, subst}
 use Rattle.rank_blocks.proofs.Cited.{runs_before, NoneBetween, AreBitsOf, both_ways, by_lt_z, refl, cases_lt}
 use Rattle.rank_blocks.proofs.DaysInBlocks.{distance}
 
@@ -42,7 +42,7 @@ module _ (such : ℤ → Bool) where
 
   module _ (r : Runs) (are : AreRuns such r) (word f l m : ℕ) (bits : AreBitsOf such r.next word)
       (firsts : ComeFirst (has_bit word) 32 f) (lasts : ComeLast (has_bit word) 32 l)
-      (most : FollowAtMost (has_bit word) 32 m) where
+      (most : IsLongest (has_bit word) 32 (max r.longest (r.last + f)) m) where
     -- a day of the block is of the kind as its bit says
     of_bit : (j : ℕ) (d : ℤ) (v : Bool) → j < 32 → d ≡ block_start r.next +ℤ pos j → has_bit word j ≡ v → such d ≡ v
     of_bit j d v lt is bit = ap such is ∙ sym (bits j lt) ∙ bit
@@ -64,25 +64,26 @@ module _ (such : ℤ → Bool) where
 
     -- no run that ends in the block or before it is longer than those that are noted
     most-so_far : (first : ℤ) (len : ℕ) → (first +ℤ pos len) ≤ℤ (block_start r.next +ℤ pos 32)
-        → AllFrom such first len → len ≤ max (max r.longest m) (r.last + f)
+        → AllFrom such first len → len ≤ m
     most-so_far first len within pass =
         by_lt_z (block_start r.next) (first +ℤ pos len) (λ over. by_lt_z first (block_start r.next)
-        (λ cross. let most = over-most first len cross over within pass in omega arith) (λ behind.
+        (λ cross. let least = over-most first len cross over within pass in omega (arith, most.no_less)) (λ behind.
         let far = distance (block_start r.next) first behind in
         let here = most.nowhere_more far.0 len (omega (arith, ints)) (λ k low high.
         grind (arith, ints, bits k, pass (k - far.0))) in
-        omega arith)) (λ before. let old = are.nowhere_more first len before pass in omega arith)
+        here)) (λ before. let old = are.nowhere_more first len before pass in omega (arith, most.no_less))
 
     -- the longest run that is noted is somewhere
-    somewhere-so_far : (first : ℤ) × AllFrom such first (max (max r.longest m) (r.last + f))
+    somewhere-so_far : (first : ℤ) × AllFrom such first m
     somewhere-so_far =
         let P : ℕ → Type 0 = λ n. (first : ℤ) × AllFrom such first n in
-        let place = most.somewhere in
-        let here : P m = (
-          block_start r.next +ℤ pos place.0,
-          λ i lt. grind (arith, ints, bits (place.0 + i), place.1, place.2 (place.0 + i)),
-        ) in
-        max-one P _ _ (max-one P _ _ are.somewhere here) (are.from, over_border)
+        elim most.somewhere [
+          | inl is ↦ subst P (sym is) (max-one P _ _ are.somewhere (are.from, over_border))
+          | inr place ↦ (
+            block_start r.next +ℤ pos place.0,
+            λ i lt. grind (arith, ints, bits (place.0 + i), place.1, place.2 (place.0 + i)),
+          )
+        ]
 
     -- if not all days come first, not all come last
     few-last : f < 32 → l < 32
@@ -90,7 +91,7 @@ module _ (such : ℤ → Bool) where
 
     -- what was noted goes on with the block
     pub runs-more : (new : Runs) → new.next ≡ r.next +ℤ pos 1 → (f ≡ 32 → new.last ≡ r.last + f)
-        → (f < 32 → new.last ≡ l) → new.longest ≡ max (max r.longest m) (r.last + f) → AreRuns such new
+        → (f < 32 → new.last ≡ l) → new.longest ≡ m → AreRuns such new
     runs-more new next full part longest =
         let place = somewhere-so_far in
         let tail : (from : ℤ) × (from +ℤ pos new.last ≡ block_start new.next) × AllFrom such from new.last

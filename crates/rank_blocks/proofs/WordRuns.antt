@@ -4,7 +4,10 @@ use Rattle.rank_blocks.proofs.Cited.{refl, ap, ◌∙◌, arith, w32, bit_and, b
 use Rattle.rank_blocks.proofs.Cited.{trailing_zeros, bit_at-zero, bit_at_and, bit_at_above, bit_at_cat_low}
 use Rattle.rank_blocks.proofs.Cited.{bit_at_cat_high, bit_at_not, bit_at_ones, bit_at-trailing_ones}
 use Rattle.rank_blocks.proofs.Cited.{bit_at-trailing_zeros, pow-succ', has_bit, AllPass, ComeFirst, ComeLast, ints}
-use Rattle.rank_blocks.proofs.Cited.{cases_lt}
+use Rattle.rank_blocks.proofs.Cited.{cases_lt, sym, ◌==◌}
+use Rattle.std.specs.Prelude.{count_ones}
+use Rattle.std.proofs.lemmas.Nat.Bits.{bit_at-suc, bit_at_lowest}
+use lib.Count.{ones_step}
 use Rattle.std.proofs.lemmas.Nat.{leading_top}
 use Rattle.ghcn_series.proofs.LastDays.{highest-bit}
 
@@ -107,3 +110,21 @@ last-ones word fits =
                 grind (arith, ints, bit_at_not w32 word k fits, ap (bit_at unset) here ∙ highest);
           }
     ]
+
+-- the bits of half a word are those of the word from the second on
+half-bit : (word k : ℕ) → has_bit (word / 2) k ≡ has_bit word (k + 1)
+half-bit word k =
+    let at : suc k ≡ k + 1 = omega arith in
+    ap (λ (b : ℕ). b == 1) (sym (bit_at-suc word k)) ∙ ap (has_bit word) at
+
+-- set bits that follow one another are no more than all that are set
+pub few-ones : (len from word : ℕ) → AllPass (has_bit word) from (from + len) → len ≤ count_ones word
+few-ones zero from word pass = omega arith
+few-ones (suc n) zero word pass =
+    let half = few-ones n 0 (word / 2) (λ k low high. half-bit word k ∙ pass (k + 1) (omega arith) (omega arith)) in
+    let lowest : word % 2 ≡ 1 = grind (arith, ints, pass 0 (omega arith) (omega arith), bit_at_lowest word) in
+    omega (arith, ones_step word, lowest, half)
+few-ones (suc n) (suc from) word pass =
+    let half = few-ones (suc n) from (word / 2)
+    (λ k low high. half-bit word k ∙ pass (k + 1) (omega arith) (omega arith)) in
+    omega (arith, ones_step word, half)

@@ -1,5 +1,5 @@
 -- How days of one kind follow one another: in one block, by the bits of a word, and in all blocks before one.
-use Rattle.std.specs.Prelude.{◌≡◌, ℕ, ◌+◌, ◌<◌, ◌≤◌, ◌==◌, Bool, true, false, ℤ, pos, ◌+ℤ◌, ◌-ℤ◌, ◌≤ℤ◌, ◌<ℤ◌}
+use Rattle.std.specs.Prelude.{◌≡◌, ℕ, ◌+◌, ◌<◌, ◌≤◌, ◌==◌, ◌⊎◌, Bool, true, false, ℤ, pos, ◌+ℤ◌, ◌-ℤ◌, ◌≤ℤ◌, ◌<ℤ◌}
 use Rattle.std.specs.Int.{bit_at}
 use Rattle.rank_blocks.specs.declared.runs.Runs.{Runs}
 use Rattle.rank_blocks.specs.Blocks.{block_start}
@@ -27,6 +27,12 @@ pub record ComeLast (passes : ℕ → Bool) (places n : ℕ) : Type 0 where
 -- among that many places n that pass follow one another somewhere, and nowhere more
 pub record FollowAtMost (passes : ℕ → Bool) (places n : ℕ) : Type 0 where
   pub somewhere : (from : ℕ) × (from + n ≤ places) × AllPass passes from (from + n)
+  pub nowhere_more : (from len : ℕ) → from + len ≤ places → AllPass passes from (from + len) → len ≤ n
+
+-- the greater of a number and of how many that pass follow one another at most among that many places
+pub record IsLongest (passes : ℕ → Bool) (places known n : ℕ) : Type 0 where
+  pub no_less : known ≤ n
+  pub somewhere : (n ≡ known) ⊎ ((from : ℕ) × (from + n ≤ places) × AllPass passes from (from + n))
   pub nowhere_more : (from len : ℕ) → from + len ≤ places → AllPass passes from (from + len) → len ≤ n
 
 -- that many days from one on are all of the kind

@@ -2,7 +2,7 @@
 
 ghost use Rattle.std.specs.Prelude.{◌≡◌, ◌+◌, ◌<◌, ◌≤◌, ◌^◌, pos, ◌+ℤ◌, ◌≤ℤ◌};
 ghost use Rattle.ghcn_fields.specs.Days.{IsBlock};
-ghost use Rattle.rank_blocks.specs.DayRuns.{has_bit, runs_before, Continues, FollowAtMost};
+ghost use Rattle.rank_blocks.specs.DayRuns.{has_bit, runs_before, Continues, FollowAtMost, IsLongest};
 
 use crate::range::BlockRange;
 use crate::summary::{BLOCK_DAYS, Summary};
@@ -46,6 +46,7 @@ impl Runs {
         };
         let word = block.days;
         let first = word.trailing_ones();
+        let longest = self.longest.max(before + first);
         Runs {
             next: block.number + 1,
             last: if first == BLOCK_DAYS {
@@ -53,8 +54,20 @@ impl Runs {
             } else {
                 word.leading_ones()
             },
-            longest: self.longest.max(longest_ones(word)).max(before + first),
+            longest: longest_with(longest, word),
         }
+    }
+}
+
+/// That many, or how many of a word's bits that are set follow one another at most, if these are more. Most words
+/// have no more bits set than follow one another elsewhere, so they aren't looked at.
+fn longest_with(longest: u32, word: u32) -> u32
+    ensures { IsLongest (has_bit word) 32 longest result }
+{
+    if word.count_ones() <= longest {
+        longest
+    } else {
+        longest.max(longest_ones(word))
     }
 }
 
