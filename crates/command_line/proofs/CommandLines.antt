@@ -1,8 +1,7 @@
 -- What is read of a parse, by the words of its meaning.
 use Rattle.std.proofs.Common.{◌≡◌, Bool, true, false, List, ◌∷◌, Option, Some, None, IsSomeAnd, unwrap_or, option_map}
-use Rattle.std.proofs.Common.{is_some, IsSome, IfSome, true≢false, codes, refl, sym, ap, ap₂, subst, arith, length, ◌%◌, map, get_or, ◌∙◌, ◌⊎◌, ◌↔◌, inl, inr, ◌||◌}
+use Rattle.std.proofs.Common.{is_some, IsSome, true≢false, codes, refl, sym, ap, subst, arith, length, ◌%◌, map, get_or, ◌∙◌, ◌⊎◌, ◌↔◌, inl, inr, ◌||◌}
 use Rattle.std.specs.Prelude.{Box, if◌then◌else◌, ℤ, ℕ, [], Result, Ok, Err}
-use Rattle.std.specs.Box.{box_value}
 use Rattle.std.specs.Option.{option_eq}
 use Rattle.std.specs.Str.{bytes_eq}
 use Rattle.std.proofs.lemmas.List.{length-map}
@@ -21,7 +20,6 @@ use Rattle.command_line.specs.CommandLine.{TellsVersion, OnVersion}
 use Rattle.clap.specs.Walk.{answers_to, stop_after}
 use Rattle.clap.specs.Simple.{argument_words, built, entered, names_of, rows_at}
 use Rattle.clap.specs.declared.parser.matches.SubCommand.{SubCommand}
-use Rattle.clap.specs.declared.parser.matches.ArgMatches.TheViews.{out-SubCommand}
 use Rattle.command_line.specs.CommandLine.{extremes_app, IsGuess, IsCount, IsFlag, IsName}
 use Rattle.command_line.specs.Fitting.{papers_to_merge, AreInPairs}
 
@@ -114,10 +112,6 @@ only_name words r e =
     met_name (stop_after (built extremes_app).top.rules (names_of (built extremes_app))
     (argument_words extremes_app words)) r e
 
--- the name of a subcommand
-abbrev pub name_met : {Z : Type 0} → Option (Box SubCommand Z) → Option Text
-name_met o = option_map (λ b. (out-SubCommand (box_value b)).name.now) o
-
 -- if one was met, and none but some names can be, it has one of them
 pub met_one : {Z : Type 0} (P : Text → Type 0) (o : Option (Box SubCommand Z)) (t : Option (Text × List Row))
     → is_some o ≡ true → subcommand_rows o ≡ t → ((r : Text × List Row) → t ≡ Some r → P r.0)
@@ -125,34 +119,10 @@ pub met_one : {Z : Type 0} (P : Text → Type 0) (o : Option (Box SubCommand Z))
 met_one P None t some e only = absurd cc
 met_one P (Some s) t some e only = only _ (sym e)
 
--- so one was met
-pub some_met : (P : Text → Type 0) (o : Option (Text × List Row)) → IsSomeAnd o (λ r. P r.0) → IsSome o
-some_met P None is = absurd is
-some_met P (Some r) is = refl
-
--- one that was met has a name of those
-pub name_of_met : {Z : Type 0} (P : Text → Type 0) (o : Option (Box SubCommand Z))
-    → IsSomeAnd (subcommand_rows o) (λ r. P r.0) → (name : Text) × (name_met o ≡ Some name) × P name
-name_of_met P None is = absurd is
-name_of_met P (Some s) is = (_, refl, is)
-
--- one that was met by a name, and the rows after it
-pub met_rows : {Z : Type 0} (o : Option (Box SubCommand Z)) (name : Text) (rows : List Row) → name_met o ≡ Some name
-    → option_map (λ p. p.1) (subcommand_rows o) ≡ Some rows → subcommand_rows o ≡ Some (name, rows)
-met_rows None name rows is behind = absurd cc
-met_rows (Some s) name rows is behind =
-    ap₂ (λ (a : Text) (b : List Row). Some (a, b)) (ap (λ (q : Option Text). unwrap_or q name) is)
-    (ap (λ (q : Option (List Row)). unwrap_or q rows) behind)
-
-module _ (P : Text → List Row → Type 0) (o : Option (Text × List Row)) (name : Text) (rows : List Row)
-    (e : o ≡ Some (name, rows)) where
-  -- a fact of one that is met by its name
-  pub fact-met : P name rows → IfSome o (λ m. P m.0 m.1)
-  fact-met fact = subst (λ (q : Option (Text × List Row)). IfSome q (λ m. P m.0 m.1)) (sym e) fact
-
-  -- and by its name a fact of one that is met
-  pub met-fact : IfSome o (λ m. P m.0 m.1) → P name rows
-  met-fact fact = subst (λ (q : Option (Text × List Row)). IfSome q (λ m. P m.0 m.1)) e fact
+-- and it has rows
+pub met_some : {Z : Type 0} (o : Option (Box SubCommand Z)) → is_some o ≡ true → IsSome (subcommand_rows o)
+met_some None some = absurd cc
+met_some (Some s) some = refl
 
 -- equal texts begin alike
 first_code : (a : ℕ) (more bs : List ℕ) → a ∷ more ≡ bs → a ≡ get_or bs 0 a

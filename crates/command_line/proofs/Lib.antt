@@ -1,5 +1,6 @@
 pub mod CommandLines
 pub mod Fitting
 pub mod Pairs
+pub mod Subcommands
 pub mod CommandExamples
 pub mod QueryExamples

@@ -1,117 +1,68 @@
-use Rattle.std.proofs.Common.{◌≡◌, ◌∙◌, inl, inr, true, false, refl, ap, subst, sym, codes, IsSome, Some}
-use Rattle.std.proofs.lemmas.Result.{IfOk-weaker}
-use Rattle.clap.specs.Words.{Text, found_of, rows_of, subcommand_rows_of}
+use Rattle.std.proofs.Common.{codes, refl, inl, inr}
+use Rattle.std.specs.Prelude.{Ok}
 use Rattle.command_line.specs.declared.asked.Command.TheVariants.{Table}
-use Rattle.command_line.specs.CommandLine.{IsCommand, IsName}
-use Rattle.command_line.specs.Fitting.{FitTogether}
-use Rattle.command_line.proofs.CommandLines.{name_of_met, met_rows, fact-met, met-fact}
+use Rattle.command_line.specs.CommandLine.{IsTabling}
+use Rattle.command_line.proofs.Subcommands.{not-found, one-named, found-by, command-read, fits-together}
 use Rattle.command_line.proofs.words.command_of.Goals as goal
 
 -- one of the five was met
 pub unreachable-requires : goal.unreachable-requires
 unreachable-requires c =
-    let named = name_of_met IsName _ c.requires in
-    elim named.2 [
-      | inl is ↦ let bad : false ≡ true = subst (λ o. IsSome o) c.in_default.is
-          (c.subcommand_matches.ensures.found.1 (named.1 ∙ ap (λ (n : Text). Some n) is)) in cc
-      | inr others ↦ elim others [
-        | inl is ↦ let bad : false ≡ true = subst (λ o. IsSome o) c.in_default-subcommand_matches.is
-            (c.subcommand_matches-2.ensures.found.1 (named.1 ∙ ap (λ (n : Text). Some n) is)) in cc
-        | inr last ↦ elim last [
-          | inl is ↦ let bad : false ≡ true = subst (λ o. IsSome o) c.in_default-subcommand_matches-2.is
-              (c.subcommand_matches-3.ensures.found.1 (named.1 ∙ ap (λ (n : Text). Some n) is)) in cc
-          | inr end ↦ elim end [
-            | inl is ↦ let bad : false ≡ true = subst (λ o. IsSome o) c.in_default-subcommand_matches-3.is
-                (c.subcommand_matches-4.ensures.found.1 (named.1 ∙ ap (λ (n : Text). Some n) is)) in cc
-            | inr is ↦ let bad : false ≡ true = subst (λ o. IsSome o) c.in_default-subcommand_matches-4.is
-                (c.subcommand_matches-5.ensures.found.1 (named.1 ∙ ap (λ (n : Text). Some n) is)) in cc
-          ]
-        ]
-      ]
-    ]
+    one-named _ c.requires
+    (not-found _ c.subcommand_matches.ensures.found c.in_default.is)
+    (not-found _ c.subcommand_matches-2.ensures.found c.in_default-subcommand_matches.is)
+    (not-found _ c.subcommand_matches-3.ensures.found c.in_default-subcommand_matches-2.is)
+    (not-found _ c.subcommand_matches-4.ensures.found c.in_default-subcommand_matches-3.is)
+    (not-found _ c.subcommand_matches-5.ensures.found c.in_default-subcommand_matches-4.is)
 
--- what is read after `rank` is its command
-pub returns-in-Some-clause-ok : goal.returns-in-Some-clause-ok
-returns-in-Some-clause-ok c =
-    let met : subcommand_rows_of c.args.matches.now ≡ Some (codes "rank", rows_of (found_of c.in-Some.rank.now))
-    = met_rows _ (codes "rank") (rows_of (found_of c.in-Some.rank.now))
-    (c.subcommand_matches.ensures.found.0 (subst (λ o. IsSome o) (sym c.in-Some.is) refl))
+-- what is read after `rank` is its command, and what fits together is refused for memory alone
+pub returns-in-Some : goal.returns-in-Some
+returns-in-Some c =
+    let met = found-by _ (codes "rank") _ _ _ c.subcommand_matches.ensures.found c.in-Some.is
     c.in-Some.ensures.rows in
-    IfOk-weaker c.rank_of.result _ _
-    (λ command is. fact-met (λ n r. IsCommand n r command) _ _ _ met (inl (refl, is))) c.rank_of.ensures.ok
+    record {
+      ok = command-read _ _ _ met _ (λ command is. inl (refl, is)) _ c.rank_of.ensures.ok;
+      together = λ fit. c.rank_of.ensures.fit ((fits-together _ _ _ met fit).rank refl);
+      asked = c.rank_of.ensures.asked;
+    }
 
--- and what fits together is refused for memory alone
-pub returns-in-Some-clause-together : goal.returns-in-Some-clause-together
-returns-in-Some-clause-together c =
-    let met : subcommand_rows_of c.args.matches.now ≡ Some (codes "rank", rows_of (found_of c.in-Some.rank.now))
-    = met_rows _ (codes "rank") (rows_of (found_of c.in-Some.rank.now))
-    (c.subcommand_matches.ensures.found.0 (subst (λ o. IsSome o) (sym c.in-Some.is) refl))
-    c.in-Some.ensures.rows in
-    λ fit. c.rank_of.ensures.fit ((met-fact FitTogether _ _ _ met fit).rank refl)
-
--- what is read after `merge` is its command
-pub returns-in-Some-subcommand_matches-clause-ok : goal.returns-in-Some-subcommand_matches-clause-ok
-returns-in-Some-subcommand_matches-clause-ok c =
-    let met : subcommand_rows_of c.args.matches.now ≡ Some (codes "merge", rows_of (found_of c.in-Some-subcommand_matches.merge.now))
-    = met_rows _ (codes "merge") (rows_of (found_of c.in-Some-subcommand_matches.merge.now))
-    (c.subcommand_matches-2.ensures.found.0 (subst (λ o. IsSome o) (sym c.in-Some-subcommand_matches.is) refl))
+-- what is read after `merge` is its command, and what fits together is refused for memory alone
+pub returns-in-Some-subcommand_matches : goal.returns-in-Some-subcommand_matches
+returns-in-Some-subcommand_matches c =
+    let met = found-by _ (codes "merge") _ _ _ c.subcommand_matches-2.ensures.found c.in-Some-subcommand_matches.is
     c.in-Some-subcommand_matches.ensures.rows in
-    IfOk-weaker c.merge_of.result _ _
-    (λ command is. fact-met (λ n r. IsCommand n r command) _ _ _ met (inr (inl (refl, is)))) c.merge_of.ensures.ok
+    record {
+      ok = command-read _ _ _ met _ (λ command is. inr (inl (refl, is))) _ c.merge_of.ensures.ok;
+      together = λ fit. c.merge_of.ensures.paired ((fits-together _ _ _ met fit).merge refl);
+      asked = c.merge_of.ensures.asked;
+    }
 
--- and what fits together is refused for memory alone
-pub returns-in-Some-subcommand_matches-clause-together : goal.returns-in-Some-subcommand_matches-clause-together
-returns-in-Some-subcommand_matches-clause-together c =
-    let met : subcommand_rows_of c.args.matches.now ≡ Some (codes "merge", rows_of (found_of c.in-Some-subcommand_matches.merge.now))
-    = met_rows _ (codes "merge") (rows_of (found_of c.in-Some-subcommand_matches.merge.now))
-    (c.subcommand_matches-2.ensures.found.0 (subst (λ o. IsSome o) (sym c.in-Some-subcommand_matches.is) refl))
-    c.in-Some-subcommand_matches.ensures.rows in
-    λ fit. c.merge_of.ensures.paired ((met-fact FitTogether _ _ _ met fit).merge refl)
-
--- what is read after `check` is its command
-pub returns-in-Some-subcommand_matches-2-clause-ok : goal.returns-in-Some-subcommand_matches-2-clause-ok
-returns-in-Some-subcommand_matches-2-clause-ok c =
-    let met : subcommand_rows_of c.args.matches.now ≡ Some (codes "check", rows_of (found_of c.in-Some-subcommand_matches-2.check.now))
-    = met_rows _ (codes "check") (rows_of (found_of c.in-Some-subcommand_matches-2.check.now))
-    (c.subcommand_matches-3.ensures.found.0 (subst (λ o. IsSome o) (sym c.in-Some-subcommand_matches-2.is) refl))
+-- what is read after `check` is its command, and what fits together is refused for memory alone
+pub returns-in-Some-subcommand_matches-2 : goal.returns-in-Some-subcommand_matches-2
+returns-in-Some-subcommand_matches-2 c =
+    let met = found-by _ (codes "check") _ _ _ c.subcommand_matches-3.ensures.found c.in-Some-subcommand_matches-2.is
     c.in-Some-subcommand_matches-2.ensures.rows in
-    IfOk-weaker c.check_of.result _ _
-    (λ command is. fact-met (λ n r. IsCommand n r command) _ _ _ met (inr (inr (inl (refl, is))))) c.check_of.ensures.ok
+    record {
+      ok = command-read _ _ _ met _ (λ command is. inr (inr (inl (refl, is)))) _ c.check_of.ensures.ok;
+      together = λ fit. c.check_of.ensures.fit ((fits-together _ _ _ met fit).check refl);
+      asked = c.check_of.ensures.asked;
+    }
 
--- and what fits together is refused for memory alone
-pub returns-in-Some-subcommand_matches-2-clause-together : goal.returns-in-Some-subcommand_matches-2-clause-together
-returns-in-Some-subcommand_matches-2-clause-together c =
-    let met : subcommand_rows_of c.args.matches.now ≡ Some (codes "check", rows_of (found_of c.in-Some-subcommand_matches-2.check.now))
-    = met_rows _ (codes "check") (rows_of (found_of c.in-Some-subcommand_matches-2.check.now))
-    (c.subcommand_matches-3.ensures.found.0 (subst (λ o. IsSome o) (sym c.in-Some-subcommand_matches-2.is) refl))
-    c.in-Some-subcommand_matches-2.ensures.rows in
-    λ fit. c.check_of.ensures.fit ((met-fact FitTogether _ _ _ met fit).check refl)
-
--- what is read after `describe` is its command
-pub returns-in-Some-subcommand_matches-3-clause-ok : goal.returns-in-Some-subcommand_matches-3-clause-ok
-returns-in-Some-subcommand_matches-3-clause-ok c =
-    let met : subcommand_rows_of c.args.matches.now ≡ Some (codes "describe", rows_of (found_of c.in-Some-subcommand_matches-3.describe.now))
-    = met_rows _ (codes "describe") (rows_of (found_of c.in-Some-subcommand_matches-3.describe.now))
-    (c.subcommand_matches-4.ensures.found.0 (subst (λ o. IsSome o) (sym c.in-Some-subcommand_matches-3.is) refl))
+-- what is read after `describe` is its command, and what fits together is refused for memory alone
+pub returns-in-Some-subcommand_matches-3 : goal.returns-in-Some-subcommand_matches-3
+returns-in-Some-subcommand_matches-3 c =
+    let met = found-by _ (codes "describe") _ _ _ c.subcommand_matches-4.ensures.found c.in-Some-subcommand_matches-3.is
     c.in-Some-subcommand_matches-3.ensures.rows in
-    IfOk-weaker c.describe_of.result _ _
-    (λ command is. fact-met (λ n r. IsCommand n r command) _ _ _ met (inr (inr (inr (inl (refl, is)))))) c.describe_of.ensures.ok
-
--- and what fits together is refused for memory alone
-pub returns-in-Some-subcommand_matches-3-clause-together : goal.returns-in-Some-subcommand_matches-3-clause-together
-returns-in-Some-subcommand_matches-3-clause-together c =
-    let met : subcommand_rows_of c.args.matches.now ≡ Some (codes "describe", rows_of (found_of c.in-Some-subcommand_matches-3.describe.now))
-    = met_rows _ (codes "describe") (rows_of (found_of c.in-Some-subcommand_matches-3.describe.now))
-    (c.subcommand_matches-4.ensures.found.0 (subst (λ o. IsSome o) (sym c.in-Some-subcommand_matches-3.is) refl))
-    c.in-Some-subcommand_matches-3.ensures.rows in
-    λ fit. c.describe_of.ensures.listed ((met-fact FitTogether _ _ _ met fit).describe refl)
+    record {
+      ok = command-read _ _ _ met _ (λ command is. inr (inr (inr (inl (refl, is))))) _ c.describe_of.ensures.ok;
+      together = λ fit. c.describe_of.ensures.listed ((fits-together _ _ _ met fit).describe refl);
+      asked = c.describe_of.ensures.asked;
+    }
 
 -- what is read after `table` is its command
 pub returns-clause-ok : goal.returns-clause-ok
 returns-clause-ok c =
-    let met : subcommand_rows_of c.args.matches.now ≡ Some (codes "table", rows_of (found_of c.in-Some-subcommand_matches-4.table.now))
-    = met_rows _ (codes "table") (rows_of (found_of c.in-Some-subcommand_matches-4.table.now))
-    (c.subcommand_matches-5.ensures.found.0 (subst (λ o. IsSome o) (sym c.in-Some-subcommand_matches-4.is) refl))
+    let met = found-by _ (codes "table") _ _ _ c.subcommand_matches-5.ensures.found c.in-Some-subcommand_matches-4.is
     c.in-Some-subcommand_matches-4.ensures.rows in
-    fact-met (λ n r. IsCommand n r (Table c.in_ok-table_of.field-0)) _ _ _ met
-    (inr (inr (inr (inr (refl, c.in_ok-table_of.ensures)))))
+    command-read _ _ _ met (IsTabling _) (λ command is. inr (inr (inr (inr (refl, is)))))
+    (Ok (Table c.in_ok-table_of.field-0)) c.in_ok-table_of.ensures
