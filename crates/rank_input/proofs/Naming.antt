@@ -126,11 +126,12 @@ module _ (names_of : Text → Known) where
   }
 
   -- names add files, and then others add others
-  pub adds-both : (xs ys old mid new : List Text) → AddsNamed names_of xs old mid → AddsNamed names_of ys mid new
-      → AddsNamed names_of (xs ++ ys) old new
-  adds-both xs ys old mid new was is = record {
+  pub adds-both : (all xs ys old mid new : List Text) → all ≡ xs ++ ys → AddsNamed names_of xs old mid
+      → AddsNamed names_of ys mid new → AddsNamed names_of all old new
+  adds-both all xs ys old mid new same was is = record {
     part = was.part ++ is.part;
-    stand = stand-both xs ys was.part is.part was.stand is.stand;
+    stand = subst (λ (ts : List Text). AllStandFor names_of ts (was.part ++ is.part)) (sym same)
+        (stand-both xs ys was.part is.part was.stand is.stand);
     added = is.added ∙ ap (λ (ts : List Text). ts ++ is.part) was.added ∙ append_assoc old was.part is.part;
   }
 

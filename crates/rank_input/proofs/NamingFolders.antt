@@ -10,9 +10,14 @@ use Rattle.std.specs.Str.Lines.{strip_carriage_return}
 use Rattle.std.proofs.Common.{◌-◌, ◌≢◌, Bor}
 use Rattle.std.specs.Prelude.{Option, None, Some, MatchOption}
 use Rattle.std.specs.Option.{unwrap_or}
+use Rattle.std.specs.Iterator.{Yields}
+use Rattle.std.specs.Str.Iter.{split_steps, split_text, split_has_more, split_pattern}
+use Rattle.std.specs.Str.Pattern.{FindsChar}
 use Rattle.std.proofs.lemmas.Bool.{ne_eqb}
 use Rattle.std.proofs.lemmas.Bool.Decides.{nat_tests}
 use Rattle.std.proofs.lemmas.Grind.{common_steps}
+use Rattle.std.proofs.lemmas.Iterator.Consumers.{YieldsList-at, YieldsList-so_far, YieldsList-turn, YieldsList-end}
+use Rattle.std.proofs.lemmas.Iterator.Splits.{YieldsList-from_str_split}
 use Rattle.std.proofs.lemmas.List.{map-append, get_or-map, length-map}
 use Rattle.std.proofs.lemmas.List.Elements.{filter-append, Contains-append_right}
 use Rattle.std.proofs.lemmas.List.Sorted.{IsPermutation-map}
@@ -93,7 +98,7 @@ more-than-none : (n : ℕ) → (suc n == 0) ≡ false
 more-than-none n = grind (arith, nat_tests)
 
 -- it is ASCII
-pub end-is-ascii : (null : Bool) → end_of null < 128
+end-is-ascii : (null : Bool) → end_of null < 128
 end-is-ascii true = lit< tt
 end-is-ascii false = lit< tt
 
@@ -114,39 +119,72 @@ empty-last (x ∷ y ∷ more) =
     ap (λ (ts : List Text). cond (is_name name) (name ∷ ts) ts) (empty-last (y ∷ more))
 
 -- the names in a text are its parts that aren't empty
-pub parts-named : (null : Bool) (text : Text)
+parts-named : (null : Bool) (text : Text)
     → filter is_name (map (trimmed null) (slice_split (λ b. b == end_of null) text)) ≡ names_in null text
 parts-named true text = ap (filter is_name) (map-same (slice_split (λ b. b == 0) text))
 parts-named false text = empty-last (slice_split (λ b. b == 10) text)
 
--- a name of a text, those before it and those after it
-pub name-among : (null : Bool) (text : Text) (n : ℕ) (part : Text)
-    → n < length (slice_split (λ b. b == end_of null) text)
-    → get_or (slice_split (λ b. b == end_of null) text) n part ≡ part → is_name (trimmed null part) ≡ true
-    → names_in null text ≡ filter is_name (map (trimmed null) (take n (slice_split (λ b. b == end_of null) text)))
-    ++ trimmed null part
-    ∷ filter is_name (map (trimmed null) (drop (suc n) (slice_split (λ b. b == end_of null) text)))
-name-among null text n part lt at is =
+-- the names that parts of a text are
+abbrev pub named_by : Bool → List (Bor Text) → List Text
+named_by null parts = filter is_name (map (trimmed null) (map (λ part. part.now) parts))
+
+-- a part of a text is this name
+pub record IsNamed (null : Bool) (part : Bor Text) (name : Text) : Type 0 where
+  pub same : name ≡ trimmed null part.now
+  pub some : is_name name ≡ true
+
+-- what is known at a turn of a loop over the parts of a text: if none is left, those that came are all names; otherwise a
+-- name that comes follows those that came
+pub record Turn (null : Bool) (text : Text) (parts : List (Bor Text)) (next : Option (Bor Text)) : Type 0 where
+  pub all : next ≡ None → named_by null parts ≡ names_in null text
+  pub among : (part : Bor Text) (name : Text) → next ≡ Some part → IsNamed null part name
+      → (after : List Text) × (names_in null text ≡ named_by null parts ++ name ∷ after)
+
+-- it is, if the ends of names cut the text
+pub turn : (null : Bool) (text : Text) (end : ℕ) (parts : List (Bor Text)) (s v t u : _) (next : Option (Bor Text))
+    → s ≡ v → split_text v ≡ text → split_has_more v ≡ true → split_pattern v ≡ end → end ≡ end_of null
+    → Yields (split_steps FindsChar (λ a b. b ≡ a)) s parts t → split_steps FindsChar (λ a b. b ≡ a) t next u
+    → Turn null text parts next
+turn null text end parts s v t u next begins same more pattern ends gave gives =
     let all : List Text = slice_split (λ b. b == end_of null) text in
+    let n : ℕ = length parts in
     let before : List Text = map (trimmed null) (take n all) in
     let after : List Text = map (trimmed null) (drop (suc n) all) in
-    let name : Text = trimmed null part in
-    sym (parts-named null text)
-    ∙ ap (filter is_name) (cut-map (trimmed null) all n part lt at)
-    ∙ filter-append is_name before (name ∷ after)
-    ∙ ap (λ (b : Bool). filter is_name before ++ cond b (name ∷ filter is_name after) (filter is_name after)) is
+    let cuts = YieldsList-at begins
+    (YieldsList-from_str_split (end_of null) text (end-is-ascii null) same more (pattern ∙ ends)) in
+    record {
+      all = λ none. ap (λ (ts : List Text). filter is_name (map (trimmed null) ts))
+          (YieldsList-end cuts parts t gave next u none gives).0 ∙ parts-named null text;
+      among = λ part name is named. (
+        filter is_name after,
+        let came = YieldsList-turn cuts parts t gave next u part is gives in
+            sym (parts-named null text)
+            ∙ ap (filter is_name) (cut-map (trimmed null) all n part.now came.0 (sym came.1)
+            ∙ ap (λ (t : Text). before ++ t ∷ after) (sym named.same))
+            ∙ filter-append is_name before (name ∷ after)
+            ∙ ap (λ (b : Bool). filter is_name before ++ cond b (name ∷ filter is_name after) (filter is_name after))
+            named.some
+            ∙ ap (λ (ts : List Text). filter is_name (map (trimmed null) ts) ++ name ∷ filter is_name after)
+            (sym (YieldsList-so_far cuts parts t gave)),
+      );
+    }
 
 -- one name more
-pub names-more : (null : Bool) (parts : List Text) (part : Text) → is_name (trimmed null part) ≡ true
-    → filter is_name (map (trimmed null) (parts ++ part ∷ []))
-    ≡ filter is_name (map (trimmed null) parts) ++ trimmed null part ∷ []
-names-more null parts part is = ap (filter is_name) (map-append (trimmed null) parts (part ∷ []))
-    ∙ kept-more is_name (map (trimmed null) parts) (trimmed null part) is
+pub names-more : (null : Bool) (parts : List (Bor Text)) (part : Bor Text) (name : Text) → IsNamed null part name
+    → named_by null (parts ++ part ∷ []) ≡ named_by null parts ++ name ∷ []
+names-more null parts part name named =
+    let were : List Text = map (λ p. p.now) parts in
+    ap (λ (ts : List Text). filter is_name (map (trimmed null) ts))
+    (map-append (λ (p : Bor Text). p.now) parts (part ∷ []))
+    ∙ ap (filter is_name) (map-append (trimmed null) were (part.now ∷ [])
+    ∙ ap (λ (t : Text). map (trimmed null) were ++ t ∷ []) (sym named.same))
+    ∙ kept-more is_name (map (trimmed null) were) name named.some
 
 -- one more isn't none
-pub more-are-some : (xs : List Text) (x : Text) → false ≡ (length (xs ++ x ∷ []) == 0)
-more-are-some [] x = refl
-more-are-some (y ∷ ys) x = sym (more-than-none (length (ys ++ x ∷ [])))
+pub more-are-some : (named xs : List Text) (x : Text) → named ≡ xs ++ x ∷ [] → false ≡ (length named == 0)
+more-are-some named [] x are = ap (λ (ts : List Text). length ts == 0) (sym are)
+more-are-some named (y ∷ ys) x are =
+    sym (more-than-none (length (ys ++ x ∷ []))) ∙ ap (λ (ts : List Text). length ts == 0) (sym are)
 
 -- a list of no length is empty
 pub none-there : (xs : List Text) → (length xs == 0) ≡ true → xs ≡ []

@@ -1,6 +1,6 @@
 -- A window with its sum and its ring of values, as days come and leave.
 use Rattle.std.proofs.Common.{◌≡◌, ◌↔◌, FitsSigned, w64, ℕ, zero, suc, ◌+◌, ◌-◌, ◌%◌, ◌<◌, ◌≤◌, Bool, true}
-use Rattle.std.proofs.Common.{false, List, [], ◌∷◌, drop, Option, Some, None, refl, sym, ap, subst, ◌∙◌, arith, ℤ, pos}
+use Rattle.std.proofs.Common.{false, List, [], ◌∷◌, ◌++◌, drop, Option, Some, None, refl, sym, ap, subst, ◌∙◌, arith, ℤ, pos}
 use Rattle.std.proofs.Common.{◌+ℤ◌, ◌-ℤ◌, ◌≤ℤ◌, ◌<ℤ◌, length, length-set, get_or, set, inl, inr}
 use Rattle.std.specs.Prelude.{IsTrue}
 use Rattle.std.specs.List.{AllByRecursion, cons_option, filter_map}
@@ -199,29 +199,6 @@ taken ring w days y ys at few =
 
 -- ---- a step of the scan
 
--- the window with its ring is what became of one with some days, once the day d came: the same windows begin
-pub record Step (id : StationId) (n : ℕ) (days : List DayValue) (ring : List ℤ) (v : Window) (d : ℤ)
-    (rest : List DayValue) : Type 0 where
-  pub now : List DayValue
-  pub at : IsAt ring v now (d +ℤ pos 1) rest
-  pub few : v.len ≤ n
-  pub same : windows id n now ≡ windows id n days
-
--- so it is once the next day is taken in
-pub takes : {n : ℕ} {ring : List ℤ} {w u : Window} {days rest ys : List DayValue} {next : ℤ} {y : DayValue} {b : Bool}
-    (id : StationId) → IsAt ring w days next rest → w.len < n → n ≤ 366 → rest ≡ y ∷ ys → (IsTrue b ↔ (y.0 ≡ next))
-    → u ≡ begun_anew_unless b w → Step id n days (set ring (next_place u) y.1) (with_value u y.1) y.0 ys
-takes {n} {ring} {w} {u} {days} {rest} {ys} {next} {y} {b} id at few most step is then =
-    let here : IsAt ring w days next (y ∷ ys) = subst (IsAt ring w days next) step at in
-    let less = anew-len w b in
-    rw then record {
-      now = days_of b w days;
-      at = taken ring (begun_anew_unless b w) (days_of b w days) y ys (anew ring w days next y ys b here is)
-          (omega arith);
-      few = omega arith;
-      same = none_lost id n ring w days next y ys b here few is;
-    }
-
 -- a whole window is offered, and its first day taken off
 pub record Leaves (id : StationId) (n : ℕ) (days : List DayValue) (ring : List ℤ) (v : Window) (d : ℤ)
     (rest : List DayValue) : Type 0 where
@@ -267,4 +244,34 @@ leaves {n = n} {days = x ∷ xs} {rest = rest} {ring = ring} {v = v} id d at som
       now = xs;
       at = left;
       offered = windows-first id n x xs at.good.rise ∙ rw (found, ends, begins);
+    }
+
+-- the window with its ring is what became of one with some days, once the day d came: the same windows begin, and if it
+-- is whole, it is offered, and its first day taken off
+pub record Step (id : StationId) (n : ℕ) (days : List DayValue) (ring : List ℤ) (v : Window) (d : ℤ)
+    (rest : List DayValue) : Type 0 where
+  pub now : List DayValue
+  pub at : IsAt ring v now (d +ℤ pos 1) rest
+  pub few : v.len ≤ n
+  pub same : windows id n now ≡ windows id n days
+  pub whole : v.len ≡ n → Leaves id n now ring v d rest
+
+-- so it is once the next day of a part is taken in
+pub takes : {n : ℕ} {ring : List ℤ} {w u : Window} {days part more : List DayValue} {next : ℤ} {y : DayValue} {b : Bool}
+    (id : StationId) (left : List DayValue) → IsAt ring w days next (part ++ left) → w.len < n → 0 < n → n ≤ 366
+    → part ≡ y ∷ more → (IsTrue b ↔ (y.0 ≡ next)) → u ≡ begun_anew_unless b w
+    → Step id n days (set ring (next_place u) y.1) (with_value u y.1) y.0 (more ++ left)
+takes {n} {ring} {w} {u} {days} {part} {more} {next} {y} {b} id left at few some most step is then =
+    let ys : List DayValue = more ++ left in
+    let here : IsAt ring w days next (y ∷ ys) =
+    subst (λ (ds : List DayValue). IsAt ring w days next (ds ++ left)) step at in
+    let less = anew-len w b in
+    let now = taken ring (begun_anew_unless b w) (days_of b w days) y ys (anew ring w days next y ys b here is)
+    (omega arith) in
+    rw then record {
+      now = days_of b w days;
+      at = now;
+      few = omega arith;
+      same = none_lost id n ring w days next y ys b here few is;
+      whole = leaves id y.0 now some most;
     }

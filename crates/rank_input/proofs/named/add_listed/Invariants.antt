@@ -1,13 +1,13 @@
 use Rattle.std.proofs.Common.{◌≡◌, length, map}
-use Rattle.std.specs.Prelude.{◌==◌, filter, string_bytes}
-use Rattle.rank_input.specs.Named.{AddsNamed, is_name}
-use Rattle.rank_input.proofs.NamingFolders.{trimmed}
+use Rattle.std.specs.Prelude.{◌==◌, string_bytes}
+use Rattle.rank_input.specs.Named.{AddsNamed}
+use Rattle.rank_input.proofs.NamingFolders.{named_by}
 use Rattle.rank_input.proofs.named.add_listed.Given as goal
 
 -- what the names so far stand for was added
 abbrev pub invariant-loop-part : goal.invariant-loop-part
 invariant-loop-part g l =
-    let names = filter is_name (map (trimmed l.null) (map (λ y. y.now) l.yielded)) in record {
+    let names = named_by l.null l.yielded in record {
       adds : AddsNamed (g.A.Archive.names_of l.archive) names (map string_bytes l.initial.paths.items)
           (map string_bytes l.paths.items);
       empty : l.is_empty ≡ (length names == 0);

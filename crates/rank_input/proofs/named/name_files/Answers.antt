@@ -1,4 +1,4 @@
-use Rattle.std.proofs.Common.{◌≡◌, ◌∷◌, [], ◌++◌, List, ℕ, map, take, drop, suc, refl, sym, ap, subst, arith}
+use Rattle.std.proofs.Common.{◌≡◌, ◌∷◌, [], List, ℕ, map, take, drop, suc, refl, sym, ap, subst, arith}
 use Rattle.std.specs.Prelude.{String, string_bytes, option_map, None}
 use Rattle.std.proofs.Common.{Global}
 use Rattle.std.proofs.lemmas.Result.{err_from_is_err_and}
@@ -18,11 +18,9 @@ loop-word-preserved g c =
     (map string_bytes c.add_named.new.paths.items) =
     subst (λ (t : List ℕ). AddsNamed names_of (t ∷ []) (map string_bytes c.loop-word.paths.items)
     (map string_bytes c.add_named.new.paths.items)) c.deref.ensures c.in_ok-add_named.ensures.added in
-    subst (λ (ts : List (List ℕ)). AddsNamed names_of ts [] (map string_bytes c.add_named.new.paths.items))
-    (sym (first-next string_bytes c.args.words.now c.loop-word.word-index c.word-item.result c.loop-word-test.true
-    (sym c.word-item.is)))
-    (adds-both names_of was (word ∷ []) [] (map string_bytes c.loop-word.paths.items)
-    (map string_bytes c.add_named.new.paths.items) c.loop-word.invariant adds)
+    adds-both names_of _ was (word ∷ []) [] (map string_bytes c.loop-word.paths.items)
+    (map string_bytes c.add_named.new.paths.items) (first-next string_bytes c.args.words.now c.loop-word.word-index
+    c.word-item.result c.loop-word-test.true (sym c.word-item.is)) c.loop-word.invariant adds
 
 -- a word stands for nothing
 pub returns-in_err-add_named-clause-stopped : goal.returns-in_err-add_named-clause-stopped
@@ -79,13 +77,13 @@ returns-clause-stand g c =
           rw (w.paths-is, w.in-Some.is) (record {
             names = is.names;
             listed = is.listed;
-            stand = adds-all names_of (words ++ is.names) new (adds-both names_of words is.names [] old new were is.adds);
+            stand = adds-all names_of _ new (adds-both names_of _ words is.names [] old new refl were is.adds);
           })
       | in_default w ↦
           let none : c.args.list ≡ None = none-left c.args.list w.in_default.not-Some in
           rw (w.paths-is, none) (record {
             names = [];
             listed = refl;
-            stand = adds-all names_of (words ++ []) old (adds-both names_of words [] [] old old were (adds-none names_of old));
+            stand = adds-all names_of _ old (adds-both names_of _ words [] [] old old refl were (adds-none names_of old));
           })
     ]
