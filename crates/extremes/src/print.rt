@@ -29,6 +29,7 @@ use ghcn_series::{Foreign, LinePlace, OddLines, Warnings};
 use rank_input::{Fault, NotNamed};
 use std::fmt::Display;
 use std::io::Write;
+use std::mem::forget;
 
 /// More bytes than any line of a judgement has: two numbers of 20 digits, and words of 40 bytes.
 const LONGEST_LINE: usize = 128;
@@ -42,7 +43,8 @@ pub(crate) struct DailyPaths<'p> {
     pub(crate) arguments: &'p [String],
 }
 
-/// Prints what a ranking of files returns, and then frees its data.
+/// Prints what a ranking of files returns. Its data aren't freed, since the run ends then, and to free
+/// many series takes a while.
 pub(crate) fn print_ranked<M: Messages, T: Target, W: Write>(
     messages: &mut M,
     ranked: Ranked,
@@ -69,7 +71,7 @@ pub(crate) fn print_ranked<M: Messages, T: Target, W: Write>(
     };
     print_warnings(messages, warnings, files.paths);
     let ending = print_papers(messages, &papers, certificate, target, out);
-    drop(dataset);
+    forget(dataset);
     ending
 }
 

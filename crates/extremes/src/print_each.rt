@@ -16,9 +16,10 @@ use crate::print::{
 use explanations::ShownText;
 use rank_input::{Fault, QueriesFault};
 use std::io::Write;
+use std::mem::forget;
 
 /// Prints the reports of a list of queries, one after another, after the lines on what was skipped,
-/// or prints the error. Then it frees the data.
+/// or prints the error. The data aren't freed, since the run ends then.
 pub(crate) fn print_each<M: Messages, W: Write>(
     messages: &mut M,
     ranked: RankedEach,
@@ -45,7 +46,7 @@ pub(crate) fn print_each<M: Messages, W: Write>(
     print_warnings(messages, warnings, files.paths);
     print_unlisted(messages, unlisted);
     let ending = print_text(messages, &reports, out);
-    drop(dataset);
+    forget(dataset);
     ending
 }
 

@@ -1,6 +1,7 @@
 //! What a query asks of the blocks of a series, and the bound that follows.
 
-ghost use Rattle.std.specs.Prelude.{◌<◌, Some, IfOk};
+ghost use Rattle.std.specs.Prelude.{◌≡◌, ◌<◌, ◌+◌, ◌-ℤ◌, unsigned_abs, Some, IfOk};
+ghost use Rattle.ghcn_fields.specs.Days.{block_of};
 ghost use Rattle.ghcn_series.specs.Series.{Usable};
 ghost use Rattle.rank_query.specs.Asked.{IsAsked};
 ghost use Rattle.rank_scores.specs.Morsels.{IsAskedOf};
@@ -11,7 +12,7 @@ ghost use Rattle.rank_blocks.specs.Summaries.{numbers_left};
 use crate::range::BlockRange;
 use crate::reached::{greatest_day, greatest_total, longest_run, smaller, window_blocks};
 use crate::summary::Summary;
-use ghcn_fields::Memory;
+use ghcn_fields::{Day, Memory};
 use ghcn_series::Series;
 use rank_query::{Query, Score};
 use std::alloc::Global;
@@ -81,7 +82,7 @@ fn summaries_of(alloc: Global, series: &Series, score: Score) -> Result<Vec<Summ
     ensures summaries { IfOk result (λ blocks. AreSummaries score series.now blocks.items) }
     ensures possible { IfOk result (λ blocks. ArePossible blocks.items) }
 {
-    let mut summaries = Vec::new(alloc);
+    let mut summaries = Vec::with_capacity(alloc, blocks_between(series.span()))?;
     let mut days = series.days();
     let Some(first) = days.next() else {
         return Ok(summaries);
@@ -91,6 +92,14 @@ fn summaries_of(alloc: Global, series: &Series, score: Score) -> Result<Vec<Summ
         next = add_block(&mut summaries, series, score, number)?;
     }
     Ok(summaries)
+}
+
+/// How many blocks there are from that of one day to that of another.
+fn blocks_between(span: (Day, Day)) -> usize
+    ensures { result ≡ unsigned_abs (block_of span.1 -ℤ block_of span.0) + 1 }
+{
+    let (first, last) = span;
+    last.block().abs_diff(first.block()) as usize + 1
 }
 
 /// Adds the summary of a block, if it holds a usable day. Returns the number to look at next.

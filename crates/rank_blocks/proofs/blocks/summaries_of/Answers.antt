@@ -9,4 +9,4 @@ loop-next-init c =
     let split : s.days ≡ c.in-Some.first ∷ c.next.new.self = sym c.days-days.ensures.days ∙ c.in-Some.ensures.steps in
     let same : c.block.result ≡ to_z w32 (of_z w32 c.block.result) = omega (arith, ints) in
     let first = read-first c.args.score s c.in-Some.first c.next.new.self c.days-days.ensures.series split in
-    rw (c.new-summaries.ensures.items, ← same, c.block.ensures.value) first
+    rw (c.in_ok-summaries.ensures.items, ← same, c.block.ensures.value) first
