@@ -1,11 +1,10 @@
 -- How many candidates score above a number, and what that says of the k-th score.
 use Rattle.std.proofs.Common.{◌≡◌, ℕ, zero, suc, ◌+◌, ◌<◌, ◌≤◌, Bool, true, false, cond, List, [], ◌∷◌, ◌++◌, Option}
-use Rattle.std.proofs.Common.{ℤ, ◌≤ℤ◌, refl, ap, arith, ◌↔◌}
+use Rattle.std.proofs.Common.{Ordering, ℤ, ◌≤ℤ◌, refl, ap, arith, ◌↔◌}
 use Rattle.std.specs.Prelude.{int_lt, slice_get}
 use Rattle.std.specs.List.{count_by, AllByRecursion}
 use Rattle.std.specs.Option.{option_map}
 use Rattle.std.specs.Ordering.{is_le, int_cmp, ordering_then}
-use Rattle.std.specs.declared.cmp.Ordering.{Ordering}
 use Rattle.std.proofs.lemmas.Int.{ints}
 use Rattle.std.proofs.lemmas.List.Sorted.{sum_by-IsPermutation}
 use Rattle.std.proofs.lemmas.List.Sums.{sum_by-cons, sum_by-append}
@@ -55,7 +54,7 @@ by_score : (o p l : Ordering) → is_le (ordering_then (ordering_then o p) l) �
 by_score o p l e = grind arith
 
 -- what comes first scores no less
-score_first : (a b : Candidate) → comes_first a b ≡ true → b.score ≤ℤ a.score
+pub score_first : (a b : Candidate) → comes_first a b ≡ true → b.score ≤ℤ a.score
 score_first a b e =
     let scores : is_le (int_cmp b.score a.score) ≡ true = by_score _ _ _ e in
     grind (arith, ints)

@@ -3,26 +3,19 @@ use Rattle.std.proofs.Common.{◌≡◌, ℕ, zero, suc, ◌≤◌, Bool, true, 
 use Rattle.std.proofs.Common.{◌∙◌, append-nil, append_assoc, arith, ℤ, ◌≤ℤ◌}
 use Rattle.std.specs.Prelude.{int_lt}
 use Rattle.std.specs.List.{AllByRecursion}
-use Rattle.std.specs.Ordering.{is_le, int_cmp, ordering_then}
-use Rattle.std.specs.declared.cmp.Ordering.{Ordering}
-use Rattle.std.specs.declared.cmp.Ordering.TheVariants.{Greater}
+use Rattle.std.proofs.lemmas.Bool.{false_from_ne_true}
 use Rattle.std.proofs.lemmas.Int.{ints}
 use Rattle.ghcn_fields.specs.Sorting.{placed}
 use Rattle.rank_scores.specs.declared.candidate.Candidate.{Candidate}
 use Rattle.rank_pool.specs.First.{comes_first, in_order, first, above}
 use Rattle.rank_pool.proofs.Places.{in_order-push, in_order-append_comm}
 use Rattle.rank_pool.proofs.Counts.{one_if, above-cons, above-append, above-in_order, ScoresFall, in_order-falls}
-use Rattle.rank_pool.proofs.Counts.{none_above}
-
--- a result that is Greater by score
-greater_first : (s o l : Ordering) → s ≡ Greater → is_le (ordering_then (ordering_then s o) l) ≡ false
-greater_first s o l e = grind arith
+use Rattle.rank_pool.proofs.Counts.{none_above, score_first}
 
 -- what scores less doesn't come first
 high_first : (z y : Candidate) → int_lt z.score y.score ≡ true → comes_first z y ≡ false
-high_first z y h =
-    let e : int_cmp y.score z.score ≡ Greater = grind (arith, ints) in
-    greater_first (int_cmp y.score z.score) _ _ e
+high_first z y h = false_from_ne_true _
+    (λ e. let most : y.score ≤ℤ z.score = score_first z y e in grind (arith, ints))
 
 -- a candidate that takes its place after k that score more leaves the first k as they are
 pub low_past : (z : Candidate) (ys : List Candidate) (k : ℕ) → ScoresFall ys → k ≤ above z.score ys

@@ -1,15 +1,12 @@
 -- What an offer leaves.
-use Rattle.std.proofs.Common.{◌≡◌, ℕ, zero, suc, ◌-◌, ◌<◌, ◌≤◌, true, List, [], ◌∷◌, take, length, min, refl, sym, ap}
-use Rattle.std.proofs.Common.{◌∙◌, subst, arith, Option, Some, ℤ, ◌<ℤ◌}
+use Rattle.std.proofs.Common.{◌≡◌, ℕ, zero, suc, ◌-◌, ◌<◌, true, List, [], ◌∷◌, take, length, refl, sym, ap}
+use Rattle.std.proofs.Common.{◌∙◌, subst, arith, Option, Some, Result, Ok, Err, ℤ, ◌<ℤ◌}
 use Rattle.std.specs.List.{AllByRecursion, fold}
 use Rattle.std.proofs.lemmas.Int.{ints}
 use Rattle.std.specs.Prelude.{int_lt, slice_get, if◌then◌else◌, is_ok, IsOk}
 use Rattle.std.specs.Option.{option_map}
 use Rattle.std.specs.Result.{OnOk, OnErr}
-use Rattle.std.specs.declared.result.Result.{Result}
-use Rattle.std.specs.declared.result.Result.TheVariants.{Ok, Err}
-use Rattle.std.proofs.Math.Seq.{take-length}
-use Rattle.std.proofs.lemmas.List.{length-take, take_min}
+use Rattle.std.proofs.lemmas.List.{length-take, take_all}
 use Rattle.ghcn_fields.specs.Sorting.{placed}
 use Rattle.rank_scores.specs.declared.candidate.Candidate.{Candidate}
 use Rattle.rank_scores.specs.Order.{bound_is_below}
@@ -21,12 +18,6 @@ use Rattle.rank_pool.proofs.Counts.{ScoresFall, falls, at_place}
 use Rattle.rank_pool.proofs.Kept.{low_past}
 
 -- ---- a candidate that is taken
-
--- all are taken if there are no more
-pub take_itself : (k : ℕ) (xs : List Candidate) → length xs ≤ k → take k xs ≡ xs
-take_itself k xs h =
-    let all : min k (length xs) ≡ length xs = omega arith in
-    sym (take_min k xs) ∙ ap (λ n. take n xs) all ∙ take-length xs
 
 -- the first of one more are that one and the first of the others, one fewer
 pub take_first : (k : ℕ) (x : Candidate) (xs : List Candidate) → 0 < k → x ∷ take (k - 1) xs ≡ take k (x ∷ xs)
@@ -57,7 +48,7 @@ falls_out p x s pool last low =
     let fall : ScoresFall p.held = falls p.held (subst InTurn pool.order (in_order-turn p.held)) in
     let many : p.size - 1 < above x.score p.held = (at_place x.score p.held (p.size - 1) fall).0 below in
     ap (λ (l : List Candidate). record { size = p.size; held = l })
-    (sym (low_past x p.held p.size fall (omega (arith, many)) ∙ take_itself p.size p.held pool.few))
+    (sym (low_past x p.held p.size fall (omega (arith, many)) ∙ take_all p.size p.held pool.few))
 
 -- so it does if all of some candidates score below it
 pub all_fall_out : (p : Pooled) (xs : List Candidate) (s : ℤ) → IsPool p → last_score p ≡ Some s

@@ -1,10 +1,9 @@
 -- Of candidates that are apart, the best by rank are the first in the order of listing.
 use Rattle.std.proofs.Common.{◌≡◌, ℕ, zero, suc, ◌<◌, ◌≤◌, true, not, List, [], ◌∷◌, length, get_or, refl}
-use Rattle.std.proofs.Common.{ap, ◌∙◌, ◌+◌, arith}
+use Rattle.std.proofs.Common.{Ordering, ap, ◌∙◌, ◌+◌, arith}
 use Rattle.std.specs.List.Sorted.{IsPermutation, IsSorted}
 use Rattle.std.specs.Option.{option_map}
 use Rattle.std.specs.Ordering.{is_lt, is_le, ordering_reverse}
-use Rattle.std.specs.declared.cmp.Ordering.{Ordering}
 use Rattle.std.proofs.lemmas.List.Elements.{All-from_recursion}
 use Rattle.ghcn_files.proofs.Ordered as ordered
 use Rattle.rank_scores.specs.declared.candidate.Candidate.{Candidate}

@@ -1,29 +1,22 @@
 -- The canonical text of a query spells it.
-use Rattle.rank_query.proofs.Cited.{◌≡◌, ℕ, ◌<◌, ◌≤◌, ◌^◌, true, ◌++◌, length, codes, IsTrue, refl}
-use Rattle.rank_query.proofs.Cited.{length-append, arith, Some, None, ℤ, pos, neg_ℤ, ◌≤ℤ◌, Option, AllByRecursion}
-use Rattle.rank_query.proofs.Cited.{and_parts, nat_tests, ints, is_within, Score, Highest, Lowest}
-use Rattle.rank_query.proofs.Cited.{Sum, Dry, Wet, Hot, Cold, Region, Everywhere, Inside, Country, State, Only, Asked}
-use Rattle.rank_query.proofs.Cited.{IsAsked, is_score, is_fall, is_heat, is_month, is_season, is_region, score_words}
-use Rattle.rank_query.proofs.Cited.{region_words, season_words, period_words, query_words, query_text}
-use Rattle.rank_query.proofs.Cited.{SpellsWord, IsSpelling, QueryWord, Exactly, Count, Tenths, Edge, TwoMonths, Season}
-use Rattle.rank_query.proofs.Cited.{AllYear}
-use Rattle.rank_query.proofs.Cited.{Months, Dates, dates_text}
-use Rattle.rank_query.proofs.Cited.{per_words, Per, Each, Station, Year}
-use Rattle.rank_query.proofs.Cited.{word_text, words_of, map, List, [], ◌∷◌, sym, subst, length-map, is_code, code_of}
-use Rattle.rank_query.proofs.Cited.{date_text, Element, nat_le, list_all, is_visible, ◌&&◌}
+use Rattle.rank_query.proofs.Cited.{◌≡◌, ℕ, ◌<◌, ◌≤◌, ◌^◌, true, ◌++◌, length, codes, IsTrue, refl, length-append}
+use Rattle.rank_query.proofs.Cited.{arith, Some, None, ℤ, pos, neg_ℤ, ◌≤ℤ◌, Option, AllByRecursion, and_parts}
+use Rattle.rank_query.proofs.Cited.{nat_tests, ints, is_within, Score, Highest, Lowest, Sum, Dry, Wet, Hot, Cold}
+use Rattle.rank_query.proofs.Cited.{Region, Everywhere, Inside, Country, State, Only, Asked, IsAsked, is_score, is_fall}
+use Rattle.rank_query.proofs.Cited.{is_heat, is_month, is_season, is_region, score_words, region_words, season_words}
+use Rattle.rank_query.proofs.Cited.{period_words, query_words, query_text, SpellsWord, IsSpelling, QueryWord, Exactly}
+use Rattle.rank_query.proofs.Cited.{Count, Tenths, Edge, TwoMonths, Season, AllYear, Months, Dates, dates_text}
+use Rattle.rank_query.proofs.Cited.{per_words, Per, Each, Station, Year, word_text, words_of, map, List, [], ◌∷◌, sym}
+use Rattle.rank_query.proofs.Cited.{subst, length-map, is_code, code_of, date_text, Element, nat_le, list_all}
+use Rattle.rank_query.proofs.Cited.{is_visible, ◌&&◌}
 use Rattle.rank_query.specs.Laws.{IsShortLine}
-use Rattle.rank_query.proofs.OneWords.{IsOneWord, words_of-join}
 use Rattle.ghcn_files.proofs.Among.{each-weaker}
-use Rattle.rank_query.proofs.PrintedWords.{IsShortWord, length-join, printable-join, known_word}
-use Rattle.rank_query.proofs.PrintedWords.{decimal_numeral, decimal_word, code_word, visible_word, date_word}
-use Rattle.rank_query.proofs.PrintedWords.{dates_word}
+use Rattle.rank_query.proofs.OneWords.{IsOneWord, words_of-join}
+use Rattle.rank_query.proofs.PrintedWords.{IsShortWord, length-join, printable-join, known_word, decimal_numeral}
+use Rattle.rank_query.proofs.PrintedWords.{decimal_word, code_word, visible_word, date_word, dates_word}
 use Rattle.rank_query.proofs.PrintedWords.{four_places_text, tenths_text, months_word, months_spelt}
 use Rattle.rank_query.proofs.SpeltWords.{SpellAll}
 use Rattle.rank_query.proofs.RegionWords.{edges_of, longitude-range}
-
--- a number within limits is small
-small : (low high n : ℕ) → high < 10 ^ 4 → IsTrue (is_within low high n) → (n < 10 ^ 4) × (n < 2 ^ 64)
-small low high n few h = let below : n ≤ high = grind (arith, nat_tests) in (omega arith, omega arith)
 
 -- the canonical text of a word is one short word, and spells it
 pub record IsPrinted (w : QueryWord) : Type 0 where
@@ -47,15 +40,11 @@ element_printed e = exact_printed (code_of e) (code_word e)
 date_printed : (day : ℤ) → IsPrinted (Exactly (date_text day))
 date_printed day = exact_printed (date_text day) (date_word day)
 
--- as are two dates without their years
-dates_printed : (first last : ℤ) → IsPrinted (Exactly (dates_text first last))
-dates_printed first last = exact_printed (dates_text first last) (dates_word first last)
-
 -- with a number of rows or days within limits
 count_printed : (low high n : ℕ) → high < 10 ^ 4 → IsTrue (is_within low high n) → IsPrinted (Count n)
 count_printed low high n few within =
-    let fits = small low high n few within in
-    record { short = decimal_word n fits.0 fits.1; spelt = decimal_numeral n fits.1 }
+    let below : n ≤ high = grind (arith, nat_tests) in
+    record { short = decimal_word n (omega arith) (omega arith); spelt = decimal_numeral n (omega arith) }
 
 -- with degrees by which a day is hot or cold
 tenths_printed : (t : ℤ) → is_heat t ≡ true → IsPrinted (Tenths t)
@@ -124,7 +113,8 @@ season_printed AllYear is = (tt, omega arith)
 season_printed (Months a b) is =
     let both = and_parts (is_month a) (is_month b) is in
     ((known_printed (codes "months") refl, (months_printed a b both.0 both.1, tt)), omega arith)
-season_printed (Dates a b) is = ((known_printed (codes "days") refl, (dates_printed a b, tt)), omega arith)
+season_printed (Dates a b) is =
+    ((known_printed (codes "days") refl, (exact_printed (dates_text a b) (dates_word a b), tt)), omega arith)
 
 -- the words of a period are such, and few
 period_printed : (p : Option (ℤ × ℤ)) → AllByRecursion IsPrinted (period_words p) × (length (period_words p) ≤ 4)
@@ -189,25 +179,12 @@ canonical q is =
     let short = short_texts (query_words q) all in
     let same : words_of (query_text q) ≡ texts = words_of-join texts
     (each-weaker IsShortWord IsOneWord texts (λ w it. it.one) short) in
+    let few : length (query_words q) ≤ 18 = simp length-append (omega arith) in
     record {
       spells = subst (λ words. SpellAll words (query_words q)) (sym same) (texts_spell (query_words q) all);
       line = record {
         some = omega arith;
-        short = omega (
-          arith,
-          length-join texts short,
-          length-map (query_words q) word_text,
-          score.1,
-          region.1,
-          season.1,
-          period.1,
-          group.1,
-          length-append (score_words q.score) (region_words q.region),
-          length-append (score_words q.score ++ region_words q.region) (season_words q.season),
-          length-append (score_words q.score ++ region_words q.region ++ season_words q.season) (period_words q.period),
-          length-append (score_words q.score ++ region_words q.region ++ season_words q.season ++ period_words q.period)
-              (per_words q.per),
-        );
+        short = omega (arith, length-join texts short, length-map (query_words q) word_text);
         printable = printable-join texts short;
       };
     }

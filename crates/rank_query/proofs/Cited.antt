@@ -13,7 +13,7 @@ pub use Rattle.std.proofs.lemmas.Fmt.{decimal_digit, decimal_is_IsNumeral, lengt
 pub use Rattle.std.proofs.lemmas.Grind.{common_steps, put_five}
 pub use Rattle.std.proofs.lemmas.Int.{ints, to_z_pos}
 pub use Rattle.std.proofs.lemmas.List.{drop_all, drop_more, length-map, length-reverse, map-append, reverse-reverse}
-pub use Rattle.std.proofs.lemmas.List.{take_all}
+pub use Rattle.std.proofs.lemmas.List.{nil_from_length, take_all}
 pub use Rattle.std.proofs.lemmas.List.Splits.{slice_split-cons_yes, slice_split_at, slice_split_first, slice_split_none}
 pub use Rattle.std.proofs.lemmas.List.Sums.{AllPass-from_list_all, fails_before_first, passes_at_first}
 pub use Rattle.std.proofs.lemmas.List.Sums.{position_or_len_is, prefix_len-le-length, split_at_first}

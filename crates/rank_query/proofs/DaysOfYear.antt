@@ -1,13 +1,11 @@
 -- Days of the year 2000, which stand for those of every year, and their texts.
-use Rattle.rank_query.proofs.Cited.{◌≡◌, ℕ, true, false, ◌&&◌, List, [], ◌∷◌, ◌++◌, length, take}
-use Rattle.rank_query.proofs.Cited.{drop, codes, Option, Some, None, Ok, refl, sym, ap, ◌∙◌, subst, inl, inr, arith, ℤ}
-use Rattle.rank_query.proofs.Cited.{pos, cases_Bool, cond, and_parts, ints, civil, read_date}
-use Rattle.rank_query.proofs.Cited.{date_text, is_day, same_bytes, bytes_decides, last_digits, digits_value, both}
-use Rattle.rank_query.proofs.Cited.{day_of_2000, two_days, dates, dates_text, is_day_of_2000, BadDate, Word, or_fault}
-use Rattle.rank_query.proofs.Cited.{get_or, says}
-use Rattle.rank_query.proofs.Cited.{◌-◌, common_steps}
+use Rattle.rank_query.proofs.Cited.{◌≡◌, ℕ, true, false, ◌&&◌, List, [], ◌∷◌, ◌++◌, length, take, drop, codes, Option}
+use Rattle.rank_query.proofs.Cited.{Some, None, Ok, refl, sym, ap, ◌∙◌, subst, inl, inr, arith, ℤ, pos, cases_Bool}
+use Rattle.rank_query.proofs.Cited.{cond, and_parts, ints, civil, read_date, date_text, is_day, same_bytes}
+use Rattle.rank_query.proofs.Cited.{bytes_decides, last_digits, digits_value, both, day_of_2000, two_days, dates}
+use Rattle.rank_query.proofs.Cited.{dates_text, is_day_of_2000, BadDate, Word, or_fault, get_or, says, ◌-◌}
+use Rattle.rank_query.proofs.Cited.{common_steps, day_count, days_from_civil, days_of_years, days_of_months}
 use Rattle.std.specs.Option.{option_zip}
-use Rattle.rank_query.proofs.Cited.{day_count, days_from_civil, days_of_years, days_of_months}
 use Rattle.std.specs.Prelude.{IfSome}
 use Rattle.std.specs.List.{slice_range}
 use Rattle.jiff_core.specs.Calendar.{IsCivilDate}

@@ -1,8 +1,7 @@
 -- Days on the same side of the edges of a season.
 use Rattle.rank_query.proofs.Cited.{◌≡◌, true, false, cond, ◌&&◌, ap, ◌∙◌, arith, ints, ℤ, pos, ◌+ℤ◌, ◌-ℤ◌, ◌≤ℤ◌}
-use Rattle.rank_query.proofs.Cited.{int_le}
+use Rattle.rank_query.proofs.Cited.{int_le, FitsSigned, w32, rules}
 use Rattle.std.specs.Prelude.{◌||◌, int_lt}
-use Rattle.rank_query.proofs.Cited.{FitsSigned, w32, rules}
 use Rattle.rank_query.specs.Admits.{is_between_edges}
 
 -- the days from one to another of the same month are few

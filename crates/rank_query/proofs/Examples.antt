@@ -1,15 +1,12 @@
 -- Worked examples, by computation.
-use Rattle.rank_query.proofs.Cited.{◌≡◌, ℕ, [], ◌∷◌, ◌++◌, refl, Some, Ok, Err}
-use Rattle.rank_query.proofs.Cited.{codes, pos, neg_ℤ, ℤ, days_from_civil, day_count}
-use Rattle.rank_query.proofs.Cited.{days_of_years, days_of_months, Tmax, Tmin, Prcp}
-use Rattle.rank_query.proofs.Cited.{Score, Highest, Lowest, Sum, Dry, Wet, Hot, Cold, Region, Inside, Country}
-use Rattle.rank_query.proofs.Cited.{Season, Months, Dates}
-use Rattle.rank_query.proofs.Cited.{State, Only, UnexpectedWord, QueryEnds, OutOfLimits, BadDate, BadBox}
+use Rattle.rank_query.proofs.Cited.{◌≡◌, ℕ, [], ◌∷◌, ◌++◌, refl, Some, Ok, Err, codes, pos, neg_ℤ, ℤ, days_from_civil}
+use Rattle.rank_query.proofs.Cited.{day_count, days_of_years, days_of_months, Tmax, Tmin, Prcp, Score, Highest, Lowest}
+use Rattle.rank_query.proofs.Cited.{Sum, Dry, Wet, Hot, Cold, Region, Inside, Country, Season, Months, Dates, State}
+use Rattle.rank_query.proofs.Cited.{Only, UnexpectedWord, QueryEnds, OutOfLimits, BadDate, BadBox, EmptyPeriod, Asked}
+use Rattle.rank_query.proofs.Cited.{words_of, says, keyword, number, element, heat, months, dates, degrees, code, date}
+use Rattle.rank_query.proofs.Cited.{sum_at, no_score_at, score_at, box_at, region_at, season_at, days_at, period_at}
+use Rattle.rank_query.proofs.Cited.{per_at, read_words, read_query, group, Station as ByStation, Year as ByYear}
 use Rattle.rank_query.specs.Asked.{top}
-use Rattle.rank_query.proofs.Cited.{EmptyPeriod, Asked, words_of, says, keyword, number, element, heat}
-use Rattle.rank_query.proofs.Cited.{months, dates, degrees, code, date}
-use Rattle.rank_query.proofs.Cited.{sum_at, no_score_at, score_at, box_at, region_at, season_at, days_at, period_at, per_at}
-use Rattle.rank_query.proofs.Cited.{read_words, read_query, group, Station as ByStation, Year as ByYear}
 
 -- a query of a region and all days
 abbrev pub asked_in : Region → ℕ → Score → Asked

@@ -1,15 +1,10 @@
 -- Worked examples of the errors of queries, by computation.
-use Rattle.rank_query.proofs.Cited.{◌≡◌, ℕ, [], ◌∷◌, refl, inl, inr, Err, replicate}
-use Rattle.rank_query.proofs.Cited.{codes, arith, pos, map, repeat, ints}
-use Rattle.rank_query.proofs.Cited.{year_and_rest, month_and_day, Tmax}
-use Rattle.rank_query.proofs.Cited.{Lowest}
-use Rattle.rank_query.proofs.Cited.{QueryTooLong, UnexpectedWord, QueryEnds, OutOfLimits, BadDate, BadBox}
+use Rattle.rank_query.proofs.Cited.{◌≡◌, ℕ, [], ◌∷◌, refl, inl, inr, Err, replicate, codes, arith, pos, map, repeat}
+use Rattle.rank_query.proofs.Cited.{ints, year_and_rest, month_and_day, Tmax, Lowest, QueryTooLong, UnexpectedWord}
+use Rattle.rank_query.proofs.Cited.{QueryEnds, OutOfLimits, BadDate, BadBox, words_of, says, keyword, number, element}
+use Rattle.rank_query.proofs.Cited.{edge, place_behind, BeginQuery, EndsTooEarly, StandsIn, no_score_at, score_at}
+use Rattle.rank_query.proofs.Cited.{region_at, season_at, period_at, per_at, read_words, read_query}
 use Rattle.rank_query.specs.Asked.{top}
-use Rattle.rank_query.proofs.Cited.{words_of, says, keyword, number, element}
-use Rattle.rank_query.proofs.Cited.{date, edge, place_behind, BeginQuery, EndsTooEarly}
-use Rattle.rank_query.proofs.Cited.{StandsIn}
-use Rattle.rank_query.proofs.Cited.{no_score_at, score_at, region_at, season_at, period_at, per_at}
-use Rattle.rank_query.proofs.Cited.{read_words, read_query}
 use Rattle.std.specs.Fmt.{digits}
 use Rattle.rank_query.specs.FaultKinds.{number as a_number, heat as a_heat, season as a_season, date as a_date}
 use Rattle.rank_query.specs.FaultKinds.{dates as two_dates, other as another}

@@ -1,28 +1,21 @@
 -- Each error of a word is the one that the words before it call for.
-use Rattle.rank_query.proofs.ReadingSteps.{assoc}
-use Rattle.rank_query.proofs.Cited.{ints, ◌≡◌, ℕ, ◌+◌, Bool, true, false, cond, ◌&&◌, inl, inr, List, [], ◌∷◌}
-use Rattle.rank_query.proofs.Cited.{◌++◌, length, reverse, Option, Some, None, Result, Ok, Err, IfErr, codes, refl, sym}
-use Rattle.rank_query.proofs.Cited.{ap, ◌∙◌, subst, arith, nat_lt, ℤ, pos, neg_ℤ, int_le}
-use Rattle.rank_query.proofs.Cited.{map-append, length-map, length-reverse, reverse-reverse}
-use Rattle.rank_query.proofs.Cited.{Element}
-use Rattle.rank_query.proofs.Cited.{Score, Highest, Lowest, Sum, Dry, Wet, Hot, Cold, Region, Everywhere, Inside}
-use Rattle.rank_query.proofs.Cited.{Country}
-use Rattle.rank_query.proofs.Cited.{Season, AllYear, Months, Dates}
+use Rattle.rank_query.proofs.Cited.{ints, ◌≡◌, ℕ, ◌+◌, Bool, true, false, cond, ◌&&◌, inl, inr, List, [], ◌∷◌, ◌++◌}
+use Rattle.rank_query.proofs.Cited.{length, reverse, Option, Some, None, Result, Ok, Err, IfErr, codes, refl, sym, ap}
+use Rattle.rank_query.proofs.Cited.{◌∙◌, subst, arith, nat_lt, ℤ, pos, neg_ℤ, int_le, map-append, length-map}
+use Rattle.rank_query.proofs.Cited.{length-reverse, reverse-reverse, Element, Score, Highest, Lowest, Sum, Dry, Wet}
+use Rattle.rank_query.proofs.Cited.{Hot, Cold, Region, Everywhere, Inside, Country, Season, AllYear, Months, Dates}
 use Rattle.rank_query.proofs.Cited.{State, Only, QueryFault, QueryTooLong, UnexpectedWord, QueryEnds, OutOfLimits}
 use Rattle.rank_query.proofs.Cited.{BadDate, BadBox, EmptyPeriod, Asked, may_be_negative, is_fall, is_heat, is_month}
-use Rattle.rank_query.proofs.Cited.{Word, words_of, numbered_words, ◌>>=◌, keyword, one_word}
-use Rattle.rank_query.proofs.Cited.{made_into, number, element, heat, months, degrees, code, date, tenths_in}
-use Rattle.rank_query.proofs.Cited.{two_numbers, dates, no_score_at, sum_at}
-use Rattle.rank_query.proofs.Cited.{score_at, box_at, everywhere_at, region_at}
-use Rattle.rank_query.proofs.Cited.{Per, Each, group, group_of, each_at, per_at}
-use Rattle.rank_query.proofs.Cited.{months_at, dates_at, all_year_at, season_at, days_at, between_at, always_at}
-use Rattle.rank_query.proofs.Cited.{period_at}
-use Rattle.rank_query.proofs.Cited.{nothing_more, read_words, read_query, place_behind, other, has_form}
-use Rattle.rank_query.proofs.Cited.{is_decimal, is_behind_box, is_behind_first_day, IsFaultAmong}
-use Rattle.rank_query.proofs.Cited.{cases_Bool}
+use Rattle.rank_query.proofs.Cited.{Word, words_of, numbered_words, ◌>>=◌, keyword, one_word, made_into, number}
+use Rattle.rank_query.proofs.Cited.{element, heat, months, degrees, code, date, tenths_in, two_numbers, dates}
+use Rattle.rank_query.proofs.Cited.{no_score_at, sum_at, score_at, box_at, everywhere_at, region_at, Per, Each, group}
+use Rattle.rank_query.proofs.Cited.{group_of, each_at, per_at, months_at, dates_at, all_year_at, season_at, days_at}
+use Rattle.rank_query.proofs.Cited.{between_at, always_at, period_at, nothing_more, read_words, read_query}
+use Rattle.rank_query.proofs.Cited.{place_behind, other, has_form, is_decimal, is_behind_box, is_behind_first_day}
+use Rattle.rank_query.proofs.Cited.{IsFaultAmong, cases_Bool}
 use Rattle.rank_query.specs.FaultKinds.{heat as a_heat, date as a_date}
-use Rattle.rank_query.proofs.ReadingSteps.{unnumbered, unnumbered-enumerate_from, test_err}
-use Rattle.rank_query.proofs.ReadingSteps.{test_ok, or_fault_err}
+use Rattle.rank_query.proofs.ReadingSteps.{assoc, unnumbered, unnumbered-enumerate_from, test_err, test_ok}
+use Rattle.rank_query.proofs.ReadingSteps.{or_fault_err}
 use Rattle.rank_query.proofs.Spellings.{asked}
 use Rattle.rank_query.proofs.ScoreWords.{score_rows}
 use Rattle.rank_query.proofs.RegionWords.{region_rows}
@@ -33,13 +26,11 @@ use Rattle.rank_query.proofs.Stops.{bind_err}
 use Rattle.rank_query.proofs.FaultPlaces.{place_of}
 use Rattle.rank_query.proofs.Places.{IsSettled, IsNoKeyword, HaveOtherLengths, not_both, settled_word, edge_more}
 use Rattle.rank_query.proofs.Places.{edge_less, edge_place, number_no_keyword, heat_no_keyword, months_no_keyword}
-use Rattle.rank_query.proofs.Places.{degrees_no_keyword, code_no_keyword, group_no_keyword, date_no_keyword, dates_no_keyword}
-use Rattle.rank_query.proofs.Places.{element_settled}
-use Rattle.rank_query.proofs.Places.{degrees_decimal, day_date}
-use Rattle.rank_query.proofs.WordFaults.{IsKind, IsFaultBehind, here, unexpected}
-use Rattle.rank_query.proofs.WordFaults.{further, made_then, one_step, inner_step, keyword_step, Part, Row, rows_part}
-use Rattle.rank_query.proofs.WordFaults.{limited_kind, number_kind, element_kind, degrees_kind, code_kind, date_kind}
-use Rattle.rank_query.proofs.WordFaults.{dates_kind}
+use Rattle.rank_query.proofs.Places.{degrees_no_keyword, code_no_keyword, group_no_keyword, date_no_keyword}
+use Rattle.rank_query.proofs.Places.{dates_no_keyword, element_settled, degrees_decimal, day_date}
+use Rattle.rank_query.proofs.WordFaults.{IsKind, IsFaultBehind, here, unexpected, further, made_then, one_step}
+use Rattle.rank_query.proofs.WordFaults.{inner_step, keyword_step, Part, Row, rows_part, limited_kind, number_kind}
+use Rattle.rank_query.proofs.WordFaults.{element_kind, degrees_kind, code_kind, date_kind, dates_kind}
 
 -- after a word, what is made of the value of another
 made_row : {A B : Type 0} (text : List ℕ) (value : Word → Result A QueryFault) (make : A → B)

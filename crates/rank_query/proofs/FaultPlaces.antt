@@ -1,12 +1,10 @@
 -- The error that is reported is at the first word with which no query goes on.
-use Rattle.rank_query.proofs.Cited.{cases_Bool}
-use Rattle.rank_query.proofs.Cited.{◌≡◌, ℕ, ◌+◌, ◌⊎◌, inl, inr, List, [], ◌∷◌, ◌++◌}
-use Rattle.rank_query.proofs.Cited.{length, Result, Ok, Err, refl, sym, ap, ◌∙◌, subst, append_assoc, append-nil, IfErr}
-use Rattle.rank_query.proofs.Cited.{arith, nat_lt, enumerate_from, AllByRecursion, map-append, length-map, nat_tests}
-use Rattle.rank_query.proofs.Cited.{QueryFault, QueryTooLong, UnexpectedWord, QueryEnds, OutOfLimits, BadDate, BadBox}
-use Rattle.rank_query.proofs.Cited.{EmptyPeriod, Asked, Word, words_of, numbered_words, SpellsQuery}
-use Rattle.rank_query.proofs.Cited.{read_words, read_query, BeginQuery, IsFirstWrong, IsFirstWrongAt, SpellNone}
-use Rattle.rank_query.proofs.Cited.{StandsAmong, StandsIn}
+use Rattle.rank_query.proofs.Cited.{cases_Bool, ◌≡◌, ℕ, ◌+◌, ◌⊎◌, inl, inr, List, [], ◌∷◌, ◌++◌, length, Result, Ok}
+use Rattle.rank_query.proofs.Cited.{Err, refl, sym, ap, ◌∙◌, subst, append_assoc, append-nil, IfErr, arith, nat_lt}
+use Rattle.rank_query.proofs.Cited.{enumerate_from, AllByRecursion, map-append, length-map, nat_tests, QueryFault}
+use Rattle.rank_query.proofs.Cited.{QueryTooLong, UnexpectedWord, QueryEnds, OutOfLimits, BadDate, BadBox, EmptyPeriod}
+use Rattle.rank_query.proofs.Cited.{Asked, Word, words_of, numbered_words, SpellsQuery, read_words, read_query}
+use Rattle.rank_query.proofs.Cited.{BeginQuery, IsFirstWrong, IsFirstWrongAt, SpellNone, StandsAmong, StandsIn}
 use Rattle.rank_query.proofs.OneWords.{HasNoBlank, words_no_blank}
 use Rattle.rank_query.proofs.ReadingSteps.{unnumbered, unnumbered-enumerate_from}
 use Rattle.rank_query.proofs.Spellings.{words_spell, spelt_read}

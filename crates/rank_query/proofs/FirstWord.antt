@@ -1,11 +1,10 @@
 -- The first word of a text, and the words after it.
-use Rattle.rank_query.proofs.Cited.{ints, ◌≡◌, ℕ, ◌+◌, ◌<◌, ◌≤◌, true, false, not, cond, List, [], ◌∷◌, length}
-use Rattle.rank_query.proofs.Cited.{take, drop, get_or, All, filter, refl, sym, ap, ◌∙◌, inl, inr, Some, None, arith}
-use Rattle.rank_query.proofs.Cited.{nat_lt, unwrap_or, slice_split, position, position_or_len, enumerate_from}
-use Rattle.rank_query.proofs.Cited.{nat_tests, take_all, drop_all, drop_more, fails_before_first}
-use Rattle.rank_query.proofs.Cited.{passes_at_first, prefix_len-le-length, slice_split_none, slice_split_first}
-use Rattle.rank_query.proofs.Cited.{slice_split-cons_yes, cases_lt, after_blanks, is_separator, words_of}
-use Rattle.rank_query.proofs.Cited.{cases_Bool}
+use Rattle.rank_query.proofs.Cited.{ints, ◌≡◌, ℕ, ◌+◌, ◌<◌, ◌≤◌, true, false, not, cond, List, [], ◌∷◌, length, take}
+use Rattle.rank_query.proofs.Cited.{drop, get_or, All, filter, refl, sym, ap, ◌∙◌, inl, inr, Some, None, arith, nat_lt}
+use Rattle.rank_query.proofs.Cited.{unwrap_or, slice_split, position, position_or_len, enumerate_from, nat_tests}
+use Rattle.rank_query.proofs.Cited.{take_all, drop_all, drop_more, fails_before_first, passes_at_first}
+use Rattle.rank_query.proofs.Cited.{prefix_len-le-length, slice_split_none, slice_split_first, slice_split-cons_yes}
+use Rattle.rank_query.proofs.Cited.{cases_lt, after_blanks, is_separator, words_of, cases_Bool, nil_from_length}
 use Rattle.rank_query.proofs.OneWords.{is_word}
 
 -- a blank before a text adds no word
@@ -79,14 +78,10 @@ first_word text rest n e some at =
     let here : 0 < n = omega (arith, same, at, after_blanks-first text (omega (arith, ap length e, some))) in
     grind (arith, ints, words_of-after_blanks, words_of-first)
 
--- the empty text has no word
-of_empty : (rest : List ℕ) → length rest ≡ 0 → words_of rest ≡ []
-of_empty [] none = refl
-of_empty (b ∷ bytes) none = absurd (omega arith)
-
 -- blanks alone have no word
 pub no_word : (text rest : List ℕ) → rest ≡ after_blanks text → length rest ≡ 0 → words_of text ≡ []
-no_word text rest e none = sym (words_of-after_blanks text) ∙ ap words_of (sym e) ∙ of_empty rest none
+no_word text rest e none =
+    sym (words_of-after_blanks text) ∙ ap words_of (sym e) ∙ ap words_of (nil_from_length rest none)
 
 -- a place within the text, or its length
 place_or : (n len : ℕ) → n ≤ len → unwrap_or (cond (nat_lt n len) (Some n) None) len ≡ n

@@ -1,6 +1,6 @@
 -- Where the reading of a group stops.
-use Rattle.rank_query.proofs.Cited.{[], AllByRecursion, codes, refl, subst, UnexpectedWord}
-use Rattle.rank_query.proofs.Cited.{Per, Station, group, group_of}
+use Rattle.rank_query.proofs.Cited.{[], AllByRecursion, codes, refl, subst, UnexpectedWord, Per, Station, group}
+use Rattle.rank_query.proofs.Cited.{group_of}
 use Rattle.rank_query.proofs.ReadingSteps.{or_fault_err}
 use Rattle.rank_query.proofs.GroupWords.{per_rows}
 use Rattle.rank_query.proofs.Stops.{IsWordOf, ReadsPart}

@@ -1,8 +1,8 @@
 -- The words of a group: those that are read as a group spell it, and those that spell it are read as it.
-use Rattle.rank_query.proofs.Cited.{◌≡◌, ℕ, List, [], ◌∷◌, ◌++◌, Some, None, Ok, codes, refl}
-use Rattle.rank_query.proofs.Cited.{sym, ap, subst, inl, inr, cases_Bool, same_bytes, bytes_decides, period_at}
-use Rattle.rank_query.proofs.Cited.{Per, Each, Station, Year, UnexpectedWord, Word, says, Read, one_word, group, group_of}
-use Rattle.rank_query.proofs.Cited.{each_at, per_at, Exactly, per_words}
+use Rattle.rank_query.proofs.Cited.{◌≡◌, ℕ, List, [], ◌∷◌, ◌++◌, Some, None, Ok, codes, refl, sym, ap, subst, inl, inr}
+use Rattle.rank_query.proofs.Cited.{cases_Bool, same_bytes, bytes_decides, period_at, Per, Each, Station, Year}
+use Rattle.rank_query.proofs.Cited.{UnexpectedWord, Word, says, Read, one_word, group, group_of, each_at, per_at}
+use Rattle.rank_query.proofs.Cited.{Exactly, per_words}
 use Rattle.rank_query.proofs.ReadingSteps.{or_fault_ok, one_word_took, unnumbered}
 use Rattle.rank_query.proofs.SpeltWords.{TakesBehind, Took, took_same, rows_took, ReadsAs, word_read, behind_read}
 use Rattle.rank_query.proofs.SpeltWords.{PassesBy, passed_by}

@@ -1,18 +1,13 @@
 -- Worked examples of how queries are written, and of which stations and days they admit, by computation.
-use Rattle.rank_query.proofs.Cited.{◌≡◌, true, false, [], ◌∷◌, refl, None}
-use Rattle.rank_query.proofs.Cited.{codes, pos, neg_ℤ, ℤ, map, days_from_civil, day_count}
-use Rattle.rank_query.proofs.Cited.{days_of_years, days_of_months, year_and_rest, month_and_day, Tmax}
-use Rattle.rank_query.proofs.Cited.{Highest, Dry, Wet, Hot, Cold, Region, Inside, Country}
-use Rattle.rank_query.proofs.Cited.{State, Only}
+use Rattle.rank_query.proofs.Cited.{◌≡◌, true, false, [], ◌∷◌, refl, None, codes, pos, neg_ℤ, ℤ, map, days_from_civil}
+use Rattle.rank_query.proofs.Cited.{day_count, days_of_years, days_of_months, year_and_rest, month_and_day, Tmax}
+use Rattle.rank_query.proofs.Cited.{Highest, Dry, Wet, Hot, Cold, Region, Inside, Country, State, Only, query_text}
+use Rattle.rank_query.proofs.Cited.{Station as ByStation, Year as ByYear, Tmin, Prcp, Lowest, Sum}
 use Rattle.rank_query.specs.Asked.{top}
-use Rattle.rank_query.proofs.Cited.{query_text}
-use Rattle.rank_query.proofs.Cited.{months}
-use Rattle.rank_query.proofs.Cited.{Station as ByStation, Year as ByYear}
 use Rattle.std.specs.Fmt.{digits}
 use Rattle.ghcn_files.specs.declared.station.Station.{Station}
 use Rattle.rank_query.specs.Admits.{region_holds, admits_day}
 use Rattle.rank_query.proofs.Examples.{asked_in, in_box_of, dry_months, dry_days, dry_from}
-use Rattle.rank_query.proofs.Cited.{Tmin, Prcp, Lowest, Sum}
 
 -- canonical texts
 canonical_texts : (query_text (top 1000 (Highest Tmax)) ≡ codes "top 1000 highest TMAX")

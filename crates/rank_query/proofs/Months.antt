@@ -33,16 +33,20 @@ placed y m d n e =
 within_month : (y m d : ℕ) → 1 ≤ d → d ≤ days_in_month (pos y) m → is_within 1 (days_in_month (pos y) m) d ≡ true
 within_month y m d low high = grind (arith, nat_tests)
 
+-- days of a month, counted from one of them
+days_on : (y m d i : ℕ) → 1 ≤ d → days_from_civil (pos y) m (d + i) ≡ days_from_civil (pos y) m d +ℤ pos i
+days_on y m d i low =
+    let one = days_from_civil-day_count (pos y) m d in
+    let two = days_from_civil-day_count (pos y) m (d + i) in
+    let first = day_count-day_of_year (pos y) m d low in
+    let second = day_count-day_of_year (pos y) m (d + i) (omega (arith, low)) in
+    omega (arith, signed_arith, one, two, first, second)
+
 -- that many days later in the month
 later : (y m d i : ℕ) (n : ℤ) → IsPlaced y m d n → d + i ≤ days_in_month (pos y) m → day_number y m (d + i) ≡ Some
     (n +ℤ pos i)
 later y m d i n is within =
-    let one = days_from_civil-day_count (pos y) m d in
-    let two = days_from_civil-day_count (pos y) m (d + i) in
-    let first = day_count-day_of_year (pos y) m d is.low in
-    let second = day_count-day_of_year (pos y) m (d + i) (omega (arith, is.low)) in
-    let number : days_from_civil (pos y) m (d + i) ≡ n +ℤ pos i =
-    omega (arith, signed_arith, one, two, first, second, is.number) in
+    let number = days_on y m d i is.low ∙ ap (λ (z : ℤ). z +ℤ pos i) is.number in
     let date : is_date y m (d + i) ≡ true =
     ap (λ b. b && is_within 1 (days_in_month (pos y) m) (d + i)) is.before
     ∙ within_month y m (d + i) (omega (arith, is.low)) within in
@@ -71,14 +75,8 @@ later_2000 y m d n e is from to =
     let i : ℕ = unsigned_abs (e -ℤ n) in
     let start : civil n ≡ (y, m, d) = ((day_number-law y m d n).0 is).1 in
     let end = later_date y m d n e is from to in
-    let one = days_from_civil-day_count (pos 2000) m d in
-    let two = days_from_civil-day_count (pos 2000) m (d + i) in
-    let first = day_count-day_of_year (pos 2000) m d here.low in
-    let second = day_count-day_of_year (pos 2000) m (d + i) (omega (arith, here.low)) in
     let at : pos i ≡ e -ℤ n = grind (arith, ints) in
-    let number : days_from_civil (pos 2000) m (d + i) ≡ days_from_civil (pos 2000) m d +ℤ pos i =
-    omega (arith, signed_arith, one, two, first, second) in
-    ap (λ (c : ℕ × ℕ × ℕ). days_from_civil (pos 2000) c.1 c.2) end ∙ number
+    ap (λ (c : ℕ × ℕ × ℕ). days_from_civil (pos 2000) c.1 c.2) end ∙ days_on 2000 m d i here.low
     ∙ ap (λ (z : ℤ). days_from_civil (pos 2000) m d +ℤ z) at
     ∙ ap (λ (c : ℕ × ℕ × ℕ). days_from_civil (pos 2000) c.1 c.2 +ℤ (e -ℤ n)) (sym start)
 

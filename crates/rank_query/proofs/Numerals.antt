@@ -1,12 +1,11 @@
 -- The number that digits write, up to a limit.
-use Rattle.rank_query.proofs.Cited.{◌≡◌, ℕ, ◌+◌, ◌-◌, ◌*◌, ◌<◌, ◌≤◌, ◌^◌, Bool, true, false, min, List, [], ◌∷◌}
-use Rattle.rank_query.proofs.Cited.{length, take, drop, get_or, Option, Some, None, Ok, Err, refl, sym, ap, ◌∙◌, arith}
-use Rattle.rank_query.proofs.Cited.{inl, inr, ◌==◌, ℤ, pos, neg_ℤ, list_all, before_first, after_first, position_or_len}
+use Rattle.rank_query.proofs.Cited.{◌≡◌, ℕ, ◌+◌, ◌-◌, ◌*◌, ◌<◌, ◌≤◌, ◌^◌, Bool, true, false, min, List, [], ◌∷◌, length}
+use Rattle.rank_query.proofs.Cited.{take, drop, get_or, Option, Some, None, Ok, Err, refl, sym, ap, ◌∙◌, arith, inl}
+use Rattle.rank_query.proofs.Cited.{inr, ◌==◌, ℤ, pos, neg_ℤ, list_all, before_first, after_first, position_or_len}
 use Rattle.rank_query.proofs.Cited.{option_map, is_ascii_digit, digit_value, digits_value, nat_tests}
 use Rattle.rank_query.proofs.Cited.{false_from_ne_true, cases_Bool, ints, drop_all, position_or_len_is, cond_some}
 use Rattle.rank_query.proofs.Cited.{IsFirstByte, is_byte, natural, joined, decimal_number, with_sign, signed_by}
-use Rattle.rank_query.proofs.Cited.{OutOfLimits, is_heat, heat, tenths_in, is_point}
-use Rattle.rank_query.proofs.Cited.{two_numbers, both, natural_behind}
+use Rattle.rank_query.proofs.Cited.{OutOfLimits, is_heat, heat, tenths_in, is_point, two_numbers, both, natural_behind}
 use Rattle.std.proofs.lemmas.Int.Digits.{digits_value_more}
 use Rattle.rank_query.proofs.ReadingSteps.{tested_again}
 

@@ -2,7 +2,7 @@
 use Rattle.rank_query.proofs.Cited.{◌≡◌, ℕ, Bool, true, false, not, cond, ◌&&◌, List, [], ◌∷◌, ◌++◌, All, filter, refl}
 use Rattle.rank_query.proofs.Cited.{ap, ◌∙◌, slice_split, onto_first, join_with_byte, list_all, AllByRecursion}
 use Rattle.rank_query.proofs.Cited.{slice_split_none, slice_split_at, AllPass-from_list_all, is_separator, words_of}
-use Rattle.rank_query.proofs.Cited.{◌==◌, length}
+use Rattle.rank_query.proofs.Cited.{◌==◌, length, cases_Bool, inl, inr}
 use Rattle.std.proofs.lemmas.List.Elements.{All-filter, recursion_from_All}
 
 -- something is in it
@@ -54,17 +54,13 @@ first_more b [] here rest = ap (λ t. t && true && true) here
 first_more b (part ∷ parts) here rest =
     ap (λ t. (t && list_all stands_in_word part) && list_all (list_all stands_in_word) parts) here ∙ rest
 
--- the same by what the first byte is
-first_part : (t : Bool) (b : ℕ) (parts : List (List ℕ)) → is_separator b ≡ t
-    → list_all (list_all stands_in_word) parts ≡ true → list_all (list_all stands_in_word)
-    (cond t ([] ∷ parts) (onto_first b parts)) ≡ true
-first_part true b parts e rest = rest
-first_part false b parts e rest = first_more b parts (ap not e) rest
-
 -- the parts between blanks have none
 parts_no_blank : (text : List ℕ) → list_all (list_all stands_in_word) (slice_split is_separator text) ≡ true
 parts_no_blank [] = refl
-parts_no_blank (b ∷ bytes) = first_part (is_separator b) b (slice_split is_separator bytes) refl (parts_no_blank bytes)
+parts_no_blank (b ∷ bytes) = elim (cases_Bool (is_separator b)) [
+  | inl blank ↦ rw blank (parts_no_blank bytes)
+  | inr other ↦ rw other (first_more b (slice_split is_separator bytes) (ap not other) (parts_no_blank bytes))
+]
 
 -- no word of a text has a blank
 pub words_no_blank : (text : List ℕ) → AllByRecursion HasNoBlank (words_of text)

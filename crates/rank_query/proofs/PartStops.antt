@@ -1,6 +1,5 @@
 -- Where the reading of one word stops, and that of a part that its first word determines.
-use Rattle.rank_query.proofs.Cited.{cases_Bool}
-use Rattle.rank_query.proofs.Cited.{◌≡◌, ℕ, zero, Bool, true, false, cond, ◌⊎◌, inl, inr, List, [], ◌∷◌}
+use Rattle.rank_query.proofs.Cited.{cases_Bool, ◌≡◌, ℕ, zero, Bool, true, false, cond, ◌⊎◌, inl, inr, List, [], ◌∷◌}
 use Rattle.rank_query.proofs.Cited.{Result, Ok, Err, refl, sym, ap, ◌∙◌, subst, AllByRecursion, QueryFault}
 use Rattle.rank_query.proofs.Cited.{UnexpectedWord, QueryEnds, Word, says, ◌>>=◌, Read, keyword, one_word, made_into}
 use Rattle.rank_query.proofs.Cited.{by_word}

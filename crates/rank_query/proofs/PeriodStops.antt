@@ -1,19 +1,16 @@
 -- Where the reading of a period stops.
-use Rattle.rank_query.proofs.Cited.{sym, inl, inr, cases_Bool}
-use Rattle.rank_query.proofs.ReadingSteps.{assoc, test_err}
-use Rattle.rank_query.proofs.Stops.{bind_err}
-use Rattle.rank_query.proofs.Cited.{◌≡◌, ℕ, true, false, cond, ◌&&◌, List, [], ◌∷◌, ◌++◌, Option, Some, Result}
-use Rattle.rank_query.proofs.Cited.{Ok, Err, codes, refl, ap, ◌∙◌, subst, arith, ℤ, pos, int_le, ◌<ℤ◌, AllByRecursion}
-use Rattle.rank_query.proofs.Cited.{ints, is_day, date_text, QueryFault, UnexpectedWord, QueryEnds, EmptyPeriod}
-use Rattle.rank_query.proofs.Cited.{is_period, Word, says, ◌>>=◌, Read, keyword, one_word, date, days_at}
-use Rattle.rank_query.proofs.Cited.{EndsTooEarly}
-use Rattle.rank_query.proofs.ReadingSteps.{said, test_ok, one_word_again}
+use Rattle.rank_query.proofs.Cited.{sym, inl, inr, cases_Bool, ◌≡◌, ℕ, true, false, cond, ◌&&◌, List, [], ◌∷◌, ◌++◌}
+use Rattle.rank_query.proofs.Cited.{Option, Some, Result, Ok, Err, codes, refl, ap, ◌∙◌, subst, arith, ℤ, pos, int_le}
+use Rattle.rank_query.proofs.Cited.{◌<ℤ◌, AllByRecursion, ints, is_day, date_text, QueryFault, UnexpectedWord}
+use Rattle.rank_query.proofs.Cited.{QueryEnds, EmptyPeriod, is_period, Word, says, ◌>>=◌, Read, keyword, one_word, date}
+use Rattle.rank_query.proofs.Cited.{days_at, EndsTooEarly}
+use Rattle.rank_query.proofs.ReadingSteps.{assoc, test_err, said, test_ok, one_word_again}
+use Rattle.rank_query.proofs.Stops.{bind_err, Reading, then, GoesOn, IsWordOf, Stops, TakesAll, Ended, ReadsPart}
+use Rattle.rank_query.proofs.Stops.{word_behind, stops_word, stops_end, takes_then}
 use Rattle.rank_query.proofs.WordValues.{date_written, date_day, written_date}
 use Rattle.rank_query.proofs.RegionWords.{and_true}
 use Rattle.rank_query.proofs.PeriodWords.{period_rows}
 use Rattle.rank_query.proofs.PrintedWords.{date_word}
-use Rattle.rank_query.proofs.Stops.{Reading, then, GoesOn, IsWordOf, Stops, TakesAll, Ended, ReadsPart}
-use Rattle.rank_query.proofs.Stops.{word_behind, stops_word, stops_end, takes_then}
 use Rattle.rank_query.proofs.PartStops.{beside, part_word, part_made, part_the_word, the_word, Any, keyword-then}
 use Rattle.rank_query.proofs.PartStops.{takes_same}
 use Rattle.rank_query.proofs.WordStops.{reads_date}

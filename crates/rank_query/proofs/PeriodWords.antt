@@ -2,8 +2,8 @@
 use Rattle.rank_query.proofs.Cited.{◌≡◌, ℕ, true, cond, ◌&&◌, List, [], ◌∷◌, ◌++◌, Option, Some, None, Ok, Err, codes}
 use Rattle.rank_query.proofs.Cited.{refl, sym, ap, subst, ℤ, int_le, and_parts, is_day, date_text, EmptyPeriod}
 use Rattle.rank_query.proofs.Cited.{is_period, AllYear, Word, says, Read, keyword, one_word, date, season_at, days_at}
-use Rattle.rank_query.proofs.Cited.{between_at, always_at, period_at, QueryWord, Exactly, period_words, per_words}
-use Rattle.rank_query.proofs.Cited.{Per, Each, Station, Year}
+use Rattle.rank_query.proofs.Cited.{between_at, always_at, period_at, QueryWord, Exactly, period_words, per_words, Per}
+use Rattle.rank_query.proofs.Cited.{Each, Station, Year}
 use Rattle.rank_query.proofs.ReadingSteps.{bind_ok, test_ok, keyword_took, unnumbered}
 use Rattle.rank_query.proofs.SpeltWords.{TakesBehind, Spell, took_same, word_took, made_took, rows_took, ReadsAs}
 use Rattle.rank_query.proofs.SpeltWords.{word_read, made_read, then_read, behind_read, always_read, PassesBy, passed_by}

@@ -1,16 +1,13 @@
 -- What the grammar has after the words that were read.
 use Rattle.rank_query.proofs.Cited.{◌≡◌, ℕ, suc, Bool, true, false, cond, ◌&&◌, List, [], ◌∷◌, arith, ints, Result, Ok}
-use Rattle.rank_query.proofs.Cited.{Err, codes, refl, sym, ap, subst, is_some, ℤ, bytes_decides, AllByRecursion, Field}
-use Rattle.rank_query.proofs.Cited.{Blank, Number, Bad, same_bytes, read_date, scaled_field, Element, Prcp, Snow, Snwd}
-use Rattle.rank_query.proofs.Cited.{Tmax, Tmin, code_of, is_number_within, number_of, QueryFault, UnexpectedWord}
-use Rattle.rank_query.proofs.Cited.{BadDate, BadBox, is_code, Word, number, element, heat, months, dates, degrees, code}
-use Rattle.rank_query.proofs.Cited.{date}
-use Rattle.rank_query.proofs.Cited.{edge, other, is_number, is_decimal, is_date_word, is_behind_box}
-use Rattle.rank_query.proofs.Cited.{is_behind_first_day}
-use Rattle.rank_query.proofs.Cited.{place_behind, Per, group}
+use Rattle.rank_query.proofs.Cited.{Err, codes, refl, sym, ap, subst, is_some, ℤ, bytes_decides, AllByRecursion}
+use Rattle.rank_query.proofs.Cited.{same_bytes, read_date, scaled_field, Element, Prcp, Snow, Snwd, Tmax, Tmin, code_of}
+use Rattle.rank_query.proofs.Cited.{QueryFault, UnexpectedWord, BadDate, BadBox, is_code, Word, number, element, heat}
+use Rattle.rank_query.proofs.Cited.{months, dates, degrees, code, date, edge, other, is_number, is_decimal}
+use Rattle.rank_query.proofs.Cited.{is_date_word, is_behind_box, is_behind_first_day, place_behind, Per, group}
 use Rattle.ghcn_files.proofs.Among.{each-weaker}
 use Rattle.rank_query.proofs.ReadingSteps.{or_fault_ok}
-use Rattle.rank_query.proofs.WordValues.{element_code}
+use Rattle.rank_query.proofs.WordValues.{element_code, field_number}
 
 -- after these words no number, edge or date comes
 abbrev pub IsSettled : List (List ℕ) → Type 0
@@ -103,8 +100,7 @@ date_no_keyword w day e = no_keyword date w day (BadDate w.0) e
 -- nor are the days of a season
 pub dates_no_keyword : (w : Word) (s : ℤ × ℤ) → dates w ≡ Ok s → IsNoKeyword w.1
 unfolding dates
-dates_no_keyword w s e = no_keyword dates w s (BadDate w.0) e
-    (refl, (refl, (refl, (refl, (refl, (refl, (refl, (refl, tt))))))))
+dates_no_keyword w s e = grind (arith, ints, no_keyword)
 
 -- nor is a group
 pub group_no_keyword : (w : Word) (g : Per) → group w ≡ Ok g → IsNoKeyword w.1
@@ -126,17 +122,10 @@ pub element_settled : (allows : Element → Bool) (w : Word) (e : Element) (past
 element_settled allows w e past is =
     subst (λ (word : List ℕ). IsSettled (word ∷ past)) (sym (element_code allows w e is)) (code_settled e past)
 
--- a field that has a number within limits is a number
-field_is_number : (low high z : ℤ) (f : Field) (fault : QueryFault)
-    → cond (is_number_within low high f) (Ok (number_of f)) (Err fault) ≡ Ok z → is_number f ≡ true
-field_is_number low high z Blank fault e = absurd cc
-field_is_number low high z (Number n) fault e = refl
-field_is_number low high z Bad fault e = absurd cc
-
 -- degrees are a number with up to four decimals
 pub degrees_decimal : (low high : ℤ) (w : Word) (z : ℤ) → degrees low high w ≡ Ok z → is_decimal w.1 ≡ true
 unfolding degrees
-degrees_decimal low high w z e = field_is_number low high z (scaled_field 4 w.1) (BadBox w.0) e
+degrees_decimal low high w z e = ap is_number (field_number low high z (scaled_field 4 w.1) (BadBox w.0) e).0
 
 -- a word that is read as a day is a date
 pub day_date : (w : Word) (day : ℤ) → date w ≡ Ok day → is_date_word w.1 ≡ true

@@ -1,13 +1,13 @@
 -- The words of a canonical text: each is one word, and short.
-use Rattle.rank_query.proofs.Cited.{◌≡◌, ℕ, suc, ◌+◌, ◌*◌, ◌/◌, ◌%◌, ◌<◌, ◌≤◌, ◌^◌, Bool, true, ◌&&◌, List, []}
-use Rattle.rank_query.proofs.Cited.{◌∷◌, ◌++◌, length, decimal, codes, refl, sym, ap, ◌∙◌, length-append, append_assoc}
+use Rattle.rank_query.proofs.Cited.{◌≡◌, ℕ, suc, ◌+◌, ◌*◌, ◌/◌, ◌%◌, ◌<◌, ◌≤◌, ◌^◌, Bool, true, ◌&&◌, List, [], ◌∷◌}
+use Rattle.rank_query.proofs.Cited.{◌++◌, length, decimal, codes, refl, sym, ap, ◌∙◌, length-append, append_assoc}
 use Rattle.rank_query.proofs.Cited.{false, arith, nat_le, ℤ, pos, negsuc, neg_ℤ, ◌≤ℤ◌, list_all, AllByRecursion}
 use Rattle.rank_query.proofs.Cited.{join_with_byte, is_ascii_digit, digit_value, AllDigits, digits_value, and_parts}
 use Rattle.rank_query.proofs.Cited.{nat_tests, decimal_is_IsNumeral, length-decimal-le, decimal_digit, ints, civil}
-use Rattle.rank_query.proofs.Cited.{date_text, Spells, sign_text, with_sign, last_digits, four_places}
-use Rattle.rank_query.proofs.Cited.{tenths, Element, Prcp, Snow, Snwd, Tmax, Tmin, code_of, is_visible, is_printable}
-use Rattle.rank_query.proofs.Cited.{is_code, IsNumeralOf, TwoMonths, SpellsWord, word_text, dates_text, drop}
-use Rattle.rank_query.proofs.Cited.{◌-◌, get_or, subst, AllPass-from_list_all}
+use Rattle.rank_query.proofs.Cited.{date_text, Spells, sign_text, with_sign, last_digits, four_places, tenths, Element}
+use Rattle.rank_query.proofs.Cited.{Prcp, Snow, Snwd, Tmax, Tmin, code_of, is_visible, is_printable, is_code}
+use Rattle.rank_query.proofs.Cited.{IsNumeralOf, TwoMonths, SpellsWord, word_text, dates_text, drop, ◌-◌, get_or, subst}
+use Rattle.rank_query.proofs.Cited.{AllPass-from_list_all}
 use Rattle.std.proofs.lemmas.List.Sums.{list_all-from_AllPass}
 use Rattle.std.proofs.lemmas.List.Folds.{list_all-append}
 use Rattle.ghcn_fields.specs.Fields.{part_text}

@@ -1,10 +1,10 @@
 -- The pieces of a canonical text, as they are printed one after another.
-use Rattle.rank_query.proofs.Cited.{rules, ◌≡◌, ℕ, ◌+◌, ◌<◌, ◌/◌, ◌%◌, true, List, [], ◌∷◌, ◌++◌, Option, Result}
-use Rattle.rank_query.proofs.Cited.{Ok, Err, IsOk, MatchResult, IsUtf8, codes, decimal, refl, sym, ap, ◌∙◌}
-use Rattle.rank_query.proofs.Cited.{append_assoc, append-nil, arith, ℤ, join_with_byte, list_all, nat_tests}
-use Rattle.rank_query.proofs.Cited.{decimal_digit, AllPass-from_list_all, four_places, four_places_of, is_visible}
-use Rattle.rank_query.proofs.Cited.{Score, Region, Inside, Season, query_text, score_words, region_words, season_words}
-use Rattle.rank_query.proofs.Cited.{Per, per_words, period_words, map, QueryWord, Exactly, Count, word_text}
+use Rattle.rank_query.proofs.Cited.{rules, ◌≡◌, ℕ, ◌+◌, ◌<◌, ◌/◌, ◌%◌, true, List, [], ◌∷◌, ◌++◌, Option, Result, Ok}
+use Rattle.rank_query.proofs.Cited.{Err, IsOk, MatchResult, IsUtf8, codes, decimal, refl, sym, ap, ◌∙◌, append_assoc}
+use Rattle.rank_query.proofs.Cited.{append-nil, arith, ℤ, join_with_byte, list_all, nat_tests, decimal_digit}
+use Rattle.rank_query.proofs.Cited.{AllPass-from_list_all, four_places, four_places_of, is_visible, Score, Region}
+use Rattle.rank_query.proofs.Cited.{Inside, Season, query_text, score_words, region_words, season_words, Per, per_words}
+use Rattle.rank_query.proofs.Cited.{period_words, map, QueryWord, Exactly, Count, word_text}
 use Rattle.std.proofs.lemmas.List.Concat.{flat_map-append}
 use Rattle.std.proofs.lemmas.Str.{IsUtf8-from_ascii}
 use Rattle.std.proofs.lemmas.Str.Ascii.{IsAscii-from_all}
@@ -16,28 +16,10 @@ pub join-spaced : (word : QueryWord) (words : List QueryWord)
 join-spaced word [] = sym (append-nil (word_text word))
 join-spaced word (next ∷ words) = ap (λ text. word_text word ++ 32 ∷ text) (join-spaced next words)
 
--- three lists of words are printed one after another
-pub spaced-three : (xs ys zs : List QueryWord) → spaced (xs ++ ys ++ zs) ≡ spaced xs ++ (spaced ys ++ spaced zs)
-spaced-three xs ys zs =
-    flat_map-append (λ w. 32 ∷ word_text w) (xs ++ ys) zs
-    ∙ ap (λ text. text ++ spaced zs) (flat_map-append (λ w. 32 ∷ word_text w) xs ys)
-    ∙ append_assoc (spaced xs) (spaced ys) (spaced zs)
-
--- and so are four
-spaced-four : (ws xs ys zs : List QueryWord) → spaced (ws ++ xs ++ ys ++ zs) ≡ spaced ws ++
-    (spaced xs ++ (spaced ys ++ spaced zs))
-spaced-four ws xs ys zs =
-    spaced-three (ws ++ xs) ys zs
-    ∙ ap (λ text. text ++ (spaced ys ++ spaced zs)) (flat_map-append (λ w. 32 ∷ word_text w) ws xs)
-    ∙ append_assoc (spaced ws) (spaced xs) (spaced ys ++ spaced zs)
-
--- and five
+-- five lists of words are printed one after another
 spaced-five : (vs ws xs ys zs : List QueryWord) → spaced (vs ++ ws ++ xs ++ ys ++ zs) ≡ spaced vs ++
     (spaced ws ++ (spaced xs ++ (spaced ys ++ spaced zs)))
-spaced-five vs ws xs ys zs =
-    spaced-four (vs ++ ws) xs ys zs
-    ∙ ap (λ text. text ++ (spaced xs ++ (spaced ys ++ spaced zs))) (flat_map-append (λ w. 32 ∷ word_text w) vs ws)
-    ∙ append_assoc (spaced vs) (spaced ws) (spaced xs ++ (spaced ys ++ spaced zs))
+spaced-five vs ws xs ys zs = simp (flat_map-append, append_assoc)
 
 -- the pieces that are printed are the canonical text
 pub printed-is : (k : ℕ) (s : Score) (r : Region) (t : Season) (p : Option (ℤ × ℤ)) (g : Per)

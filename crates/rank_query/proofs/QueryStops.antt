@@ -1,10 +1,8 @@
 -- Where the reading of a query stops.
-use Rattle.rank_query.proofs.Cited.{◌≡◌, ℕ, true, inl, inr, List, [], ◌∷◌, None, Result, Ok, Err, codes, refl}
-use Rattle.rank_query.proofs.Cited.{sym, ap, ◌∙◌, AllByRecursion, Score, Region, Everywhere, Season, AllYear}
-use Rattle.rank_query.proofs.Cited.{QueryFault}
-use Rattle.rank_query.proofs.Cited.{UnexpectedWord, Asked, Word, says, ◌>>=◌, Read, one_word, by_word, number}
-use Rattle.rank_query.proofs.Cited.{score_at, region_at, season_at, period_at, per_at, nothing_more, read_words}
-use Rattle.rank_query.proofs.Cited.{ℤ, Option, Each}
+use Rattle.rank_query.proofs.Cited.{◌≡◌, ℕ, true, inl, inr, List, [], ◌∷◌, None, Result, Ok, Err, codes, refl, sym, ap}
+use Rattle.rank_query.proofs.Cited.{◌∙◌, AllByRecursion, Score, Region, Everywhere, Season, AllYear, QueryFault}
+use Rattle.rank_query.proofs.Cited.{UnexpectedWord, Asked, Word, says, ◌>>=◌, Read, one_word, by_word, number, score_at}
+use Rattle.rank_query.proofs.Cited.{region_at, season_at, period_at, per_at, nothing_more, read_words, ℤ, Option, Each}
 use Rattle.rank_query.proofs.Spellings.{asked}
 use Rattle.rank_query.proofs.Stops.{Reading, then, GoesOn, Stops, StopsFirst, ReadsPart, stops_behind, stops_word}
 use Rattle.rank_query.proofs.Stops.{first_then}

@@ -1,9 +1,9 @@
 -- What is read as a query can be asked.
-use Rattle.rank_query.proofs.Cited.{ints, arith, ◌≡◌, ℕ, List, [], ◌∷◌, None, Result, Ok, Err, codes, inl, inr}
-use Rattle.rank_query.proofs.Cited.{refl, sym, subst, length, IfOk, nat_lt, AllByRecursion, Everywhere, AllYear}
-use Rattle.rank_query.proofs.Cited.{QueryFault, QueryTooLong, Asked, IsAsked, Word, numbered_words, Read, keyword}
-use Rattle.rank_query.proofs.Cited.{one_word, by_word, number, score_at, region_at, season_at, period_at, per_at}
-use Rattle.rank_query.proofs.Cited.{read_words, read_query, IsSpelling}
+use Rattle.rank_query.proofs.Cited.{ints, arith, ◌≡◌, ℕ, List, [], ◌∷◌, None, Result, Ok, Err, codes, inl, inr, refl}
+use Rattle.rank_query.proofs.Cited.{sym, subst, length, IfOk, nat_lt, AllByRecursion, Everywhere, AllYear, QueryFault}
+use Rattle.rank_query.proofs.Cited.{QueryTooLong, Asked, IsAsked, Word, numbered_words, Read, keyword, one_word}
+use Rattle.rank_query.proofs.Cited.{by_word, number, score_at, region_at, season_at, period_at, per_at, read_words}
+use Rattle.rank_query.proofs.Cited.{read_query, IsSpelling}
 use Rattle.rank_query.proofs.Spellings.{asked, nothing_left, read_spells}
 use Rattle.rank_query.proofs.ReadingSteps.{bind_ok, else_ok, by_word_took}
 use Rattle.rank_query.proofs.Stops.{ReadsPart}

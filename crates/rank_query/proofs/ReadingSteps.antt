@@ -1,9 +1,8 @@
 -- What follows when a step of the reading succeeds.
-use Rattle.rank_query.proofs.Cited.{cases_Bool}
-use Rattle.rank_query.proofs.Cited.{ints, arith, ◌≡◌, ℕ, ◌+◌, Bool, true, false, cond, ◌⊎◌, inl, inr, List, [], ◌∷◌}
-use Rattle.rank_query.proofs.Cited.{map, Option, Some, None, Result, Ok, Err, refl, ap}
-use Rattle.rank_query.proofs.Cited.{enumerate_from, bytes_decides, QueryFault, UnexpectedWord, Word}
-use Rattle.rank_query.proofs.Cited.{says, ◌>>=◌, Read, or_fault, keyword, one_word, made_into, by_word}
+use Rattle.rank_query.proofs.Cited.{cases_Bool, ints, arith, ◌≡◌, ℕ, ◌+◌, Bool, true, false, cond, ◌⊎◌, inl, inr, List}
+use Rattle.rank_query.proofs.Cited.{[], ◌∷◌, map, Option, Some, None, Result, Ok, Err, refl, ap, enumerate_from}
+use Rattle.rank_query.proofs.Cited.{bytes_decides, QueryFault, UnexpectedWord, Word, says, ◌>>=◌, Read, or_fault}
+use Rattle.rank_query.proofs.Cited.{keyword, one_word, made_into, by_word}
 
 -- both steps of a reading that succeeds do
 pub bind_ok : {A B : Type 0} (r : Result A QueryFault) (f : A → Result B QueryFault) (y : B) → (r >>= f) ≡ Ok y

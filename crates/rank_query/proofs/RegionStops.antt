@@ -1,9 +1,7 @@
 -- Where the reading of a region stops.
-use Rattle.rank_query.proofs.Cited.{arith, ints}
-use Rattle.rank_query.proofs.Cited.{◌≡◌, ℕ, true, ◌&&◌, List, Ok, codes, refl, ℤ, pos, neg_ℤ, int_le}
-use Rattle.rank_query.proofs.Cited.{AllByRecursion, and_parts, Region, Inside, Country, State, Only, is_code}
-use Rattle.rank_query.proofs.Cited.{is_region, one_word, code, latitude_from, longitude}
-use Rattle.rank_query.proofs.Cited.{box_at}
+use Rattle.rank_query.proofs.Cited.{arith, ints, ◌≡◌, ℕ, true, ◌&&◌, List, Ok, codes, refl, ℤ, pos, neg_ℤ, int_le}
+use Rattle.rank_query.proofs.Cited.{AllByRecursion, and_parts, Region, Inside, Country, State, Only, is_code, is_region}
+use Rattle.rank_query.proofs.Cited.{one_word, code, latitude_from, longitude, box_at}
 use Rattle.rank_query.proofs.RegionWords.{region_rows}
 use Rattle.rank_query.proofs.WordValues.{is_longitude}
 use Rattle.rank_query.proofs.Stops.{ReadsPart, part_then}

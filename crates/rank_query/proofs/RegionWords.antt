@@ -1,10 +1,9 @@
 -- The words of a region: those that are read as a region spell it, and those that spell it are read as it.
-use Rattle.rank_query.proofs.Cited.{◌++◌}
-use Rattle.rank_query.proofs.Cited.{◌≡◌, ℕ, Bool, true, ◌&&◌, List, [], ◌∷◌, Ok, codes, refl, sym, ap, ◌∙◌, subst}
-use Rattle.rank_query.proofs.Cited.{arith, ℤ, pos, neg_ℤ, int_le, ◌≤ℤ◌, ints, Region, Everywhere, Inside}
-use Rattle.rank_query.proofs.Cited.{Country, State, Only, is_code, is_region, Word, says, Read, one_word, degrees, code}
-use Rattle.rank_query.proofs.Cited.{latitude_from, longitude, box_at, country_at, state_at, station_at, everywhere_at}
-use Rattle.rank_query.proofs.Cited.{region_at, QueryWord, Edge, Exactly, region_words}
+use Rattle.rank_query.proofs.Cited.{◌++◌, ◌≡◌, ℕ, Bool, true, ◌&&◌, List, [], ◌∷◌, Ok, codes, refl, sym, ap, ◌∙◌, subst}
+use Rattle.rank_query.proofs.Cited.{arith, ℤ, pos, neg_ℤ, ◌≤ℤ◌, ints, Region, Everywhere, Inside, Country, State, Only}
+use Rattle.rank_query.proofs.Cited.{is_code, is_region, Word, says, Read, one_word, degrees, code, latitude_from}
+use Rattle.rank_query.proofs.Cited.{longitude, box_at, country_at, state_at, station_at, everywhere_at, region_at}
+use Rattle.rank_query.proofs.Cited.{QueryWord, Edge, Exactly, region_words}
 use Rattle.rank_query.proofs.SpeltWords.{TakesBehind, took_same, word_took, made_took, rows_took, ReadsAs, word_read}
 use Rattle.rank_query.proofs.SpeltWords.{made_read, then_read, behind_read, always_read, PassesBy, passed_by}
 use Rattle.rank_query.proofs.ReadingSteps.{bind_ok, unnumbered}
@@ -58,21 +57,13 @@ region_took = rows_took region_words region_rows everywhere_at (
   ),
 ) (λ ws rest r e. took_same region_words (unnumbered ws) Everywhere r ws rest e (λ others more. more))
 
--- a test of signed numbers that holds
-le_from_test : (a b : ℤ) → int_le a b ≡ true → a ≤ℤ b
-le_from_test a b e = grind (arith, ints)
-
--- and one that has to hold
-le_test : (a b : ℤ) → a ≤ℤ b → int_le a b ≡ true
-le_test a b le = grind (arith, ints)
-
 -- two tests that both hold
 pub and_true : (a b : Bool) → a ≡ true → b ≡ true → (a && b) ≡ true
 and_true a b x y = ap (λ t. t && b) x ∙ y
 
 -- a longitude lies from 180 degrees west to 180 degrees east
 pub longitude-range : (z : ℤ) → is_longitude z ≡ true → (neg_ℤ (pos 1_800_000) ≤ℤ z) × (z ≤ℤ pos 1_800_000)
-longitude-range z inside = grind (arith, ints, le_from_test)
+longitude-range z inside = grind (arith, ints)
 
 -- the edges of a box that can be asked for
 pub record HasEdges (south west north east : ℤ) : Type 0 where
@@ -96,9 +87,9 @@ edges_of south west north east is = record {
 -- what spells an edge of a box within its limits is read as it
 edge_read : (low high z : ℤ) {others : List QueryWord} → neg_ℤ (pos 1_800_000) ≤ℤ low → low ≤ℤ z → z ≤ℤ high
     → high ≤ℤ pos 1_800_000 → ReadsAs (one_word (degrees low high)) z (Edge z ∷ others) others
-edge_read low high z least above below most = word_read (degrees low high) (Edge z) z (λ at text.
-    spelt_degrees low high z at text
-    (and_true (int_le low z) (int_le z high) (le_test low z above) (le_test z high below)) (omega (arith, ints)))
+edge_read low high z least above below most =
+    word_read (degrees low high) (Edge z) z (λ at text.
+    spelt_degrees low high z at text (grind (arith, ints)) (omega (arith, ints)))
 
 -- and so is what spells a longitude
 longitude_read : (z : ℤ) {others : List QueryWord} → is_longitude z ≡ true

@@ -1,9 +1,8 @@
 -- Where the reading of a score stops.
-use Rattle.rank_query.proofs.Cited.{◌≡◌, true, inl, inr, List, [], ◌∷◌, Ok, Err, codes, refl, sym, ◌∙◌}
-use Rattle.rank_query.proofs.Cited.{AllByRecursion, is_within, Prcp, Tmax, Score, Highest, Lowest, Sum, Dry, Wet, Hot, Cold}
-use Rattle.rank_query.proofs.Cited.{QueryFault, UnexpectedWord, QueryEnds, may_be_negative, is_fall, is_heat, is_score}
-use Rattle.rank_query.proofs.Cited.{Word, says, Read, number, sum_at, ℤ}
-use Rattle.rank_query.proofs.Cited.{heat, made_into, no_score_at, one_word, score_at}
+use Rattle.rank_query.proofs.Cited.{◌≡◌, true, inl, inr, List, [], ◌∷◌, Ok, Err, codes, refl, sym, ◌∙◌, AllByRecursion}
+use Rattle.rank_query.proofs.Cited.{is_within, Prcp, Tmax, Score, Highest, Lowest, Sum, Dry, Wet, Hot, Cold, QueryFault}
+use Rattle.rank_query.proofs.Cited.{UnexpectedWord, QueryEnds, may_be_negative, is_fall, is_heat, is_score, Word, says}
+use Rattle.rank_query.proofs.Cited.{Read, number, sum_at, ℤ, heat, made_into, no_score_at, one_word, score_at}
 use Rattle.rank_query.proofs.RegionWords.{and_true}
 use Rattle.rank_query.proofs.ScoreWords.{score_rows}
 use Rattle.rank_query.proofs.Stops.{GoesOn, Stops, TakesAll, Ended, ReadsPart, stops_behind, stops_word, stops_end}

@@ -1,10 +1,9 @@
 -- The words of a score: those that are read as a score spell it, and those that spell it are read as it.
-use Rattle.rank_query.proofs.Cited.{◌++◌}
-use Rattle.rank_query.proofs.Cited.{◌≡◌, ℕ, true, List, [], ◌∷◌, Ok, codes, refl, and_parts, is_within, Element}
+use Rattle.rank_query.proofs.Cited.{◌++◌, ◌≡◌, ℕ, true, List, [], ◌∷◌, Ok, codes, refl, and_parts, is_within, Element}
 use Rattle.rank_query.proofs.Cited.{code_of, Score, Highest, Lowest, Sum, Dry, Wet, Hot, Cold, may_be_negative, is_fall}
-use Rattle.rank_query.proofs.Cited.{is_heat, is_score, Word, says, Read, one_word, number, element, heat, highest_at, lowest_at}
-use Rattle.rank_query.proofs.Cited.{sum_at, dry_at, wet_at, hot_at, cold_at, no_score_at, score_at, score_words, QueryWord}
-use Rattle.rank_query.proofs.Cited.{Count, Exactly, Tenths, Bool, ℤ, sym, subst}
+use Rattle.rank_query.proofs.Cited.{is_heat, is_score, Word, says, Read, one_word, number, element, heat, highest_at}
+use Rattle.rank_query.proofs.Cited.{lowest_at, sum_at, dry_at, wet_at, hot_at, cold_at, no_score_at, score_at}
+use Rattle.rank_query.proofs.Cited.{score_words, QueryWord, Count, Exactly, Tenths, Bool, ℤ, sym, subst}
 use Rattle.rank_query.proofs.SpeltWords.{TakesBehind, took_same, word_took, made_took, rows_took, ReadsAs, word_read}
 use Rattle.rank_query.proofs.SpeltWords.{made_read, then_read, behind_read, always_read}
 use Rattle.rank_query.proofs.ReadingSteps.{bind_ok, unnumbered}

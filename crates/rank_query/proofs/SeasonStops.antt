@@ -1,6 +1,5 @@
 -- Where the reading of a season stops.
-use Rattle.rank_query.proofs.Cited.{◌≡◌, true, AllByRecursion, Season, Months, Dates}
-use Rattle.rank_query.proofs.Cited.{is_season}
+use Rattle.rank_query.proofs.Cited.{◌≡◌, true, AllByRecursion, Season, Months, Dates, is_season}
 use Rattle.rank_query.proofs.SeasonWords.{season_rows}
 use Rattle.rank_query.proofs.Stops.{ReadsPart}
 use Rattle.rank_query.proofs.PartStops.{part_word, part_made}

@@ -2,7 +2,8 @@
 use Rattle.rank_query.proofs.Cited.{◌≡◌, ℕ, true, List, [], ◌∷◌, ◌++◌, Option, Some, None, Ok, codes, refl, sym, subst}
 use Rattle.rank_query.proofs.Cited.{is_season, Word, says, Read, Everywhere, Season, AllYear, Months, Dates, one_word}
 use Rattle.rank_query.proofs.Cited.{months, dates, region_at, months_at, dates_at, all_year_at, season_at, dates_text}
-use Rattle.rank_query.proofs.Cited.{QueryWord, Exactly, TwoMonths, season_words, period_words, per_words, Per, Each, Station, Year, ℤ}
+use Rattle.rank_query.proofs.Cited.{QueryWord, Exactly, TwoMonths, season_words, period_words, per_words, Per, Each}
+use Rattle.rank_query.proofs.Cited.{Station, Year, ℤ}
 use Rattle.rank_query.proofs.ReadingSteps.{unnumbered}
 use Rattle.rank_query.proofs.SpeltWords.{TakesBehind, took_same, word_took, made_took, rows_took, ReadsAs, word_read}
 use Rattle.rank_query.proofs.SpeltWords.{made_read, behind_read, PassesBy, passed_by}

@@ -2,10 +2,10 @@
 use Rattle.rank_query.proofs.Cited.{ints, ◌≡◌, ℕ, ◌≤◌, false, List, [], ◌∷◌, ◌++◌, length, Option, Ok, codes, refl, sym}
 use Rattle.rank_query.proofs.Cited.{ap, ◌∙◌, subst, append_assoc, append-nil, arith, nat_lt, ℤ, enumerate_from}
 use Rattle.rank_query.proofs.Cited.{AllByRecursion, nat_tests, Score, Region, Season, QueryTooLong, Asked, IsAsked}
-use Rattle.rank_query.proofs.Cited.{Word}
-use Rattle.rank_query.proofs.Cited.{words_of, numbered_words, says, keyword, one_word, number, score_at, region_at}
-use Rattle.rank_query.proofs.Cited.{season_at, period_at, per_at, nothing_more, read_words, read_query, SpellsQuery, IsSpelling}
-use Rattle.rank_query.proofs.Cited.{Count, QueryWord, score_words, region_words, season_words, period_words, per_words, Per}
+use Rattle.rank_query.proofs.Cited.{Word, words_of, numbered_words, says, keyword, one_word, number, score_at}
+use Rattle.rank_query.proofs.Cited.{region_at, season_at, period_at, per_at, nothing_more, read_words, read_query}
+use Rattle.rank_query.proofs.Cited.{SpellsQuery, IsSpelling, Count, QueryWord, score_words, region_words, season_words}
+use Rattle.rank_query.proofs.Cited.{period_words, per_words, Per}
 use Rattle.rank_query.proofs.OneWords.{HasNoBlank, words_no_blank}
 use Rattle.rank_query.proofs.ReadingSteps.{bind_ok, else_ok, unnumbered, unnumbered-enumerate_from, keyword_took}
 use Rattle.rank_query.proofs.SpeltWords.{SpellAll, Spell}

@@ -1,21 +1,14 @@
 -- The error of a word is the one that the words before it call for, and so it is with the values of words.
-use Rattle.rank_query.proofs.ReadingSteps.{assoc}
-use Rattle.rank_query.proofs.Cited.{ints, ◌≡◌, ℕ, ◌+◌, Bool, ◌⊎◌, inl, inr, List, [], ◌∷◌}
-use Rattle.rank_query.proofs.Cited.{◌++◌, length, Option, Some, Result, Ok, Err, refl, sym}
-use Rattle.rank_query.proofs.Cited.{ap, ◌∙◌, subst, is_some, arith, ℤ, AllByRecursion}
-use Rattle.rank_query.proofs.Cited.{read_date}
-use Rattle.rank_query.proofs.Cited.{is_within, natural, scaled_field, Element, element_of, is_number_within, number_of}
-use Rattle.rank_query.proofs.Cited.{QueryFault, UnexpectedWord, QueryEnds, OutOfLimits}
-use Rattle.rank_query.proofs.Cited.{BadDate, BadBox, Asked}
-use Rattle.rank_query.proofs.Cited.{is_code, Word, says, ◌>>=◌, Read, keyword, one_word}
-use Rattle.rank_query.proofs.Cited.{made_into, by_word, number, element, degrees, code, date}
-use Rattle.rank_query.proofs.Cited.{two_days, dates}
-use Rattle.rank_query.proofs.Cited.{place_behind, edge, has_form}
+use Rattle.rank_query.proofs.Cited.{ints, ◌≡◌, ℕ, ◌+◌, Bool, ◌⊎◌, inl, inr, List, [], ◌∷◌, ◌++◌, length, Option, Some}
+use Rattle.rank_query.proofs.Cited.{Result, Ok, Err, refl, sym, ap, ◌∙◌, subst, is_some, arith, ℤ, AllByRecursion}
+use Rattle.rank_query.proofs.Cited.{read_date, is_within, natural, scaled_field, Element, element_of, is_number_within}
+use Rattle.rank_query.proofs.Cited.{number_of, QueryFault, UnexpectedWord, QueryEnds, OutOfLimits, BadDate, BadBox}
+use Rattle.rank_query.proofs.Cited.{Asked, is_code, Word, says, ◌>>=◌, Read, keyword, one_word, made_into, by_word}
+use Rattle.rank_query.proofs.Cited.{number, element, degrees, code, date, two_days, dates, place_behind, edge, has_form}
 use Rattle.rank_query.proofs.Cited.{cases_Bool}
 use mathlib.Core.List.{reverse_aux}
 use Rattle.rank_query.specs.FaultKinds.{number as a_number, date as a_date, dates as a_dates, IsFaultOf}
-use Rattle.rank_query.proofs.ReadingSteps.{said, unnumbered, tested, tested_err, test_err}
-use Rattle.rank_query.proofs.ReadingSteps.{or_fault_err}
+use Rattle.rank_query.proofs.ReadingSteps.{assoc, said, unnumbered, tested, tested_err, test_err, or_fault_err}
 use Rattle.rank_query.proofs.Stops.{bind_err}
 use Rattle.rank_query.proofs.Places.{IsSettled}
 

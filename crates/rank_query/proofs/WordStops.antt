@@ -1,16 +1,13 @@
 -- Which words have no value, and some that have one.
 use Rattle.rank_query.proofs.Cited.{inl, inr, ◌≡◌, ℕ, Bool, true, cond, ◌&&◌, List, [], Option, Result, Ok, Err, codes}
-use Rattle.rank_query.proofs.Cited.{refl, ap, subst, ℤ, pos, neg_ℤ, int_le, Field, Blank, Number, Bad, is_within}
-use Rattle.rank_query.proofs.Cited.{is_day, date_text, dates_text, read_date, natural, scaled_field, Element, code_of}
-use Rattle.rank_query.proofs.Cited.{element_of}
-use Rattle.rank_query.proofs.Cited.{is_number_within, number_of, QueryFault, UnexpectedWord, OutOfLimits, BadDate}
-use Rattle.rank_query.proofs.Cited.{BadBox, is_code, is_heat, is_month, is_day_of_2000, Word, number, element, heat}
-use Rattle.rank_query.proofs.Cited.{dates}
-use Rattle.rank_query.proofs.Cited.{months, degrees, code, date, tenths_in, two_numbers, two_days, latitude_from}
-use Rattle.rank_query.proofs.Cited.{longitude}
+use Rattle.rank_query.proofs.Cited.{refl, ap, subst, ℤ, pos, neg_ℤ, int_le, is_within, is_day, date_text, dates_text}
+use Rattle.rank_query.proofs.Cited.{read_date, natural, scaled_field, Element, code_of, element_of, is_number_within}
+use Rattle.rank_query.proofs.Cited.{number_of, QueryFault, UnexpectedWord, OutOfLimits, BadDate, BadBox, is_code}
+use Rattle.rank_query.proofs.Cited.{is_heat, is_month, is_day_of_2000, Word, number, element, heat, dates, months}
+use Rattle.rank_query.proofs.Cited.{degrees, code, date, tenths_in, two_numbers, two_days, latitude_from, longitude}
 use Rattle.rank_query.proofs.OneWords.{HasNoBlank}
 use Rattle.rank_query.proofs.ReadingSteps.{test_ok, test_err, or_fault_err, tested, tested_ok, tested_err}
-use Rattle.rank_query.proofs.WordValues.{is_longitude, code_element, date_day, written_date}
+use Rattle.rank_query.proofs.WordValues.{is_longitude, code_element, date_day, written_date, field_number}
 use Rattle.rank_query.proofs.DaysOfYear.{dates_read, written_dates}
 use Rattle.rank_query.proofs.PrintedWords.{date_word, dates_word}
 use Rattle.rank_query.proofs.Stops.{IsWordOf}
@@ -78,21 +75,12 @@ unfolding element
 reads_element allows one allowed clean = reads_tested element_of allows UnexpectedWord (code_of one) one clean
     (λ w. refl) (code_element allows one 0 allowed)
 
--- a field that is a number within limits lies within them
-field_within : (low high z : ℤ) (f : Field) (at : ℕ) → cond (is_number_within low high f) (Ok (number_of f))
-    (Err (BadBox at)) ≡ Ok z → (int_le low z && int_le z high) ≡ true
-field_within low high z Blank at e = absurd cc
-field_within low high z (Number n) at e =
-    let test = test_ok (int_le low n && int_le n high) n z (BadBox at) e in
-    cc
-field_within low high z Bad at e = absurd cc
-
 -- degrees within limits, of which some word writes one
 pub reads_degrees : (low high : ℤ) (sample : List ℕ) (z : ℤ) → HasNoBlank sample → degrees low high (0, sample) ≡ Ok z
     → ReadsWord ℤ (λ z. (int_le low z && int_le z high) ≡ true) (degrees low high)
 unfolding degrees
 reads_degrees low high sample z clean e = record {
-  good = λ w z e. field_within low high z (scaled_field 4 w.1) w.0 e;
+  good = λ w z e. (field_number low high z (scaled_field 4 w.1) (BadBox w.0) e).1;
   told = λ w fault e. test_told (is_number_within low high (scaled_field 4 w.1)) (number_of (scaled_field 4 w.1))
       (BadBox w.0) fault w refl e;
   sample = sample;

@@ -1,16 +1,15 @@
 -- What a single word is read as spells it, and what spells a value is read as it.
 use Rattle.rank_query.proofs.Cited.{◌≡◌, ℕ, zero, suc, ◌+◌, ◌<◌, Bool, true, false, cond, ◌&&◌, List, [], ◌∷◌, ◌++◌}
-use Rattle.rank_query.proofs.Cited.{length, take, drop, get_or, replicate, Option, Some, None, Ok, Err, refl}
-use Rattle.rank_query.proofs.Cited.{sym, ap, ◌∙◌, subst, FitsSigned, w32, arith, length-drop, ℤ, pos, neg_ℤ, int_le}
-use Rattle.rank_query.proofs.Cited.{list_all, cases_Bool, inl, inr}
-use Rattle.rank_query.proofs.Cited.{before_first, after_first, position_or_len, is_ascii_digit, digits_value}
-use Rattle.rank_query.proofs.Cited.{bytes_decides, and_parts, nat_tests, split_at_first, passes_at_first, cond_some}
-use Rattle.rank_query.proofs.Cited.{Field, Blank, Number, Bad, same_bytes, is_within, is_day, date_text, read_date}
-use Rattle.rank_query.proofs.Cited.{Spells, natural, scaled_field, Element, Prcp, Snow, Snwd, Tmax, Tmin, code_of}
-use Rattle.rank_query.proofs.Cited.{element_of, elements, is_number_within, number_of, UnexpectedWord, OutOfLimits}
-use Rattle.rank_query.proofs.Cited.{BadDate, BadBox, is_code, is_heat, is_month, Word, or_fault, number, element, heat}
-use Rattle.rank_query.proofs.Cited.{months, degrees, code, date, tenths_in, two_numbers, is_point, natural_behind}
-use Rattle.rank_query.proofs.Cited.{both, IsNumeralOf, TwoMonths, SpellsWord}
+use Rattle.rank_query.proofs.Cited.{length, take, drop, get_or, replicate, Option, Some, None, Ok, Err, refl, sym, ap}
+use Rattle.rank_query.proofs.Cited.{◌∙◌, subst, FitsSigned, w32, arith, length-drop, ℤ, pos, neg_ℤ, int_le, list_all}
+use Rattle.rank_query.proofs.Cited.{cases_Bool, inl, inr, before_first, after_first, position_or_len, is_ascii_digit}
+use Rattle.rank_query.proofs.Cited.{digits_value, bytes_decides, and_parts, nat_tests, split_at_first, passes_at_first}
+use Rattle.rank_query.proofs.Cited.{cond_some, Field, Blank, Number, Bad, same_bytes, is_within, is_day, date_text}
+use Rattle.rank_query.proofs.Cited.{read_date, Spells, natural, scaled_field, Element, Prcp, Snow, Snwd, Tmax, Tmin}
+use Rattle.rank_query.proofs.Cited.{code_of, element_of, elements, is_number_within, number_of, UnexpectedWord}
+use Rattle.rank_query.proofs.Cited.{OutOfLimits, BadDate, BadBox, is_code, is_heat, is_month, Word, or_fault, number}
+use Rattle.rank_query.proofs.Cited.{element, heat, months, degrees, code, date, tenths_in, two_numbers, is_point}
+use Rattle.rank_query.proofs.Cited.{natural_behind, both, IsNumeralOf, TwoMonths, SpellsWord, QueryFault}
 use Rattle.std.proofs.Math.Seq.{take-append_seam, drop-append-add}
 use Rattle.ghcn_fields.proofs.DateTexts.{read_date-law}
 use Rattle.ghcn_fields.proofs.DecimalTexts.{spells-from_signed, signed-from_spells}
@@ -159,17 +158,19 @@ no_blanks (suc n) word text parts clean =
     let blank : false ≡ true = sym (ap (list_all stands_in_word) parts) ∙ clean in absurd cc
 
 -- a field that has a number within limits is that number
-field_number : (low high z : ℤ) (f : Field) (at : ℕ) → cond (is_number_within low high f) (Ok (number_of f))
-    (Err (BadBox at)) ≡ Ok z → f ≡ Number z
-field_number low high z Blank at e = cc
-field_number low high z (Number n) at e = ap Number (test_ok (int_le low n && int_le n high) n z (BadBox at) e).1
-field_number low high z Bad at e = cc
+pub field_number : (low high z : ℤ) (f : Field) (fault : QueryFault)
+    → cond (is_number_within low high f) (Ok (number_of f)) (Err fault) ≡ Ok z
+    → (f ≡ Number z) × ((int_le low z && int_le z high) ≡ true)
+field_number low high z Blank fault e = absurd cc
+field_number low high z (Number n) fault e =
+    let test = test_ok (int_le low n && int_le n high) n z fault e in (ap Number test.1, cc)
+field_number low high z Bad fault e = absurd cc
 
 -- a word that is read as degrees spells them
 pub degrees_spelt : (low high : ℤ) (w : Word) (z : ℤ) → HasNoBlank w.1 → degrees low high w ≡ Ok z → Spells 4 w.1 z
 unfolding degrees
 degrees_spelt low high w z clean e =
-    let has = ((scaled_field-number 4 w.1 z).0 (field_number low high z (scaled_field 4 w.1) w.0 e)).0 in
+    let has = ((scaled_field-number 4 w.1 z).0 (field_number low high z (scaled_field 4 w.1) (BadBox w.0) e).0).0 in
     subst (λ (text : List ℕ). Spells 4 text z) (no_blanks has.blanks w.1 has.text has.parts clean) has.spells
 
 -- a longitude, in ten-thousandths of a degree

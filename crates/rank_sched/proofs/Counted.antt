@@ -1,19 +1,11 @@
 -- How many events a run has.
-use Rattle.std.proofs.Common.{rules, ◌≡◌, ℕ, zero, suc, ◌+◌, ◌<◌, Bool, true, cond, List, [], ◌∷◌, ◌++◌, length}
-use Rattle.std.proofs.Common.{length-append, replicate, Option, refl, ◌∙◌, arith, ℤ}
-use Rattle.std.specs.Prelude.{count_by, sum_by}
-use Rattle.std.specs.List.{flat_map, list_all}
-use Rattle.std.proofs.lemmas.List.{length-map}
-use Rattle.std.proofs.lemmas.List.Sums.{sum_by-cons, sum_by-append}
-use Rattle.ghcn_fields.proofs.CountingLaws.{length-each_below}
-use Rattle.rank_sched.specs.declared.event.Event.{Event}
-use Rattle.rank_sched.specs.declared.turn.Turn.{Turn}
-use Rattle.rank_sched.specs.Task.{Task}
-use Rattle.rank_sched.specs.Exchanges.{morsels_of}
-use Rattle.rank_sched.specs.Machine.{Worker, State, new_worker, started, worker_of, Does, IsStep, Leads, has_stopped}
-use Rattle.rank_sched.specs.SoundRun.{open_exchange, IsSoundState, IsSoundEnd}
-use Rattle.rank_sched.specs.Laws.{is_claim, is_look, is_settle, EventsAreCounted}
-use Rattle.rank_sched.proofs.Lists.{At, at, both_true}
+use Rattle.rank_sched.proofs.Cited.{rules, ◌≡◌, ℕ, zero, suc, ◌+◌, ◌<◌, Bool, true, cond, List, [], ◌∷◌, ◌++◌, length}
+use Rattle.rank_sched.proofs.Cited.{length-append, replicate, Option, refl, ◌∙◌, arith, ℤ, count_by, sum_by, flat_map}
+use Rattle.rank_sched.proofs.Cited.{list_all, length-map, sum_by-cons, sum_by-append, length-each_below, Event, Turn}
+use Rattle.rank_sched.proofs.Cited.{Task, morsels_of, Worker, State, new_worker, started, worker_of, Does, IsStep}
+use Rattle.rank_sched.proofs.Cited.{Leads, has_stopped, open_exchange, IsSoundState, IsSoundEnd, is_claim, is_look}
+use Rattle.rank_sched.proofs.Cited.{is_settle, EventsAreCounted, and_parts}
+use Rattle.rank_sched.proofs.Lists.{At, at}
 use Rattle.rank_sched.proofs.SoundSteps.{runs_sound}
 use Rattle.rank_sched.proofs.Ends.{end_sound}
 
@@ -30,25 +22,6 @@ by_parts : (f : Worker → ℕ) (front : List Worker) (v : Worker) (behind : Lis
     → sum_by f (front ++ v ∷ behind) ≡ sum_by f front + (f v + sum_by f behind)
 by_parts f front v behind = simp (sum_by-append, sum_by-cons)
 
--- what a step counts
-pub record Counts (s : State) (e : Event) (s' : State) : Type 0 where
-  pub claims : s'.next ≡ s.next + cond (is_claim e) 1 0
-  pub looks : made s'.workers + opened s'.workers ≡ made s.workers + opened s.workers + cond (is_look e) 1 0
-  pub settles : made s'.workers ≡ made s.workers + cond (is_settle e) 1 0
-  pub kinds : cond (is_claim e) 1 0 + (cond (is_look e) 1 0 + cond (is_settle e) 1 0) ≡ 1
-  pub workers : length s'.workers ≡ length s.workers
-
--- a claim draws one number, a look opens one turn, and a settle closes one with a record
-step_counts : (t : Task) (s s' : State) (e : Event) (v v' : Worker) (front behind : List Worker) → Does t e s s' v v'
-    → s.workers ≡ front ++ v ∷ behind → s'.workers ≡ front ++ v' ∷ behind → Counts s e s'
-step_counts t s s' e v v' front behind d old new = grind (arith, length-append, by_parts)
-
--- so each step counts as the kind of its event
-counts : (t : Task) (s s' : State) (e : Event) → IsStep t s e s' → Counts s e s'
-counts t s s' e h =
-    let a : At s.workers (worker_of e) h.before = at s.workers (worker_of e) h.before h.here in
-    step_counts t s s' e h.before h.after a.front a.behind h.does a.parts (h.others ∙ a.put h.after)
-
 -- what a run counts
 pub record Counted (s : State) (es : List Event) (s' : State) : Type 0 where
   pub claims : s'.next ≡ s.next + count_by is_claim es
@@ -61,11 +34,22 @@ pub record Counted (s : State) (es : List Event) (s' : State) : Type 0 where
 count-cons : (p : Event → Bool) (e : Event) (es : List Event) → count_by p (e ∷ es) ≡ cond (p e) 1 0 + count_by p es
 count-cons p e es = simp sum_by-cons
 
+-- a claim draws one number, a look opens one turn, and a settle closes one with a record
+does_count : (t : Task) (s s' : State) (e : Event) (v v' : Worker) (front behind : List Worker) → Does t e s s' v v'
+    → s.workers ≡ front ++ v ∷ behind → s'.workers ≡ front ++ v' ∷ behind → Counted s (e ∷ []) s'
+does_count t s s' e v v' front behind d old new = grind (arith, length-append, by_parts, count-cons)
+
+-- so each step counts as the kind of its event
+step_counts : (t : Task) (s s' : State) (e : Event) → IsStep t s e s' → Counted s (e ∷ []) s'
+step_counts t s s' e h =
+    let a : At s.workers (worker_of e) h.before = at s.workers (worker_of e) h.before h.here in
+    does_count t s s' e h.before h.after a.front a.behind h.does a.parts (h.others ∙ a.put h.after)
+
 -- the numbers drawn, looks and records of a run are as many as its events of each kind
 run_counted : (t : Task) (s s' : State) (es : List Event) → Leads t s es s' → Counted s es s'
 run_counted t s s' [] h = search rules
 run_counted t s s' (e ∷ es) h =
-    let one : Counts s e h.0 = counts t s h.0 e h.1 in
+    let one : Counted s (e ∷ []) h.0 = step_counts t s h.0 e h.1 in
     let rest : Counted h.0 es s' = run_counted t h.0 s' es h.2 in
     record {
       claims = search (rules, count-cons);
@@ -96,14 +80,9 @@ closed turn e = grind arith
 none_open : (vs : List Worker) → list_all (λ v. has_stopped v.turn) vs ≡ true → opened vs ≡ 0
 none_open [] e = refl
 none_open (v ∷ vs) e =
-    let b = both_true (has_stopped v.turn) (list_all (λ (u : Worker). has_stopped u.turn) vs) e in
-    omega (
-      arith,
-      sum_by-cons (λ (u : Worker). length (open_exchange u.turn)) v vs,
-      closed v.turn b.0,
-      none_open vs
-          b.1,
-    )
+    let both = and_parts (has_stopped v.turn) (list_all (λ (u : Worker). has_stopped u.turn) vs) e in
+    let here = sum_by-cons (λ (u : Worker). length (open_exchange u.turn)) v vs in
+    omega (arith, closed v.turn both.0, none_open vs both.1)
 
 -- the records are as many as their morsels
 made_morsels : (vs : List Worker) → length (flat_map (λ (v : Worker). morsels_of v.records) vs) ≡ made vs
@@ -119,11 +98,7 @@ events_counted t workers guess es s some_k some reached stopped =
     (runs_sound.0 t workers guess) reached in
     let count : length s.workers ≡ workers = c.workers ∙ start.2 in
     let end : IsSoundEnd t s = grind (arith, end_sound) in
-    let records : made s.workers ≡ t.len = cc (
-      made_morsels s.workers,
-      length-each_below t.len (flat_map (λ (v : Worker). morsels_of v.records) s.workers)
-          end.once,
-    ) in
+    let records : made s.workers ≡ t.len = cc (made_morsels s.workers, length-each_below t.len _ end.once) in
     let none : opened s.workers ≡ 0 = none_open s.workers stopped in
     let claims : count_by is_claim es ≡ t.len + workers = omega arith in
     let settles : count_by is_settle es ≡ t.len = omega arith in

@@ -1,26 +1,13 @@
 -- The end of a run: hauls are merged, and skips are undone, morsel after morsel.
-use Rattle.std.proofs.Common.{rules, ◌≡◌, ℕ, ◌+◌, ◌<◌, Bool, true, false, cond, not, List, [], ◌∷◌, ◌++◌, length}
-use Rattle.std.proofs.Common.{get_or, set, refl, sym, ap, ◌∙◌, append-nil, append_assoc, arith, All}
-use Rattle.std.proofs.lemmas.Grind.{common_steps, flat_map-append}
-use Rattle.std.specs.Prelude.{◌||◌, ◌&&◌, nat_le, fold}
-use Rattle.std.specs.List.{count_by, AllByRecursion}
-use Rattle.std.proofs.Math.Seq.{take-nil}
-use Rattle.std.proofs.lemmas.List.{get_or_read, get_or-set_same, get_or-set_other, length-set}
-use Rattle.std.proofs.lemmas.List.Elements.{All-head, All-tail}
-use Rattle.ghcn_fields.specs.Counting.{HasEachBelow}
-use Rattle.ghcn_fields.proofs.CountingLaws.{all_below}
-use Rattle.rank_scores.specs.declared.candidate.Candidate.{Candidate}
-use Rattle.rank_scores.specs.Order.{bound_is_below, best}
-use Rattle.rank_pool.specs.Pools.{Pooled, empty_pool, taken, HoldsFirst, last_score}
-use Rattle.rank_pool.proofs.Places.{size-fold, holds-fold}
-use Rattle.rank_pool.proofs.Ranked.{best-first}
-use Rattle.rank_sched.specs.declared.record.Record.{Record}
-use Rattle.rank_sched.specs.declared.haul.Haul.{Haul}
-use Rattle.rank_sched.specs.Task.{Task, all_of_task, IsFair}
-use Rattle.rank_sched.specs.Exchanges.{morsels_of, best_pool, pool_of}
-use Rattle.rank_sched.specs.Hauls.{records_of, all_records, AreHaulsFrom}
-use Rattle.rank_sched.specs.TakingBack.{is_justified, was_skipped, stays, is_taken_back, back_below}
-use Rattle.rank_sched.specs.Finish.{mark, AreMarks, AreWithin, HasBackBelow, unmarked}
+use Rattle.rank_sched.proofs.Cited.{rules, ◌≡◌, ℕ, ◌+◌, ◌<◌, Bool, true, false, cond, not, List, [], ◌∷◌, ◌++◌, length}
+use Rattle.rank_sched.proofs.Cited.{set, refl, sym, ap, ◌∙◌, append-nil, append_assoc, arith, common_steps}
+use Rattle.rank_sched.proofs.Cited.{flat_map-append, ◌||◌, ◌&&◌, nat_le, fold, count_by, AllByRecursion, take-nil}
+use Rattle.rank_sched.proofs.Cited.{get_or-set_same, get_or-set_other, length-set, HasEachBelow, all_below, Candidate}
+use Rattle.rank_sched.proofs.Cited.{bound_is_below, best, Pooled, empty_pool, taken, HoldsFirst, last_score, size-fold}
+use Rattle.rank_sched.proofs.Cited.{holds-fold, best-first, Record, Haul, Task, all_of_task, IsFair, morsels_of}
+use Rattle.rank_sched.proofs.Cited.{best_pool, pool_of, records_of, all_records, AreHaulsFrom, is_justified}
+use Rattle.rank_sched.proofs.Cited.{was_skipped, stays, is_taken_back, back_below, mark, AreMarks, AreWithin}
+use Rattle.rank_sched.proofs.Cited.{HasBackBelow, unmarked, each-mapped, recursion_from_All}
 use Rattle.rank_sched.proofs.Lists.{last_is_kth}
 use Rattle.rank_sched.proofs.Finished.{best_there, decides}
 
@@ -67,18 +54,10 @@ records_more rs rs' all h rest left e step whole = grind (arith, append_assoc)
 
 -- ---- marks of skips
 
--- numbers that are all below n are those of morsels
-all_within : (n : ℕ) (rs : List Record) → All (λ x. x < n) (morsels_of rs) → AreWithin n rs
-all_within n [] a = tt
-all_within n (r ∷ rs) a = (
-  All-head (λ x. x < n) r.morsel (morsels_of rs) a,
-  all_within n rs
-      (All-tail (λ x. x < n) r.morsel (morsels_of rs) a),
-)
-
 -- records that occur once for each morsel belong to morsels
 pub once_within : (n : ℕ) (rs : List Record) → HasEachBelow n (morsels_of rs) → AreWithin n rs
-once_within n rs once = grind (arith, all_within, all_below)
+once_within n rs once = each-mapped (λ (r : Record). r.morsel) (λ x. x < n) rs
+    (recursion_from_All (λ x. x < n) (morsels_of rs) (all_below n (morsels_of rs) once))
 
 -- ---- skips that are undone
 
@@ -97,13 +76,13 @@ module _ (t : Task) (rs : List Record) (i : ℕ) where
     pub pool_is : HasBackBelow t rs i pool
 
 -- a morsel that wasn't skipped, or whose skip stays, changes nothing
-pub step_kept : (t : Task) (rs : List Record) (i n : ℕ) (marks : List Bool) (pool : Pooled) → i < n
+step_kept : (t : Task) (rs : List Record) (i n : ℕ) (marks : List Bool) (pool : Pooled) → i < n
     → mark marks i ≡ stays t rs i → is_taken_back t rs i ≡ false
     → IsBefore t rs i n marks pool → IsBefore t rs (i + 1) n marks pool
 step_kept t rs i n marks pool low own kept h = grind (arith, back_kept)
 
 -- a skip that is undone loses its mark, and its candidates are offered
-pub step_back : (t : Task) (rs : List Record) (i n : ℕ) (marks marks' : List Bool) (pool pool' : Pooled) → i < n
+step_back : (t : Task) (rs : List Record) (i n : ℕ) (marks marks' : List Bool) (pool pool' : Pooled) → i < n
     → was_skipped rs i ≡ true → is_justified t rs i ≡ false
     → marks' ≡ set marks i false → length marks' ≡ length marks → pool' ≡ fold taken pool (t.candidates i)
     → IsBefore t rs i n marks pool → IsBefore t rs (i + 1) n marks' pool'
@@ -130,48 +109,26 @@ best_are t rs pool fair once h = grind (arith, best_there, best-first)
 
 -- ---- what the loops and calls of the end return
 
--- equal marks and pools
-pub carried : (t : Task) (rs : List Record) (i n : ℕ) (marks marks' : List Bool) (pool pool' : Pooled)
-    → marks' ≡ marks → pool' ≡ pool → IsBefore t rs i n marks pool → IsBefore t rs i n marks' pool'
-carried t rs i n marks marks' pool pool' e f h = search rules
-
--- all that a step knows: the mark that was read, and what the pool said
-pub record IsRead (t : Task) (rs : List Record) (i n : ℕ) (marks : List Bool) (pool : Pooled)
-    (marked : Bool) : Type 0 where
-  pub low : i < n
-  pub mark_is : mark marks i ≡ marked
-  pub before : IsBefore t rs i n marks pool
-
--- a mark that was read at a place
-pub read_there : (t : Task) (rs : List Record) (i n : ℕ) (marks : List Bool) (pool : Pooled) (read marked : Bool)
-    → i < n → read ≡ get_or marks i read → read ≡ marked → IsBefore t rs i n marks pool
-    → IsRead t rs i n marks pool marked
-read_there t rs i n marks pool read marked low at is h = grind (arith, get_or_read)
-
 -- what the pool says of the morsel
-pub told : (t : Task) (rs : List Record) (i n : ℕ) (marks : List Bool) (pool : Pooled) (marked just : Bool) → IsFair t
-    → HasEachBelow t.len (morsels_of rs) → IsRead t rs i n marks pool marked
+pub told : (t : Task) (rs : List Record) (i n : ℕ) (marks : List Bool) (pool : Pooled) (just : Bool) → IsFair t
+    → HasEachBelow t.len (morsels_of rs) → IsBefore t rs i n marks pool
     → just ≡ bound_is_below (last_score pool) (t.bound i) → just ≡ is_justified t rs i
-told t rs i n marks pool marked just fair once h e = grind (arith, last_is_kth, decides)
+told t rs i n marks pool just fair once h e = grind (arith, last_is_kth, decides)
 
--- the morsel wasn't skipped
-pub read_scanned : (t : Task) (rs : List Record) (i n : ℕ) (marks : List Bool) (pool : Pooled)
-    → IsRead t rs i n marks pool false → IsBefore t rs (i + 1) n marks pool
-read_scanned t rs i n marks pool h = grind (arith, step_kept)
-
--- its skip stays
-pub read_stays : (t : Task) (rs : List Record) (i n : ℕ) (marks : List Bool) (pool : Pooled)
-    → IsRead t rs i n marks pool true → true ≡ is_justified t rs i → IsBefore t rs (i + 1) n marks pool
-read_stays t rs i n marks pool h just = grind (arith, step_kept)
-
--- its skip is undone
-pub read_back : (t : Task) (rs : List Record) (i n : ℕ) (marks marks' : List Bool) (pool pool' : Pooled)
-    → IsRead t rs i n marks pool true → false ≡ is_justified t rs i
-    → marks' ≡ set marks i false → pool' ≡ fold taken pool (t.candidates i) → IsBefore t rs (i + 1) n marks' pool'
-read_back t rs i n marks marks' pool pool' h unjust e took =
+-- one morsel more was tried, by its mark and by what the pool said of it
+pub tried : (t : Task) (rs : List Record) (i n : ℕ) (marks marks' : List Bool) (pool pool' : Pooled)
+    (marked just : Bool) → i < n → mark marks i ≡ marked → just ≡ is_justified t rs i → IsBefore t rs i n marks pool
+    → marks' ≡ cond (marked && not just) (set marks i false) marks
+    → pool' ≡ cond (marked && not just) (fold taken pool (t.candidates i)) pool → IsBefore t rs (i + 1) n marks' pool'
+tried t rs i n marks marks' pool pool' true false low read said h e took =
     let skipped : was_skipped rs i ≡ true = grind arith in
-    step_back t rs i n marks marks' pool pool' h.low skipped (sym unjust) e
-    (ap length e ∙ length-set marks i false) took h.before
+    step_back t rs i n marks marks' pool pool' low skipped (sym said) e (ap length e ∙ length-set marks i false) took h
+tried t rs i n marks marks' pool pool' true true low read said h e took =
+    let skipped : was_skipped rs i ≡ true = grind arith in
+    rw (e, took) (step_kept t rs i n marks pool low (grind arith) (grind arith) h)
+tried t rs i n marks marks' pool pool' false just low read said h e took =
+    let unskipped : was_skipped rs i ≡ false = grind arith in
+    rw (e, took) (step_kept t rs i n marks pool low (grind arith) (grind arith) h)
 
 -- before no morsel more, all skips are tried
 pub all_tried : (t : Task) (rs : List Record) (i : ℕ) (marks : List Bool) (pool : Pooled) → i ≡ t.len → IsFair t

@@ -1,24 +1,14 @@
 -- A run in which all workers have stopped: its records, its hauls, and how many events it had.
-use Rattle.std.proofs.Common.{◌≡◌, ℕ, ◌+◌, ◌<◌, ◌≤◌, true, false, List, [], ◌∷◌, ◌++◌, length, length-append}
-use Rattle.std.proofs.Common.{Option, refl, sym, ap, ◌∙◌, append-nil, arith, ℤ, option_to_list, All}
-use Rattle.std.proofs.lemmas.Grind.{common_steps}
-use Rattle.std.specs.Prelude.{nat_lt}
-use Rattle.std.specs.List.{flat_map, list_all, AllByRecursion, AllZip}
-use Rattle.std.proofs.lemmas.List.{map-append}
-use Rattle.std.proofs.lemmas.List.Elements.{All-from_recursion, All-append, All-nil}
-use Rattle.ghcn_fields.specs.Counting.{times, times_below, HasEachBelow}
-use Rattle.ghcn_fields.proofs.CountingLaws.{times_below-yes, all_below, length-each_below, times-none_below}
-use Rattle.rank_sched.specs.declared.record.Record.{Record}
-use Rattle.rank_sched.specs.declared.haul.Haul.{Haul}
-use Rattle.rank_sched.specs.declared.turn.Turn.{Turn}
-use Rattle.rank_sched.specs.Task.{Task}
-use Rattle.rank_sched.specs.Exchanges.{Exchange, morsels_of, exchanges, SeeUpward}
-use Rattle.rank_sched.specs.Machine.{Worker, State, has_stopped, all_stopped}
-use Rattle.rank_sched.specs.SoundRun.{NumbersRise, unsettled, IsTurnOf, open_exchange, exchanges_of, all_exchanges}
-use Rattle.rank_sched.specs.SoundRun.{AreSoundFrom, IsSoundState, IsSoundEnd}
-use Rattle.rank_sched.specs.Hauls.{records_of, all_records, exchanges_in, turns_of, AreHaulsFrom}
-use Rattle.rank_sched.specs.Laws.{EndsAreSound}
-use Rattle.rank_sched.proofs.Lists.{each-append, All-left, All-right, both_true}
+use Rattle.rank_sched.proofs.Cited.{◌≡◌, ℕ, ◌+◌, ◌<◌, ◌≤◌, true, false, List, [], ◌∷◌, ◌++◌, length, length-append}
+use Rattle.rank_sched.proofs.Cited.{Option, refl, sym, ap, ◌∙◌, append-nil, arith, ℤ, option_to_list, All, common_steps}
+use Rattle.rank_sched.proofs.Cited.{nat_lt, flat_map, list_all, AllByRecursion, map-append, All-from_recursion}
+use Rattle.rank_sched.proofs.Cited.{All-append, All-nil, times, times_below, HasEachBelow, times_below-yes, all_below}
+use Rattle.rank_sched.proofs.Cited.{length-each_below, times-none_below, Record, Haul, Turn, Task, Exchange, morsels_of}
+use Rattle.rank_sched.proofs.Cited.{exchanges, SeeUpward, Worker, State, has_stopped, all_stopped, NumbersRise}
+use Rattle.rank_sched.proofs.Cited.{unsettled, IsTurnOf, open_exchange, exchanges_of, all_exchanges, AreSoundFrom}
+use Rattle.rank_sched.proofs.Cited.{IsSoundState, IsSoundEnd, all_records, exchanges_in, turns_of, AreHaulsFrom}
+use Rattle.rank_sched.proofs.Cited.{EndsAreSound, AreHaulsOf, each-map, and_parts}
+use Rattle.rank_sched.proofs.Lists.{each-append, All-left, All-right}
 
 -- the morsels of all records of some workers
 abbrev all_morsels : List Worker → List ℕ
@@ -41,17 +31,12 @@ module _ (t : Task) (guess : Option ℤ) where
   lengths_split w [] h = refl
   lengths_split w (v ∷ vs) h = grind (arith, length-append, lengths_split (w + 1) vs h.1)
 
-  -- what is recorded of a plan's morsels gives no number past the last of them
-  pub morsels_within : (rs : List Record) → AllByRecursion (λ r. r.morsel < t.len) rs
-      → AllByRecursion (λ x. x < t.len) (morsels_of rs)
-  morsels_within [] h = tt
-  morsels_within (r ∷ rs) h = (h.0, morsels_within rs h.1)
-
   -- sound workers record nothing but morsels of the plan
   all_within : (w : ℕ) (vs : List Worker) → AreSoundFrom t guess w vs
       → AllByRecursion (λ x. x < t.len) (all_morsels vs)
   all_within w [] h = tt
-  all_within w (v ∷ vs) h = grind (arith, each-append, morsels_within, all_within (w + 1) vs h.1)
+  all_within w (v ∷ vs) h = each-append (λ x. x < t.len) (morsels_of v.records) (all_morsels vs)
+      (each-map (λ (r : Record). r.morsel) (λ x. x < t.len) v.records h.0.within) (all_within (w + 1) vs h.1)
 
   -- what a stopped worker hasn't settled is one number past the last morsel, and no floor is open
   pub record HasEnded (turn : Turn) : Type 0 where
@@ -69,7 +54,7 @@ module _ (t : Task) (guess : Option ℤ) where
       (all_exchanges t vs ≡ flat_map (λ v. exchanges t [] v.records) vs)
   lasts_past w [] h e = (tt, refl, refl)
   lasts_past w (v ∷ vs) h e =
-      let stop = both_true (has_stopped v.turn) (list_all (λ (u : Worker). has_stopped u.turn) vs) e in
+      let stop = and_parts (has_stopped v.turn) (list_all (λ (u : Worker). has_stopped u.turn) vs) e in
       let end : HasEnded v.turn = ended v.turn stop.0 h.0.turn in
       let rest = lasts_past (w + 1) vs h.1 stop.1 in (
         each-append (λ x. t.len ≤ x) (unsettled v.turn) (lasts vs) end.past rest.0,
@@ -88,10 +73,6 @@ module _ (t : Task) (guess : Option ℤ) where
   not_there : (n x : ℕ) (ms : List ℕ) → AllByRecursion (λ y. y < n) ms → n ≤ x → times x ms ≡ 0
   not_there n x [] h le = refl
   not_there n x (m ∷ ms) h le = grind (arith, not_there n x ms h.1 le)
-
-  -- a number that isn't below n isn't counted among those below n
-  below_no : (x n : ℕ) → n ≤ x → times_below x n ≡ 0
-  below_no x n h = grind arith
 
   -- each claim is below next
   lasts_below : (w next : ℕ) (vs : List Worker) → AreSoundFrom t guess w vs
@@ -120,44 +101,17 @@ module _ (t : Task) (guess : Option ℤ) where
             let low : x < t.len = grind arith in
             let none : times x (lasts vs) ≡ 0 = times-none_below t.len x (lasts vs)
             (All-from_recursion (λ y. t.len ≤ y) (lasts vs) past.0) low in
-            omega (
-              arith,
-              claims_split x 0 vs h.each,
-              times_below-yes x t.len low,
-              times_below-yes x
-                  s.next (omega arith),
-            )
+            let drawn = times_below-yes x s.next (omega arith) in
+            omega (arith, claims_split x 0 vs h.each, times_below-yes x t.len low)
         | false ↦ λ k.
             let high : t.len ≤ x = grind arith in
-            not_there t.len x (all_morsels vs) (all_within 0 vs h.each) high ∙ sym (below_no x t.len high)
+            let none : times_below x t.len ≡ 0 = grind arith in
+            not_there t.len x (all_morsels vs) (all_within 0 vs h.each) high ∙ sym none
       ] refl in
-      record {
-        once = once;
-        next = cc (
-          length-each_below s.next (flat_map (λ (v : Worker). v.claims) vs) h.claims,
-          lengths_split 0 vs
-              h.each,
-          length-each_below t.len (all_morsels vs) once,
-        );
-      }
+      let claimed = length-each_below s.next (flat_map (λ (v : Worker). v.claims) vs) h.claims in
+      record { once = once; next = cc (lengths_split 0 vs h.each, length-each_below t.len (all_morsels vs) once) }
 
   -- ---- hauls
-
-  -- the morsels of hauls are those of the workers' records
-  haul_morsels : (hs : List Haul) (vs : List Worker)
-      → AllZip (λ h v. (records_of h ≡ v.records) × (h.pool ≡ v.pool)) hs vs
-      → morsels_of (all_records hs) ≡ all_morsels vs
-  haul_morsels [] [] a = refl
-  haul_morsels (h ∷ hs) (v ∷ vs) a = grind (arith, map-append, haul_morsels hs vs a.1)
-  haul_morsels hs vs a = absurd a
-
-  -- the turns of hauls are those of the workers' records
-  haul_turns : (hs : List Haul) (vs : List Worker)
-      → AllZip (λ h v. (records_of h ≡ v.records) × (h.pool ≡ v.pool)) hs vs
-      → turns_of t hs ≡ flat_map (λ (v : Worker). exchanges t [] v.records) vs
-  haul_turns [] [] a = refl
-  haul_turns (h ∷ hs) (v ∷ vs) a = cc (haul_turns hs vs a.1)
-  haul_turns hs vs a = absurd a
 
   -- what rises does so up to any place
   pub rise_front : (xs ys : List ℕ) → NumbersRise (xs ++ ys) → NumbersRise xs
@@ -168,40 +122,32 @@ module _ (t : Task) (guess : Option ℤ) where
       front [] us a = tt
       front (z ∷ zs) us a = (a.0, front zs us a.1)
 
-  -- the hauls of sound workers are those of workers with their numbers
-  hauls_from : (w : ℕ) (hs : List Haul) (vs : List Worker)
-      → AllZip (λ h v. (records_of h ≡ v.records) × (h.pool ≡ v.pool)) hs vs → AreSoundFrom t guess w vs
-      → AreHaulsFrom t w hs
-  hauls_from w [] [] a s = tt
-  hauls_from w (h ∷ hs) (v ∷ vs) a s = grind (arith, rise_front, hauls_from (w + 1) hs vs a.1 s.1)
-  hauls_from w hs vs a s = absurd a
+  -- each haul is its worker's and saw its floors upward, and their morsels and turns are those of the workers' records
+  record AreOfStopped (w : ℕ) (hs : List Haul) (vs : List Worker) : Type 0 where
+    each : AreHaulsFrom t w hs
+    upward : AllByRecursion (λ h. SeeUpward (option_to_list guess) (exchanges_in t h)) hs
+    morsels : morsels_of (all_records hs) ≡ all_morsels vs
+    turns : turns_of t hs ≡ flat_map (λ v. exchanges t [] v.records) vs
 
-  -- if all have stopped, each haul's floors were seen upward
-  hauls_upward : (w : ℕ) (hs : List Haul) (vs : List Worker)
-      → AllZip (λ h v. (records_of h ≡ v.records) × (h.pool ≡ v.pool)) hs vs → AreSoundFrom t guess w vs
-      → list_all (λ v. has_stopped v.turn) vs ≡ true
-      → AllByRecursion (λ h. SeeUpward (option_to_list guess) (exchanges_in t h)) hs
-  hauls_upward w [] [] a s e = tt
-  hauls_upward w (h ∷ hs) (v ∷ vs) a s e =
-      let stop = both_true (has_stopped v.turn) (list_all (λ (u : Worker). has_stopped u.turn) vs) e in
+  -- so it is with the hauls of sound workers that have all stopped
+  hauls_of : (w : ℕ) (hs : List Haul) (vs : List Worker) → AreHaulsOf vs hs → AreSoundFrom t guess w vs
+      → list_all (λ v. has_stopped v.turn) vs ≡ true → AreOfStopped w hs vs
+  hauls_of w [] [] a s e = record { each = tt; upward = tt; morsels = refl; turns = refl }
+  hauls_of w (h ∷ hs) (v ∷ vs) a s e =
+      let stop = and_parts (has_stopped v.turn) (list_all (λ (u : Worker). has_stopped u.turn) vs) e in
       let end : HasEnded v.turn = ended v.turn stop.0 s.0.turn in
-      let own : exchanges_of t v ≡ exchanges_in t h =
-      grind (arith, append-nil) in (
-        rw own at s.0.upward,
-        hauls_upward
-            (w + 1) hs vs a.1 s.1 stop.1,
-      )
-  hauls_upward w hs vs a s e = absurd a
+      let rest = hauls_of (w + 1) hs vs a.1 s.1 stop.1 in
+      let own : exchanges_of t v ≡ exchanges_in t h = grind (arith, append-nil) in
+      record {
+        each = grind (arith, rise_front, rest.each);
+        upward = (rw own at s.0.upward, rest.upward);
+        morsels = grind (arith, map-append, rest.morsels);
+        turns = cc (rest.turns);
+      }
+  hauls_of w hs vs a s e = absurd a
 
 -- once all have stopped, each morsel has one record and the hauls are sound and under the floor
 pub ends_sound : EndsAreSound
-ends_sound t guess s hs some h e a = grind (
-  arith,
-  end_sound t guess s some h e,
-  lasts_past t guess 0 s.workers h.each e,
-  haul_turns t guess hs s.workers a,
-  hauls_from t guess 0 hs s.workers a h.each,
-  haul_morsels t guess hs s.workers a,
-  hauls_upward t guess 0 hs
-      s.workers a h.each e,
-)
+ends_sound t guess s hs some h e a =
+    let hauls = hauls_of t guess 0 hs s.workers a h.each e in
+    grind (arith, end_sound t guess s some h e, lasts_past t guess 0 s.workers h.each e)

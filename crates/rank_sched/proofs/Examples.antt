@@ -1,26 +1,9 @@
 -- Worked plans, runs and answers, by computation.
-use Rattle.std.proofs.Common.{◌≡◌, ℕ, List, [], ◌∷◌, ◌++◌, refl, Some, None, Option, true, false, Bool, map}
-use Rattle.std.specs.Prelude.{codes, ℤ, pos}
-use Rattle.std.specs.List.{flat_map}
-use Rattle.ghcn_files.specs.declared.station.StationId.{StationId}
-use Rattle.ghcn_files.specs.declared.station.Station.{Station}
-use Rattle.ghcn_files.specs.declared.element.Element.TheVariants.{Tmax}
-use Rattle.ghcn_files.specs.StationLines.{station_of}
-use Rattle.ghcn_series.specs.Series.{DayValue, Usable, Contents}
-use Rattle.rank_query.specs.declared.score.Score.TheVariants.{Highest}
-use Rattle.rank_query.specs.Asked.{Asked, top}
-use Rattle.rank_scores.specs.Morsels.{best_of_query}
-use Rattle.rank_sched.specs.declared.record.Record.{Record}
-use Rattle.rank_sched.specs.declared.line.Line.{Line}
-use Rattle.rank_sched.specs.declared.event.Event.{Event}
-use Rattle.rank_sched.specs.declared.event.Event.TheVariants.{Claim, Look, Settle}
-use Rattle.rank_sched.specs.declared.event.StepFault.{StepFault}
-use Rattle.rank_sched.specs.declared.event.StepFault.TheVariants.{NoWorker, NotNow}
-use Rattle.rank_sched.specs.Plan.{Morsel, Planned, planned, measures}
-use Rattle.rank_sched.specs.Task.{task_of}
-use Rattle.rank_sched.specs.Machine.{State, started, refusal, replayed, all_stopped}
-use Rattle.rank_sched.specs.TakingBack.{taken_back}
-use Rattle.rank_sched.specs.Answers.{lines_of, best_of_plan}
+use Rattle.rank_sched.proofs.Cited.{◌≡◌, ℕ, List, [], ◌∷◌, ◌++◌, refl, Some, None, Option, true, false, Bool, map}
+use Rattle.rank_sched.proofs.Cited.{codes, ℤ, pos, flat_map, StationId, Station, Tmax, station_of, DayValue, Usable}
+use Rattle.rank_sched.proofs.Cited.{Contents, Highest, Asked, top, best_of_query, Record, Line, Event, Claim, Look}
+use Rattle.rank_sched.proofs.Cited.{Settle, StepFault, NoWorker, NotNow, Morsel, Planned, planned, measures, task_of}
+use Rattle.rank_sched.proofs.Cited.{State, started, refusal, replayed, all_stopped, taken_back, lines_of, best_of_plan}
 
 -- ---- the data of the worked runs
 

@@ -1,29 +1,13 @@
 -- What is true of every plan's task.
-use Rattle.std.proofs.Common.{rules, ◌≡◌, ℕ, zero, suc, ◌<◌, ◌≤◌, true, List, [], ◌∷◌, length, map, filter}
-use Rattle.std.proofs.Common.{Option, Some, None, refl, arith, pos, ◌≤ℤ◌}
-use Rattle.std.specs.Prelude.{slice_get}
-use Rattle.std.specs.List.{AllByRecursion}
-use Rattle.std.specs.Option.{option_map_or}
-use Rattle.std.proofs.lemmas.Int.{ints}
-use Rattle.std.proofs.lemmas.List.Elements.{recursion_from_All, All-from_recursion}
-use Rattle.std.proofs.lemmas.List.Sorted.{All-permutation, IsPermutation-trans}
-use Rattle.ghcn_fields.specs.Floor.{IsScore}
-use Rattle.ghcn_series.specs.Series.{Usable, Contents}
-use Rattle.ghcn_series.specs.Held.{IsContents}
-use Rattle.rank_query.specs.Asked.{Asked}
-use Rattle.rank_scores.specs.Candidates.{candidates}
-use Rattle.rank_scores.specs.Morsels.{has_admitted, admitted_series, morsels, all_candidates, IsAskedOf}
-use Rattle.rank_scores.specs.Order.{AreApart}
-use Rattle.rank_blocks.specs.Bounds.{bound}
-use Rattle.rank_blocks.proofs.Computed.{computed-IsBound}
-use Rattle.rank_blocks.proofs.BoundsMet.{bound-above}
-use Rattle.rank_sched.specs.Plan.{Morsel, Planned, measured, is_drawn_first, planned, AreDrawnInTurn, IsPlan}
-use Rattle.rank_sched.specs.Task.{task_of, all_of_task}
-use Rattle.rank_sched.specs.Laws.{PlansAreFair}
-use Rattle.rank_scores.proofs.QueryCandidates.{all_apart}
-use Rattle.rank_scores.proofs.QueryMorsels.{morsels_asked}
+use Rattle.rank_sched.proofs.Cited.{rules, ◌≡◌, ℕ, zero, suc, ◌<◌, ◌≤◌, true, List, [], ◌∷◌, length, map, filter}
+use Rattle.rank_sched.proofs.Cited.{Option, Some, None, refl, arith, pos, ◌≤ℤ◌, slice_get, AllByRecursion}
+use Rattle.rank_sched.proofs.Cited.{option_map_or, ints, recursion_from_All, All-from_recursion, All-permutation}
+use Rattle.rank_sched.proofs.Cited.{IsPermutation-trans, IsScore, Usable, Contents, IsContents, Asked, candidates}
+use Rattle.rank_sched.proofs.Cited.{has_admitted, admitted_series, morsels, all_candidates, IsAskedOf, AreApart, bound}
+use Rattle.rank_sched.proofs.Cited.{computed-IsBound, bound-above, Morsel, Planned, measured, is_drawn_first, planned}
+use Rattle.rank_sched.proofs.Cited.{AreDrawnInTurn, IsPlan, task_of, all_of_task, PlansAreFair, all_apart}
+use Rattle.rank_sched.proofs.Cited.{morsels_asked, sorted-permutation, from_all}
 use Rattle.rank_sched.proofs.PlanBest.{plan_alike, apart_alike}
-use Rattle.ghcn_files.proofs.Ordered.{sorted-permutation}
 use Rattle.rank_sched.proofs.PlanOrder.{sorted-in_turn}
 use Rattle.rank_sched.proofs.PlanMade.{by_id, few_morsels}
 use Rattle.rank_sched.proofs.ScoreRanges.{candidates_ranged}
@@ -49,13 +33,6 @@ plan_measured q c right =
     (All-from_recursion (IsMeasured q) ms (all_measured q (filter (has_admitted q) (admitted_series q c))
     (morsels_asked q c right))))
 
--- what is true of each morsel is true of the one at a place
-at_place : (P : Morsel → Type 0) (ms : List Morsel) (i : ℕ) (m : Morsel) → AllByRecursion P ms
-    → slice_get ms i ≡ Some m → P m
-at_place P [] i m h e = absurd cc
-at_place P (x ∷ ms) zero m h e = let same : x ≡ m = cc in rw same at h.0
-at_place P (x ∷ ms) (suc i) m h e = at_place P ms i m h.1 e
-
 -- the morsels of a plan are measured
 measured_of : (p : Planned) → IsPlan p → AllByRecursion (IsMeasured p.query) p.morsels
 measured_of p is = grind (arith, plan_measured)
@@ -70,16 +47,16 @@ plan_bounded p is m = by_morsel (slice_get p.morsels m) refl
         (option_map_or (λ x. candidates p.query x.series) o [])
     by_morsel None e = tt
     by_morsel (Some x) e =
-        let own : IsMeasured p.query x = at_place (IsMeasured p.query) p.morsels m x (measured_of p is) e in
+        let own : IsMeasured p.query x = from_all (IsMeasured p.query) p.morsels m x (measured_of p is) e in
         rw own.bounded (grind (arith, bound-above, computed-IsBound))
 
 -- all candidates of a plan are apart
 pub plan_apart : (p : Planned) → IsPlan p → AreApart (all_of_task (task_of p))
-plan_apart p is = grind (
-  arith,
-  apart_alike (all_of_task (task_of (planned p.query is.dataset)))
-      (all_candidates p.query is.dataset) (plan_alike p.query is.dataset) (all_apart p.query is.dataset is.right),
-)
+plan_apart p is =
+    let made = planned p.query is.dataset in
+    let apart = apart_alike (all_of_task (task_of made)) (all_candidates p.query is.dataset)
+    (plan_alike p.query is.dataset) (all_apart p.query is.dataset is.right) in
+    grind arith
 
 -- no morsel that is drawn later has a greater bound
 each_lower : (x : Morsel) (ms : List Morsel) → AllByRecursion (λ n. is_drawn_first x n ≡ true) ms
@@ -110,7 +87,7 @@ plan_falls p is m n le lt = grind (arith, falls, sorted-in_turn)
 -- each candidate's score can be a floor
 pub plan_scores : (p : Planned) → IsPlan p → (m : ℕ)
     → AllByRecursion (λ c. IsScore c.score) ((task_of p).candidates m)
-plan_scores p is m = grind (arith, ints, at_place, measured_of p is, candidates_ranged)
+plan_scores p is m = grind (arith, ints, from_all, measured_of p is, candidates_ranged)
 
 -- what a plan asks is fair
 pub plans_fair : PlansAreFair

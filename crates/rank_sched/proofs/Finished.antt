@@ -1,67 +1,31 @@
 -- What was scanned in a sound run, or had its skip undone after it, has the first k of all candidates.
-use Rattle.std.proofs.Common.{rules, ◌≡◌, ◌≢◌, ℕ, zero, suc, ◌+◌, ◌<◌, ◌≤◌, true, false, cond, not, List, [], ◌∷◌, ◌++◌}
-use Rattle.std.proofs.Common.{length, refl, sym, ap, ◌∙◌, append-nil, append_assoc, inl, inr, arith, All}
-use Rattle.std.proofs.lemmas.Grind.{common_steps, flat_map-append}
-use Rattle.std.specs.Prelude.{◌||◌, ◌&&◌, ◌==◌, nat_lt}
-use Rattle.std.specs.List.{flat_map, range_with_len}
-use Rattle.std.proofs.lemmas.Bool.{cases_eq, eq-eqb, ne_eqb}
-use Rattle.std.proofs.lemmas.List.Elements.{All-head, All-tail}
-use Rattle.ghcn_fields.specs.Counting.{times, times_below, HasEachBelow}
-use Rattle.ghcn_fields.proofs.CountingLaws.{one_if_equal-equal, one_if_equal-apart, times_below-suc, times_below-yes, all_below, length-each_below, times-append}
-use Rattle.rank_scores.specs.declared.candidate.Candidate.{Candidate}
-use Rattle.rank_scores.specs.Order.{bound_is_below}
-use Rattle.rank_pool.specs.First.{first, kth, above}
-use Rattle.rank_pool.proofs.Counts.{below_kth}
-use Rattle.rank_pool.proofs.Places.{in_order-append_comm, first-first_left}
-use Rattle.rank_pool.proofs.Kept.{first-low, Alike, alike-right, alike-left, alike-first, alike-middle}
-use Rattle.rank_sched.specs.declared.record.Record.{Record}
-use Rattle.rank_sched.specs.Task.{Task, all_of_task, IsFair}
-use Rattle.rank_sched.specs.Exchanges.{morsels_of, scanned}
-use Rattle.rank_sched.specs.Hauls.{all_records}
-use Rattle.rank_sched.specs.TakingBack.{known_before, is_justified, was_skipped, back_below}
-use Rattle.rank_sched.specs.Laws.{BestAreThere, PoolDecides}
-use Rattle.rank_sched.proofs.Lists.{last_is_kth}
+use Rattle.rank_sched.proofs.Cited.{rules, ◌≡◌, ◌≢◌, ℕ, zero, suc, ◌+◌, ◌<◌, ◌≤◌, true, false, cond, not, List, [], ◌∷◌}
+use Rattle.rank_sched.proofs.Cited.{◌++◌, length, refl, sym, ap, ◌∙◌, append-nil, append_assoc, inl, inr, arith, All}
+use Rattle.rank_sched.proofs.Cited.{common_steps, flat_map-append, ◌||◌, ◌&&◌, ◌==◌, nat_lt, flat_map, range_with_len}
+use Rattle.rank_sched.proofs.Cited.{cases_eq, eq-eqb, ne_eqb, All-head, All-tail, times, times_below, HasEachBelow}
+use Rattle.rank_sched.proofs.Cited.{one_if_equal-equal, times_below-suc, all_below, length-each_below, times-append}
+use Rattle.rank_sched.proofs.Cited.{Candidate, bound_is_below, first, kth, above, below_kth, in_order-append_comm}
+use Rattle.rank_sched.proofs.Cited.{first-first_left, first-low, Alike, alike-right, alike-left, alike-first}
+use Rattle.rank_sched.proofs.Cited.{alike-middle, Record, Task, all_of_task, IsFair, morsels_of, scanned, all_records}
+use Rattle.rank_sched.proofs.Cited.{known_before, is_justified, was_skipped, back_below, BestAreThere, PoolDecides}
+use Rattle.rank_sched.proofs.Cited.{has_each, nil_from_length, slice_get_read}
+use Rattle.rank_sched.proofs.Lists.{last_is_kth, at}
 use Rattle.rank_sched.proofs.Totals.{range-push, times-cons}
 
 -- ---- morsels that have one record each
 
--- a list and a number in it
-pub record Split (n : ℕ) (ms : List ℕ) : Type 0 where
-  pub front : List ℕ
-  pub behind : List ℕ
-  pub parts : ms ≡ front ++ n ∷ behind
-
--- a list that has a number has it at some place
-split : (n : ℕ) (ms : List ℕ) → 0 < times n ms → Split n ms
-split n [] h = absurd (omega arith)
-split n (m ∷ ms) h = elim (cases_eq m n) [
-  | inl e ↦ record { front = []; behind = ms; parts = ap (λ (x : ℕ). x ∷ ms) e }
-  | inr apart ↦
-      let rest : Split n ms = split n ms (grind (arith, times-cons, one_if_equal-apart)) in
-      record { front = m ∷ rest.front; behind = rest.behind; parts = ap (λ (l : List ℕ). m ∷ l) rest.parts }
-]
-
--- a list without a place is empty
-none_left : (ms : List ℕ) → length ms ≡ 0 → ms ≡ []
-none_left ms e = grind (arith, common_steps)
-
 -- the candidates of numbers that occur there once each
 each_alike : (f : ℕ → List Candidate) (n : ℕ) (ms : List ℕ) → HasEachBelow n ms
     → Alike (flat_map f ms) (flat_map f (range_with_len 0 n))
-each_alike f zero ms once = cc (none_left ms (length-each_below 0 ms once))
+each_alike f zero ms once = cc (nil_from_length ms (length-each_below 0 ms once))
 each_alike f (suc n) ms once =
-    let s : Split n ms = split n ms (search (rules, times_below-yes)) in
-    let one : suc n ≡ n + 1 = omega arith in
+    let found = has_each (suc n) ms once n (omega arith) in
+    let s = at ms found.0 n (slice_get_read ms (length ms) found.0 n refl found.1 (sym found.2)) in
+    let both : (x : ℕ) → times x ms ≡ times x s.front + times x (n ∷ s.behind) =
+    λ x. ap (times x) s.parts ∙ times-append x s.front (n ∷ s.behind) in
     let fewer : HasEachBelow n (s.front ++ s.behind) = λ x.
-    omega (
-      arith,
-      ap (times x) s.parts,
-      times-append x s.front
-          (n ∷ s.behind),
-      times-cons x n s.behind,
-      times-append x s.front s.behind,
-      times_below-suc x n (suc n) one,
-    ) in
+    let left = times-append x s.front s.behind in
+    omega (arith, both x, once x, times-cons x n s.behind, times_below-suc x n (suc n) (omega arith)) in
     let F : List Candidate = flat_map f s.front in
     let B : List Candidate = flat_map f s.behind in
     let R : List Candidate = flat_map f (range_with_len 0 n) in
@@ -73,10 +37,6 @@ each_alike f (suc n) ms once =
     rw here (grind (arith, alike-middle, alike-left))
 
 -- ---- what is known before one morsel more
-
--- a morsel of a smaller number comes before n
-lt_yes : (m n : ℕ) → m < n → nat_lt m n ≡ true
-lt_yes m n h = grind arith
 
 -- any morsel but n comes before the next one if and only if it comes before n
 lt_same : (m n : ℕ) → m ≢ n → nat_lt m (suc n) ≡ nat_lt m n
@@ -93,16 +53,9 @@ skip_part t rs n = cond (was_skipped rs n) (t.candidates n) []
 -- a morsel without a record wasn't skipped
 pub not_skipped : (n : ℕ) (rs : List Record) → times n (morsels_of rs) ≡ 0 → was_skipped rs n ≡ false
 not_skipped n [] e = refl
-not_skipped n (r ∷ rs) e = grind (
-  arith,
-  common_steps,
-  cases_eq,
-  times-cons,
-  one_if_equal-equal,
-  ne_eqb,
-  not_skipped n
-      rs (omega (arith, times-cons n r.morsel (morsels_of rs))),
-)
+not_skipped n (r ∷ rs) e =
+    let rest = not_skipped n rs (omega (arith, times-cons n r.morsel (morsels_of rs))) in
+    grind (arith, common_steps, cases_eq, times-cons, one_if_equal-equal, ne_eqb)
 
 -- what is known before the next morsel is what was known, and this one's candidates if it was skipped
 known_suc : (t : Task) (n : ℕ) (rs : List Record) → times n (morsels_of rs) ≤ 1
@@ -127,17 +80,8 @@ known_suc t n (r ∷ rs) few = elim (cases_eq r.morsel n) [
         | false ↦ grind (arith, alike-right, append-nil)
       ] refl
   | inr apart ↦
-      grind (
-        arith,
-        lt_same,
-        ne_eqb,
-        few,
-        times-cons,
-        alike-right,
-        append_assoc,
-        known_suc t n rs
-            (omega (arith, times-cons n r.morsel (morsels_of rs))),
-      )
+      let rest = known_suc t n rs (omega (arith, times-cons n r.morsel (morsels_of rs))) in
+      grind (arith, lt_same, ne_eqb, few, times-cons, alike-right, append_assoc)
 ]
 
 -- ---- skips that are undone
@@ -180,12 +124,10 @@ module _ (t : Task) (rs : List Record) (fair : IsFair t) (once : HasEachBelow t.
   known_all : (qs : List Record) → All (λ x. x < t.len) (morsels_of qs)
       → known_before t qs t.len ≡ flat_map t.candidates (morsels_of qs)
   known_all [] all = refl
-  known_all (r ∷ qs) all = grind (
-    arith,
-    known_all qs (All-tail (λ x. x < t.len) r.morsel (morsels_of qs) all),
-    lt_yes
-        r.morsel t.len (All-head (λ x. x < t.len) r.morsel (morsels_of qs) all),
-  )
+  known_all (r ∷ qs) all =
+      let here = All-head (λ x. x < t.len) r.morsel (morsels_of qs) all in
+      let rest = known_all qs (All-tail (λ x. x < t.len) r.morsel (morsels_of qs) all) in
+      grind arith
 
   -- once all skips were tried, the first k are those of all candidates
   pub best_there : first t.k (scanned t rs ++ back_below t rs t.len) ≡ first t.k (all_of_task t)
@@ -193,12 +135,9 @@ module _ (t : Task) (rs : List Record) (fair : IsFair t) (once : HasEachBelow t.
 
   -- the k-th score of what was scanned, or had its skip undone so far, says whether the next skip stays
   pub decides : (n : ℕ) → bound_is_below (kth t.k (scanned t rs ++ back_below t rs n)) (t.bound n) ≡ is_justified t rs n
-  decides n = cc (
-    last_is_kth t.k (scanned t rs ++ back_below t rs n) fair.some,
-    back_agrees n,
-    last_is_kth t.k
-        (known_before t rs n) fair.some,
-  )
+  decides n =
+      let known = last_is_kth t.k (known_before t rs n) fair.some in
+      cc (last_is_kth t.k (scanned t rs ++ back_below t rs n) fair.some, back_agrees n)
 
 -- what was scanned in the run, or had its skip undone after it, has the first k of all candidates
 pub best_are_there : BestAreThere

@@ -1,12 +1,8 @@
 -- The greater of two floors.
-use Rattle.std.proofs.Common.{rules, ◌≡◌, ⊎_elim, inl, inr, List, [], ◌++◌}
-use Rattle.std.proofs.Common.{Option, Some, None, refl, arith, ℤ, ◌≤ℤ◌}
-use Rattle.std.proofs.Common.{option_to_list, All, Contains}
-use Rattle.std.specs.Prelude.{IfSome, IsSomeAnd}
-use Rattle.std.proofs.lemmas.Int.{ints}
-use Rattle.std.proofs.lemmas.List.Elements.{All-nil, All-head, All-weaker, All-contains, All-contains_itself}
-use Rattle.ghcn_fields.specs.Floor.{IsAtLeast, IsGuessOrRaised, IsFloorOf}
-use Rattle.rank_sched.specs.Machine.{greater_floor}
+use Rattle.rank_sched.proofs.Cited.{rules, ◌≡◌, ⊎_elim, inl, inr, List, [], ◌++◌, Option, Some, None, refl, arith, ℤ}
+use Rattle.rank_sched.proofs.Cited.{◌≤ℤ◌, option_to_list, All, Contains, IfSome, IsSomeAnd, ints, All-nil, All-head}
+use Rattle.rank_sched.proofs.Cited.{All-weaker, All-contains, All-contains_itself, IsAtLeast, IsGuessOrRaised}
+use Rattle.rank_sched.proofs.Cited.{IsFloorOf, greater_floor}
 use Rattle.rank_sched.proofs.Lists.{All-between, All-without, one_there}
 
 -- ---- floors

@@ -1,9 +1,6 @@
 -- A haul and one record more, and two groups of workers as one.
-use Rattle.std.proofs.Common.{rules, ◌+◌, [], ◌∷◌, arith}
-use Rattle.std.proofs.lemmas.Grind.{flat_map-append}
-use Rattle.std.proofs.lemmas.List.Folds.{list_all-append}
-use Rattle.ghcn_fields.proofs.CountingLaws.{times-append}
-use Rattle.rank_sched.specs.Laws.{HaulsGrow, TurnsGrow, UpwardGrows, WorkersJoin, HaulsJoin, StopsJoin, TurnsJoin}
+use Rattle.rank_sched.proofs.Cited.{rules, ◌+◌, [], ◌∷◌, arith, flat_map-append, list_all-append, times-append}
+use Rattle.rank_sched.proofs.Cited.{HaulsGrow, TurnsGrow, UpwardGrows, WorkersJoin, HaulsJoin, StopsJoin, TurnsJoin}
 use Rattle.rank_sched.proofs.Lists.{each-append, rise-push, morsels-push, scanned-push, exchanges-push, upward-push}
 use Rattle.rank_sched.proofs.Ending.{best_more}
 

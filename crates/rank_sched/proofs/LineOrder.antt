@@ -1,22 +1,10 @@
 -- Lines by increasing ID: there is one such list of the lines of a plan's morsels.
-use Rattle.std.proofs.Common.{◌≡◌, ℕ, zero, suc, ◌+◌, ◌<◌, ◌≤◌, Bool, List, [], ◌∷◌, ◌++◌, length, take}
-use Rattle.std.proofs.Common.{map, Some, refl, sym, ap, ◌∙◌, subst, arith, rules}
-use Rattle.std.specs.Prelude.{slice_get}
-use Rattle.std.specs.List.{enumerate_from, IsDistinct}
-use Rattle.std.specs.List.Sorted.{IsPermutation, IsSortedBy}
-use Rattle.std.specs.Option.{option_map}
-use Rattle.std.proofs.lemmas.Int.{ints}
-use Rattle.std.proofs.lemmas.List.{take_all}
-use Rattle.ghcn_files.specs.Ids.{same_id}
-use Rattle.ghcn_files.proofs.IdOrder.{strictly, one_sort}
-use Rattle.ghcn_files.proofs.Ordered.{distinct-map, distinct-mapped}
-use Rattle.rank_sched.specs.declared.record.Record.{Record}
-use Rattle.rank_sched.specs.declared.line.Line.{Line}
-use Rattle.rank_sched.specs.Plan.{Morsel, Planned, IsPlan}
-use Rattle.rank_sched.specs.Task.{task_of}
-use Rattle.rank_sched.specs.TakingBack.{stays}
-use Rattle.rank_sched.specs.Answers.{line_of, lines_of}
-use Rattle.rank_sched.specs.Finish.{mark, AreMarks, marked_line, marked_lines}
+use Rattle.rank_sched.proofs.Cited.{◌≡◌, ℕ, zero, suc, ◌+◌, ◌<◌, ◌≤◌, Bool, List, [], ◌∷◌, ◌++◌, length, take, map}
+use Rattle.rank_sched.proofs.Cited.{Some, refl, sym, ap, ◌∙◌, subst, arith, rules, slice_get, enumerate_from}
+use Rattle.rank_sched.proofs.Cited.{IsDistinct, IsPermutation, IsSortedBy, option_map, ints, take_all, same_id}
+use Rattle.rank_sched.proofs.Cited.{strictly, one_sort, distinct-map, distinct-mapped, Record, Line, Morsel, Planned}
+use Rattle.rank_sched.proofs.Cited.{IsPlan, task_of, stays, line_of, lines_of, mark, AreMarks, marked_line}
+use Rattle.rank_sched.proofs.Cited.{marked_lines}
 use Rattle.rank_sched.proofs.PlanMade.{plan_distinct}
 
 -- the IDs of lines are those of the morsels' series

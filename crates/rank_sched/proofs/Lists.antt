@@ -1,65 +1,46 @@
 -- What is true of lists and of their elements, and the lists that records give.
-use Rattle.std.proofs.Common.{Bool, true, rules, ◌≡◌, ℕ, zero, suc, ◌-◌, ◌<◌, List, [], ◌∷◌, ◌++◌, length, take, Option}
-use Rattle.std.proofs.Common.{Some, refl, ap, ◌∙◌, append-nil, append_assoc, arith, ℤ, ◌≤ℤ◌, option_to_list, All}
-use Rattle.std.proofs.Common.{Contains}
-use Rattle.std.specs.Prelude.{◌&&◌, slice_get, slice_set, IfSome, IsSomeAnd}
-use Rattle.std.specs.List.{AllByRecursion}
-use Rattle.std.specs.Option.{option_map}
-use Rattle.std.proofs.lemmas.Grind.{flat_map-append}
-use Rattle.std.proofs.lemmas.List.{map-append}
-use Rattle.std.proofs.lemmas.List.Elements.{All-append, All-contains, Contains-append_left, Contains-append_right}
-use Rattle.ghcn_fields.specs.Floor.{IsAtLeast}
+use Rattle.rank_sched.proofs.Cited.{rules, ◌≡◌, ℕ, zero, suc, ◌<◌, List, [], ◌∷◌, ◌++◌, length, Option, Some, refl, ap}
+use Rattle.rank_sched.proofs.Cited.{◌∙◌, append-nil, append_assoc, arith, ℤ, ◌≤ℤ◌, option_to_list, All, slice_get}
+use Rattle.rank_sched.proofs.Cited.{slice_set, IfSome, IsSomeAnd, AllByRecursion, flat_map-append, map-append}
+use Rattle.rank_sched.proofs.Cited.{All-append, IsAtLeast, Candidate, first, kth, last_score, Record, Task, Exchange}
+use Rattle.rank_sched.proofs.Cited.{morsels_of, scanned_for, scanned, exchange, exchanges, seen_in, raised_in}
+use Rattle.rank_sched.proofs.Cited.{SeeUpward, NumbersRise, All-drop, All-take, best_pool, drop_at, last_of_pool}
+use Rattle.rank_sched.proofs.Cited.{take_at, subst}
 pub use Rattle.ghcn_files.proofs.Among.{each-weaker}
 pub use Rattle.ghcn_series.proofs.ListFacts.{each-append}
-use Rattle.rank_scores.specs.declared.candidate.Candidate.{Candidate}
-use Rattle.rank_pool.specs.First.{first, kth, in_order}
-use Rattle.rank_pool.specs.Pools.{last_score}
-use Rattle.rank_sched.specs.declared.record.Record.{Record}
-use Rattle.rank_sched.specs.Task.{Task}
-use Rattle.rank_sched.specs.Exchanges.{Exchange, morsels_of, scanned_for, scanned, exchange, exchanges, seen_in}
-use Rattle.rank_sched.specs.Exchanges.{raised_in, SeeUpward}
-use Rattle.rank_sched.specs.SoundRun.{NumbersRise}
 
 -- ---- elements
 
--- what is true of each element of a list is true of all
-pub all_from : {X : Type 0} (P : X → Type 0) (xs : List X) → ((x : X) → Contains xs x → P x) → All P xs
-all_from P xs f = search rules
-
--- what is true of all of two lists is true of all of the first
-pub All-left : {X : Type 0} (P : X → Type 0) (xs ys : List X) → All P (xs ++ ys) → All P xs
-All-left P xs ys h = all_from P xs (λ x c. All-contains P (xs ++ ys) x h (Contains-append_left xs ys x c))
-
--- what is true of all of two lists is true of all of the second
-pub All-right : {X : Type 0} (P : X → Type 0) (xs ys : List X) → All P (xs ++ ys) → All P ys
-All-right P xs ys h = all_from P ys (λ x c. All-contains P (xs ++ ys) x h (Contains-append_right xs ys x c))
-
 module _ {X : Type 0} (P : X → Type 0) where
+  -- what is true of all of two lists is true of all of the first
+  pub All-left : (xs ys : List X) → All P (xs ++ ys) → All P xs
+  All-left xs ys h = subst (All P) (take_at xs ys (length xs) refl) (All-take P (length xs) (xs ++ ys) h)
+
+  -- and of all of the second
+  pub All-right : (xs ys : List X) → All P (xs ++ ys) → All P ys
+  All-right xs ys h = subst (All P) (drop_at xs ys (length xs) refl) (All-drop P (length xs) (xs ++ ys) h)
+
   -- what is true of all of three lists is true of all of the second
   pub All-middle : (F V B : List X) → All P (F ++ (V ++ B)) → All P V
-  All-middle F V B h = All-left P V B (All-right P F (V ++ B) h)
+  All-middle F V B h = All-left V B (All-right F (V ++ B) h)
 
   -- what is true of all of three lists and of another is true of all, if that comes after the second
   pub All-between : (F V Z B : List X) → All P (F ++ (V ++ B)) → All P Z → All P (F ++ ((V ++ Z) ++ B))
-  All-between F V Z B h new = All-append P F ((V ++ Z) ++ B) (All-left P F (V ++ B) h) (All-append P (V ++ Z) B
-      (All-append P V Z (All-middle F V B h) new) (All-right P V B (All-right P F (V ++ B) h)))
+  All-between F V Z B h new = All-append P F ((V ++ Z) ++ B) (All-left F (V ++ B) h)
+      (All-append P (V ++ Z) B (All-append P V Z (All-middle F V B h) new) (All-right V B (All-right F (V ++ B) h)))
 
   -- and without that list it is true of all, and of all of it
   pub All-without : (F V Z B : List X) → All P (F ++ ((V ++ Z) ++ B)) → All P (F ++ (V ++ B)) × All P Z
   All-without F V Z B h =
-      let both : All P (V ++ Z) = All-middle F (V ++ Z) B h in (
-        All-append P F (V ++ B) (All-left P F ((V ++ Z) ++ B) h) (All-append P V B (All-left P V Z both)
-            (All-right P (V ++ Z) B (All-right P F ((V ++ Z) ++ B) h))),
-        All-right P V Z both,
+      let both = All-middle F (V ++ Z) B h in
+      let behind = All-right (V ++ Z) B (All-right F ((V ++ Z) ++ B) h) in (
+        All-append P F (V ++ B) (All-left F ((V ++ Z) ++ B) h) (All-append P V B (All-left V Z both) behind),
+        All-right V Z both,
       )
 
 -- what is true of a value, if there is one, is true of the list of it
 pub one_there : {X : Type 0} (P : X → Type 0) (o : Option X) → IfSome o P → All P (option_to_list o)
 one_there P o h = grind arith
-
--- of two tests that pass together each passes
-pub both_true : (a b : Bool) → (a && b) ≡ true → (a ≡ true) × (b ≡ true)
-both_true a b h = grind arith
 
 -- ---- lists that rise
 
@@ -74,14 +55,10 @@ rise-push (y ∷ ys) x h a = grind (arith, each-append, rise-push ys x h.1 a.1)
 pub morsels-push : (rs : List Record) (r : Record) → morsels_of (rs ++ r ∷ []) ≡ morsels_of rs ++ r.morsel ∷ []
 morsels-push rs r = grind (arith, map-append)
 
--- the candidates of some records and then of others
-pub scanned-append : (t : Task) (rs qs : List Record) → scanned t (rs ++ qs) ≡ scanned t rs ++ scanned t qs
-scanned-append t rs qs = flat_map-append (scanned_for t) rs qs
-
 -- one record more adds the candidates that it stands for
 pub scanned-push : (t : Task) (rs : List Record) (r : Record)
     → scanned t (rs ++ r ∷ []) ≡ scanned t rs ++ scanned_for t r
-scanned-push t rs r = simp (scanned-append, append-nil)
+scanned-push t rs r = simp (flat_map-append, append-nil)
 
 -- one record more adds a turn, made after all that was scanned before
 pub exchanges-push : (t : Task) (before : List Candidate) (rs : List Record) (r : Record)
@@ -119,11 +96,7 @@ upward-push known (y ∷ ys) x h a b c =
 pub upward-last : (known : List ℤ) (xs : List Exchange) (x y : Exchange) → x.seen ≡ y.seen
     → SeeUpward known (xs ++ x ∷ []) → SeeUpward known (xs ++ y ∷ [])
 upward-last known [] x y e h = search rules
-upward-last known (z ∷ zs) x y e h = (
-  h.0,
-  upward-last
-      (known ++ (option_to_list z.seen ++ option_to_list z.raised)) zs x y e h.1,
-)
+upward-last known (z ∷ zs) x y e h = (h.0, upward-last _ zs x y e h.1)
 
 -- ---- a place of a list
 
@@ -143,34 +116,12 @@ at (y ∷ ys) zero x h =
     record { front = []; behind = ys; parts = ap (λ z. z ∷ ys) same; place = refl; put = λ z. refl }
 at (y ∷ ys) (suc i) x h =
     let a : At ys i x = at ys i x h in
-    record {
-      front = y ∷ a.front;
-      behind = a.behind;
-      parts = ap (λ l. y ∷ l) a.parts;
-      place =
-          omega arith;
-      put = λ z. ap (λ l. y ∷ l) (a.put z);
-    }
+    let more = ap (λ l. y ∷ l) a.parts in
+    record { front = y ∷ a.front; behind = a.behind; parts = more; place = omega arith; put = λ z. cc (a.put z) }
 
 -- ---- the last place of a pool
-
--- what is at one of the first k places is there in the whole list
-get_cut : (ys : List Candidate) (k j : ℕ) → j < k → slice_get (take k ys) j ≡ slice_get ys j
-get_cut ys zero j h = absurd (omega arith)
-get_cut [] (suc k) j h = refl
-get_cut (y ∷ ys) (suc k) zero h = refl
-get_cut (y ∷ ys) (suc k) (suc j) h = get_cut ys k j (omega arith)
 
 -- the score of the last place is the k-th score of all that was offered
 pub last_is_kth : (k : ℕ) (xs : List Candidate) → 0 < k
     → last_score (record { size = k; held = first k xs }) ≡ kth k xs
-last_is_kth zero xs some = absurd (omega arith)
-last_is_kth (suc j) xs some =
-    let one : suc j - 1 ≡ j = omega arith in
-    ap (λ (n : ℕ). option_map (λ (c : Candidate). c.score) (slice_get (take (suc j) (in_order xs)) n)) one
-    ∙ ap (λ (o : Option Candidate). option_map (λ (c : Candidate). c.score) o)
-    (get_cut (in_order xs) (suc j) j (omega arith))
-
--- an element of a list of its own
-pub one_in : {X : Type 0} (x : X) → Contains (x ∷ []) x
-one_in x = search rules
+last_is_kth k xs some = last_of_pool (best_pool k xs) xs some refl

@@ -1,22 +1,12 @@
 -- A run with one worker: of each morsel a claim, a look and a settle, and then a last claim.
-use Rattle.std.proofs.Common.{rules, ◌≡◌, ℕ, ◌+◌, ◌<◌, ◌≤◌, Bool, true, false, List, [], ◌∷◌, ◌++◌, length, Option}
-use Rattle.std.proofs.Common.{Some, None, Result, Ok, Err, IfOk, refl, ap, ◌∙◌, arith, ℤ}
-use Rattle.std.specs.Prelude.{◌&&◌, slice_get, slice_set}
-use Rattle.std.specs.List.{list_all}
-use Rattle.rank_sched.specs.declared.haul.Haul.{Haul}
-use Rattle.rank_sched.specs.declared.answer.Answer.{Answer}
-use Rattle.rank_sched.specs.declared.event.Event.{Event}
-use Rattle.rank_sched.specs.declared.event.Event.TheVariants.{Claim, Look, Settle}
-use Rattle.rank_sched.specs.Plan.{Planned}
-use Rattle.rank_sched.specs.Task.{task_of}
-use Rattle.rank_sched.specs.Machine.{Worker, worker_of, is_awaited, refusal, has_stopped, all_stopped}
-use Rattle.rank_sched.specs.Hauls.{all_records, AreSound, AreUnderFloor, AreHaulsOf}
-use Rattle.rank_sched.specs.Run.{Running, new_run, is_stopped, Steps, IsReplayed}
+use Rattle.rank_sched.proofs.Cited.{rules, ◌≡◌, ℕ, ◌+◌, ◌<◌, ◌≤◌, Bool, true, false, List, [], ◌∷◌, ◌++◌, length}
+use Rattle.rank_sched.proofs.Cited.{Option, Some, None, refl, ap, ◌∙◌, arith, ℤ, ◌&&◌, slice_get, slice_set, list_all}
+use Rattle.rank_sched.proofs.Cited.{Haul, Answer, Event, Claim, Look, Settle, Planned, task_of, Worker, worker_of}
+use Rattle.rank_sched.proofs.Cited.{is_awaited, refusal, has_stopped, all_stopped, all_records, AreSound, AreUnderFloor}
+use Rattle.rank_sched.proofs.Cited.{AreHaulsOf, Running, new_run, is_stopped, Steps, IsReplayed, IsAnswer}
+use Rattle.rank_sched.proofs.Cited.{IsAnswerOfCrew, AreRecordsAlone, records_in, length-set, AllZip-long}
 use Rattle.rank_sched.proofs.Replays.{replayed-push}
-use Rattle.rank_sched.specs.Answers.{IsAnswer, IsAnswerOfCrew, AreRecordsAlone, records_in}
 use Rattle.rank_sched.proofs.Machines.{not_refused}
-use Rattle.std.proofs.lemmas.List.{length-set}
-use Rattle.std.proofs.lemmas.Slice.Zip.{AllZip-long}
 
 -- a machine of one worker that runs a plan under a guess, drew n numbers, and doesn't refuse this event
 pub record Awaits (p : Planned) (guess : Option ℤ) (n : ℕ) (e : Event) (m : Running) : Type 0 where
@@ -58,20 +48,19 @@ awaits_next p guess n n' e e' m m' v own own' a s set turn next =
       replayed = search (rules, replayed-push);
     }
 
--- a claim of a morsel
-pub awaits_look : (p : Planned) (guess : Option ℤ) (n : ℕ) (m m' : Running) → n < length p.morsels
-    → Awaits p guess n (Claim 0) m → Steps m (Claim 0) m' → Awaits p guess (n + 1) (Look 0) m'
-awaits_look p guess n m m' lt a s = grind (arith, awaits_next)
+module _ (p : Planned) (guess : Option ℤ) (n : ℕ) (m m' : Running) where
+  -- a claim of a morsel
+  pub awaits_look : n < length p.morsels → Awaits p guess n (Claim 0) m → Steps m (Claim 0) m'
+      → Awaits p guess (n + 1) (Look 0) m'
+  awaits_look lt a s = grind (arith, awaits_next)
 
--- a look
-pub awaits_settle : (p : Planned) (guess : Option ℤ) (n : ℕ) (m m' : Running) → Awaits p guess n (Look 0) m
-    → Steps m (Look 0) m' → Awaits p guess n (Settle 0) m'
-awaits_settle p guess n m m' a s = grind (arith, awaits_next)
+  -- a look
+  pub awaits_settle : Awaits p guess n (Look 0) m → Steps m (Look 0) m' → Awaits p guess n (Settle 0) m'
+  awaits_settle a s = grind (arith, awaits_next)
 
--- a settle
-pub awaits_claim : (p : Planned) (guess : Option ℤ) (n : ℕ) (m m' : Running) → Awaits p guess n (Settle 0) m
-    → Steps m (Settle 0) m' → Awaits p guess n (Claim 0) m'
-awaits_claim p guess n m m' a s = grind (arith, awaits_next)
+  -- a settle
+  pub awaits_claim : Awaits p guess n (Settle 0) m → Steps m (Settle 0) m' → Awaits p guess n (Claim 0) m'
+  awaits_claim a s = grind (arith, awaits_next)
 
 -- the only one of some workers
 one_stopped : (vs : List Worker) (v : Worker) → length vs ≡ 1 → has_stopped v.turn ≡ true
@@ -79,51 +68,36 @@ one_stopped : (vs : List Worker) (v : Worker) → length vs ≡ 1 → has_stoppe
 one_stopped (w ∷ []) v e h = ap (λ (b : Bool). b && true) h
 one_stopped vs v e h = absurd cc
 
--- with the last claim all have stopped
-last_stops : (p : Planned) (guess : Option ℤ) (n : ℕ) (m m' : Running) → length p.morsels ≤ n
-    → Awaits p guess n (Claim 0) m → Steps m (Claim 0) m' → all_stopped m'.state.workers ≡ true
-last_stops p guess n m m' le a s = grind (arith, one_stopped)
-
--- so it stops the machine
-pub last_claim : (p : Planned) (guess : Option ℤ) (n : ℕ) (m m' : Running) → length p.morsels ≤ n
-    → Awaits p guess n (Claim 0) m → Steps m (Claim 0) m' → is_stopped m' ≡ true
-last_claim p guess n m m' le a s = cc (last_stops p guess n m m' le a s)
-
--- the hauls are sound hauls of the plan
-pub lone_sound : (p : Planned) (guess : Option ℤ) (n : ℕ) (m m' : Running) (hs : List Haul)
-    → Awaits p guess n (Claim 0) m → Steps m (Claim 0) m' → AreSound (task_of m'.plan) hs → AreSound (task_of p) hs
-lone_sound p guess n m m' hs a s sound = search rules
-
--- the answer of the one worker
-pub lone_answer : (p : Planned) (guess : Option ℤ) (n : ℕ) (m m' : Running) (hs : List Haul) (answer : Answer)
-    → Awaits p guess n (Claim 0) m → Steps m (Claim 0) m' → AreHaulsOf m'.state.workers hs
-    → AreSound (task_of m'.plan) hs → AreUnderFloor (task_of m'.plan) m'.guess hs m'.state.floor
-    → IsAnswer p (all_records hs) answer → IsAnswerOfCrew p guess 1 answer
-lone_answer p guess n m m' hs answer a s hauls sound under is = grind (arith, AllZip-long, length-set)
-
--- the same of a result
-pub lone_result : {E : Type 0} (p : Planned) (guess : Option ℤ) (n : ℕ) (m m' : Running) (hs : List Haul)
-    (r : Result Answer E) → Awaits p guess n (Claim 0) m → Steps m (Claim 0) m' → AreHaulsOf m'.state.workers hs
-    → AreSound (task_of m'.plan) hs → AreUnderFloor (task_of m'.plan) m'.guess hs m'.state.floor
-    → IfOk r (IsAnswer p (all_records hs)) → IfOk r (IsAnswerOfCrew p guess 1)
-lone_result p guess n m m' hs (Ok answer) a s hauls sound under is = search (rules, lone_answer)
-lone_result p guess n m m' hs (Err why) a s hauls sound under is = tt
-
 -- the records of hauls are those of their workers
 haul_records : (vs : List Worker) (hs : List Haul) → AreHaulsOf vs hs → all_records hs ≡ records_in vs
 haul_records [] [] z = refl
 haul_records (v ∷ vs) (h ∷ hs) z = cc (haul_records vs hs z.1)
 haul_records vs hs z = absurd z
 
--- the one worker's records are those of its run to the end
-pub lone_records : {E : Type 0} (p : Planned) (guess : Option ℤ) (n : ℕ) (m m' : Running) (hs : List Haul)
-    (r : Result Answer E) → length p.morsels ≤ n → Awaits p guess n (Claim 0) m → Steps m (Claim 0) m'
-    → AreHaulsOf m'.state.workers hs → IfOk r (IsAnswer p (all_records hs))
-    → IfOk r (λ answer. AreRecordsAlone (task_of p) guess answer.records.items)
-lone_records p guess n m m' hs (Ok answer) past a s hauls is = grind (
-  arith,
-  replayed-push p 1 guess a.events (Claim 0) m m' a.replayed s,
-  last_stops p guess n m m' past a s,
-  haul_records m'.state.workers hs hauls,
-)
-lone_records p guess n m m' hs (Err why) past a s hauls is = tt
+module _ (p : Planned) (guess : Option ℤ) (n : ℕ) (m m' : Running) (a : Awaits p guess n (Claim 0) m)
+    (s : Steps m (Claim 0) m') where
+  -- with the last claim all have stopped
+  last_stops : length p.morsels ≤ n → all_stopped m'.state.workers ≡ true
+  last_stops past = grind (arith, one_stopped)
+
+  -- so it stops the machine
+  pub last_claim : length p.morsels ≤ n → is_stopped m' ≡ true
+  last_claim past = cc (last_stops past)
+
+  module _ (hs : List Haul) where
+    -- the hauls are sound hauls of the plan
+    pub lone_sound : AreSound (task_of m'.plan) hs → AreSound (task_of p) hs
+    lone_sound sound = search rules
+
+    -- the answer of the one worker
+    pub lone_answer : (answer : Answer) → AreHaulsOf m'.state.workers hs → AreSound (task_of m'.plan) hs
+        → AreUnderFloor (task_of m'.plan) m'.guess hs m'.state.floor → IsAnswer p (all_records hs) answer
+        → IsAnswerOfCrew p guess 1 answer
+    lone_answer answer hauls sound under is = grind (arith, AllZip-long, length-set)
+
+    -- its records are those of the worker's run to the end
+    pub lone_records : (answer : Answer) → length p.morsels ≤ n → AreHaulsOf m'.state.workers hs
+        → IsAnswer p (all_records hs) answer → AreRecordsAlone (task_of p) guess answer.records.items
+    lone_records answer past hauls is =
+        let whole = replayed-push p 1 guess a.events (Claim 0) m m' a.replayed s in
+        grind (arith, last_stops past, haul_records m'.state.workers hs hauls)

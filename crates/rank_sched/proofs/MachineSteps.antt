@@ -1,100 +1,72 @@
 -- Steps of a machine by its turns and hauls: which are refused, and what those that are made lead to.
-use Rattle.std.proofs.lemmas.Grind.{common_steps}
-use Rattle.std.proofs.lemmas.List.{length-set, length-replicate}
-use Rattle.std.proofs.lemmas.Option.{slice_get_read}
-use Rattle.std.proofs.Common.{◌≡◌, ℕ, zero, suc, ◌+◌, ◌-◌, ◌*◌, ◌<◌, ◌≤◌, Bool, true, false, cond, List, [], ◌∷◌}
-use Rattle.std.proofs.Common.{length, length-append, get_or, replicate, Option, Some, None, Result, Err, IsErr}
-use Rattle.std.proofs.Common.{IsErrAnd, ◌≢◌, refl, sym, ap, ◌∙◌, arith, append-nil, ℤ, IfSome, rules}
-use Rattle.std.specs.Prelude.{not, slice_get, slice_set}
-use Rattle.std.specs.List.{AllByRecursion, flat_map}
-use Rattle.ghcn_fields.specs.Floor.{IsScore}
-use Rattle.ghcn_fields.proofs.CountingLaws.{length-each_below}
-use Rattle.rank_pool.specs.Pools.{Pooled, last_score}
-use Rattle.rank_sched.specs.declared.record.Record.{Record}
-use Rattle.rank_sched.specs.declared.haul.Haul.{Haul}
-use Rattle.rank_sched.specs.declared.event.Event.{Event}
-use Rattle.rank_sched.specs.declared.event.Event.TheVariants.{Claim, Look, Settle}
-use Rattle.rank_sched.specs.declared.event.StepFault.{StepFault}
-use Rattle.rank_sched.specs.declared.event.StepFault.TheVariants.{NoWorker, NotNow}
-use Rattle.rank_sched.specs.declared.turn.Turn.{Turn}
-use Rattle.rank_sched.specs.declared.turn.Turn.TheVariants.{Idle, Claimed, Looked}
-use Rattle.rank_sched.specs.Plan.{Planned, IsPlan}
-use Rattle.rank_sched.specs.Task.{Task, task_of}
-use Rattle.rank_sched.specs.Exchanges.{morsels_of}
-use Rattle.rank_sched.specs.Machine.{Worker, State, new_worker, started, worker_of, is_awaited, drawn}
-use Rattle.rank_sched.specs.Machine.{record_of, greater_floor, floor_after, IsStep, all_stopped}
-use Rattle.rank_sched.specs.SoundRun.{unsettled, NumbersRise, AreSoundFrom, IsSoundState, IsSoundEnd}
-use Rattle.rank_sched.specs.Hauls.{records_of, AreHaulsOf, AreSound, AreUnderFloor}
-use Rattle.rank_sched.specs.Run.{new_run, is_stopped, Running, worker_with, state_of, IsRunning, IsAnswered, Refuses}
-use Rattle.rank_sched.specs.Run.{HasSettled, IsEmptyHaul, IsSameHaul}
-use Rattle.rank_sched.proofs.Lists.{morsels-push, both_true}
-use Rattle.rank_sched.proofs.SoundSteps.{runs_sound}
-use Rattle.rank_sched.proofs.Ends.{morsels_within, rise_front, ends_sound}
+use Rattle.rank_sched.proofs.Cited.{common_steps, length-set, length-replicate, slice_get_read, ◌≡◌, ℕ, zero, suc, ◌+◌}
+use Rattle.rank_sched.proofs.Cited.{◌-◌, ◌*◌, ◌<◌, ◌≤◌, Bool, true, false, cond, List, [], ◌∷◌, length, length-append}
+use Rattle.rank_sched.proofs.Cited.{get_or, replicate, Option, Some, None, Result, Err, IsErr, IsErrAnd, ◌≢◌, refl, sym}
+use Rattle.rank_sched.proofs.Cited.{ap, ◌∙◌, arith, append-nil, ℤ, IfSome, rules, not, slice_get, slice_set}
+use Rattle.rank_sched.proofs.Cited.{AllByRecursion, flat_map, IsScore, length-each_below, last_score, Record, Haul}
+use Rattle.rank_sched.proofs.Cited.{Event, Claim, Look, Settle, StepFault, NoWorker, NotNow, Turn, Idle, Claimed}
+use Rattle.rank_sched.proofs.Cited.{Looked, Planned, IsPlan, Task, task_of, morsels_of, Worker, State, new_worker}
+use Rattle.rank_sched.proofs.Cited.{started, worker_of, is_awaited, drawn, record_of, greater_floor, floor_after}
+use Rattle.rank_sched.proofs.Cited.{IsStep, all_stopped, unsettled, NumbersRise, AreSoundFrom, IsSoundState, IsSoundEnd}
+use Rattle.rank_sched.proofs.Cited.{AreHaulsOf, AreSound, AreUnderFloor, new_run, is_stopped, Running, worker_with}
+use Rattle.rank_sched.proofs.Cited.{state_of, IsRunning, IsAnswered, Refuses, HasSettled, IsEmptyHaul, IsSameHaul}
+use Rattle.rank_sched.proofs.Cited.{claims_in, each, each-map, and_parts}
+use Rattle.rank_sched.proofs.Lists.{morsels-push}
+use Rattle.rank_sched.proofs.SoundSteps.{runs_sound, drawn_turn}
+use Rattle.rank_sched.proofs.Ends.{rise_front, ends_sound}
 use Rattle.rank_sched.proofs.PlanMade.{few_morsels}
-use Rattle.rank_sched.proofs.TurnsAndHauls.{workers_with, IsThere, there, other_turn}
-use Rattle.rank_sched.proofs.TurnsAndHauls.{other_both, no_worker, not_now}
+use Rattle.rank_sched.proofs.TurnsAndHauls.{workers_with, IsThere, there, other_turn, other_both, no_worker, not_now}
 
 -- ---- what the steps that are made lead to
 
--- the number that was drawn is what isn't settled
-drawn-number : (t : Task) (n : ℕ) → unsettled (drawn t n) ≡ n ∷ []
-drawn-number t n = search rules
+module _ (t : Task) (next : ℕ) (floor : Option ℤ) (turns : List Turn) (hs : List Haul) (w : ℕ) where
+  -- an idle worker that takes the next number makes a claim's step
+  pub claim_step : (x : Turn) → length turns ≡ length hs → slice_get turns w ≡ Some Idle → x ≡ drawn t next
+      → IsStep t (state_of next floor turns hs) (Claim w) (state_of (next + 1) floor (slice_set turns w x) hs)
+  claim_step x same here e =
+      let at : IsThere turns hs w Idle = there turns hs w Idle same here in
+      record {
+        before = worker_with (Idle, at.haul);
+        after = worker_with (x, at.haul);
+        here = at.worker;
+        does = grind (arith, drawn_turn, append-nil);
+        others = other_turn turns hs w x at.haul at.own;
+      }
 
--- an idle worker that takes the next number makes a claim's step
-pub claim_step : (t : Task) (next : ℕ) (floor : Option ℤ) (turns : List Turn) (hs : List Haul) (w : ℕ) (x : Turn)
-    → length turns ≡ length hs → slice_get turns w ≡ Some Idle → x ≡ drawn t next
-    → IsStep t (state_of next floor turns hs) (Claim w) (state_of (next + 1) floor (slice_set turns w x) hs)
-claim_step t next floor turns hs w x same here e =
-    let at : IsThere turns hs w Idle = there turns hs w Idle same here in
-    record {
-      before = worker_with (Idle, at.haul);
-      after = worker_with (x, at.haul);
-      here = at.worker;
-      does = grind (arith, drawn-number, append-nil);
-      others = other_turn turns hs w x at.haul at.own;
-    }
+  -- a worker that claimed, and then has the floor beside its morsel, makes a look's step
+  pub look_step : (m : ℕ) → length turns ≡ length hs → slice_get turns w ≡ Some (Claimed m)
+      → IsStep t (state_of next floor turns hs) (Look w) (state_of next floor (slice_set turns w (Looked m floor)) hs)
+  look_step m same here =
+      let at : IsThere turns hs w (Claimed m) = there turns hs w (Claimed m) same here in
+      record {
+        before = worker_with (Claimed m, at.haul);
+        after = worker_with (Looked m floor, at.haul);
+        here = at.worker;
+        does = search rules;
+        others = grind (arith, other_turn);
+      }
 
--- a worker that claimed, and then has the floor beside its morsel, makes a look's step
-pub look_step : (t : Task) (next : ℕ) (floor : Option ℤ) (turns : List Turn) (hs : List Haul) (w m : ℕ)
-    → length turns ≡ length hs → slice_get turns w ≡ Some (Claimed m)
-    → IsStep t (state_of next floor turns hs) (Look w)
-    (state_of next floor (slice_set turns w (Looked m floor)) hs)
-look_step t next floor turns hs w m same here =
-    let at : IsThere turns hs w (Claimed m) = there turns hs w (Claimed m) same here in
-    record {
-      before = worker_with (Claimed m, at.haul);
-      after = worker_with (Looked m floor, at.haul);
-      here = at.worker;
-      does = search rules;
-      others = grind (arith, other_turn);
-    }
-
--- a worker that looked, and then is idle with one record more, makes a settle's step
-pub settle_step : (t : Task) (next : ℕ) (floor floor' : Option ℤ) (turns : List Turn) (hs : List Haul) (w m : ℕ)
-    (seen : Option ℤ) (h h' : Haul) → length turns ≡ length hs → slice_get turns w ≡ Some (Looked m seen)
-    → slice_get hs w ≡ Some h → HasSettled t h (record_of t w m seen) h'
-    → floor' ≡ floor_after floor (record_of t w m seen) h'.pool
-    → IsStep t (state_of next floor turns hs) (Settle w)
-    (state_of next floor' (slice_set turns w Idle) (slice_set hs w h'))
-settle_step t next floor floor' turns hs w m seen h h' same here own did raised =
-    let at : IsThere turns hs w (Looked m seen) = there turns hs w (Looked m seen) same here in
-    let there' : Some at.haul ≡ Some h = sym at.own ∙ own in
-    let haul : at.haul ≡ h = cc in
-    let rs : List Record = records_of h in
-    let r : Record = record_of t w m seen in
-    record {
-      before = worker_with (Looked m seen, h);
-      after = worker_with (Idle, h');
-      here = cc;
-      does = grind (arith, append-nil, morsels-push);
-      others = other_both turns hs w Idle h' same;
-    }
+  -- a worker that looked, and then is idle with one record more, makes a settle's step
+  pub settle_step : (floor' raised : Option ℤ) (m : ℕ) (seen : Option ℤ) (h h' : Haul) (r : Record)
+      → length turns ≡ length hs → slice_get turns w ≡ Some (Looked m seen) → h ≡ get_or hs w h
+      → r ≡ record_of t w m seen → HasSettled t h r h' → raised ≡ cond r.skipped None (last_score h'.pool)
+      → floor' ≡ greater_floor floor raised → IsStep t (state_of next floor turns hs) (Settle w)
+      (state_of next floor' (slice_set turns w Idle) (slice_set hs w h'))
+  settle_step floor' raised m seen h h' r same here own made did up new =
+      let at : IsThere turns hs w (Looked m seen) = there turns hs w (Looked m seen) same here in
+      let read : Some at.haul ≡ Some h =
+      sym at.own ∙ slice_get_read hs (length hs) w h refl (omega (arith, at.within, same)) own in
+      let haul : at.haul ≡ h = cc in
+      let after-is : floor' ≡ floor_after floor r h'.pool = search rules in
+      record {
+        before = worker_with (Looked m seen, h);
+        after = worker_with (Idle, h');
+        here = cc;
+        does = grind (arith, append-nil, morsels-push);
+        others = other_both turns hs w Idle h' same;
+      }
 
 -- ---- what is true of every machine stays so
-
--- a plan asks for one candidate or more
-pub some_wanted : (p : Planned) → IsPlan p → 0 < p.query.k
-some_wanted p is = let k = is.asked.k in grind arith
 
 -- what is true of every machine is true after a step, also of one that fails at it
 pub still_running : (m : Running) (e : Event) (s' : State) (failed : Bool) → IsRunning m
@@ -102,12 +74,14 @@ pub still_running : (m : Running) (e : Event) (s' : State) (failed : Bool) → I
     (record { plan = m.plan; guess = m.guess; state = s'; failed = failed })
 still_running m e s' failed r step =
     let len : length s'.workers ≡ length m.state.workers = grind (arith, length-set) in
+    let k = r.plan.asked.k in
+    let wanted : 0 < m.plan.query.k = grind arith in
     record {
       plan = r.plan;
       guess = r.guess;
       some = omega (arith, len, r.some);
       limit = omega (arith, len, r.limit);
-      sound = runs_sound.1 (task_of m.plan) m.guess m.state s' e (some_wanted m.plan r.plan) r.sound step;
+      sound = runs_sound.1 (task_of m.plan) m.guess m.state s' e wanted r.sound step;
     }
 
 -- whether it has failed makes no difference
@@ -152,26 +126,7 @@ pub not_looked : (w : ℕ) (turn : Turn) → ((m : ℕ) (seen : Option ℤ) → 
     → is_awaited turn (Settle w) ≡ false
 not_looked w turn h = grind arith
 
--- the greater floor, if a score is raised only by what isn't skipped
-pub raised_floor : (floor raised : Option ℤ) (r : Record) (p : Pooled) → raised ≡ cond r.skipped None (last_score p)
-    → greater_floor floor raised ≡ floor_after floor r p
-raised_floor floor raised r p e = search rules
-
--- ---- a haul that settles, or finds no memory
-
--- the record that is written is the worker's
-pub settle_made : (t : Task) (next : ℕ) (floor floor' raised : Option ℤ) (turns : List Turn) (hs : List Haul)
-    (w m : ℕ) (seen : Option ℤ) (h h' : Haul) (r : Record) → length turns ≡ length hs
-    → slice_get turns w ≡ Some (Looked m seen) → h ≡ get_or hs w h → r ≡ record_of t w m seen
-    → HasSettled t h r h' → raised ≡ cond r.skipped None (last_score h'.pool) → floor' ≡ greater_floor floor raised
-    → IsStep t (state_of next floor turns hs) (Settle w)
-    (state_of next floor' (slice_set turns w Idle) (slice_set hs w h'))
-settle_made t next floor floor' raised turns hs w m seen h h' r same here own made did up new =
-    let at : IsThere turns hs w (Looked m seen) = there turns hs w (Looked m seen) same here in
-    settle_step t next floor floor' turns hs w m seen h h' same here
-    (slice_get_read hs (length hs) w h refl (omega (arith, at.within, same)) own)
-    (rw made at did)
-    (new ∙ raised_floor floor raised r h'.pool up ∙ ap (λ (q : Record). floor_after floor q h'.pool) made)
+-- ---- a haul that finds no memory
 
 -- a haul with the same records and pool leaves all workers as they are
 same_workers : (turns : List Turn) (hs : List Haul) (w : ℕ) (h h' : Haul) → slice_get hs w ≡ Some h → IsSameHaul h h'
@@ -196,11 +151,6 @@ rise_short : (n a : ℕ) (xs : List ℕ) → NumbersRise xs → AllByRecursion (
 rise_short n a [] r h k = omega arith
 rise_short n a (x ∷ xs) r h k = grind (arith, rise_short n (suc x) xs r.1 h.1 r.0)
 
--- no number is below zero
-from_zero : (xs : List ℕ) → AllByRecursion (λ x. 0 ≤ x) xs
-from_zero [] = tt
-from_zero (x ∷ xs) = (omega arith, from_zero xs)
-
 -- a worker has at most one number that it hasn't settled
 one_open : (turn : Turn) → length (unsettled turn) ≤ 1
 one_open turn = grind arith
@@ -212,26 +162,18 @@ module _ (t : Task) (guess : Option ℤ) where
   claims_few w [] few h = omega arith
   claims_few w (v ∷ vs) few h =
       let ms : List ℕ = morsels_of v.records in
-      let short : length ms ≤ t.len - 0 = rise_short t.len 0 ms
-      (rise_front t guess ms (unsettled v.turn) (rw h.0.settled at h.0.rise))
-      (morsels_within t guess v.records h.0.within) (from_zero ms) in
-      omega (
-        arith,
-        few,
-        short,
-        one_open v.turn,
-        ap length h.0.settled ∙ length-append ms (unsettled v.turn),
-        length-append v.claims (flat_map (λ (u : Worker). u.claims) vs),
-        claims_few (w + 1) vs few h.1,
-      )
+      let rise : NumbersRise ms = rise_front t guess ms (unsettled v.turn) (rw h.0.settled at h.0.rise) in
+      let within = each-map (λ (r : Record). r.morsel) (λ x. x < t.len) v.records h.0.within in
+      let short : length ms ≤ t.len - 0 = rise_short t.len 0 ms rise within (each (λ x. 0 ≤ x) ms (λ x. omega arith)) in
+      let own = ap length h.0.settled ∙ length-append ms (unsettled v.turn) in
+      let all = length-append v.claims (flat_map (λ (u : Worker). u.claims) vs) in
+      omega (arith, one_open v.turn, claims_few (w + 1) vs few h.1)
 
   -- so the next number is at most 2^20 + 1 times the number of workers
   next_few : (s : State) → t.len ≤ 1_048_576 → IsSoundState t guess s → s.next ≤ 1_048_577 * length s.workers
-  next_few s few h = grind (
-    arith,
-    length-each_below s.next (flat_map (λ (v : Worker). v.claims) s.workers) h.claims,
-    claims_few 0 s.workers few h.each,
-  )
+  next_few s few h =
+      let drawn = length-each_below s.next (claims_in s.workers) h.claims in
+      grind (arith, claims_few 0 s.workers few h.each)
 
 -- so one can be added to it
 pub next_small : (m : Running) → IsRunning m → m.state.next ≤ 67_108_928
@@ -252,10 +194,6 @@ pub start_state : (p : Planned) (guess : Option ℤ) (k workers : ℕ) (turns : 
     → k ≡ p.query.k → turns ≡ replicate workers Idle → length hs ≡ workers → AllByRecursion (IsEmptyHaul k) hs
     → state_of 0 guess turns hs ≡ started (task_of p) workers guess
 start_state p guess k workers turns hs same idle len empty = grind (arith, zipped)
-
--- at the start there is a turn for each worker
-pub start_turns : (n : ℕ) (turns : List Turn) → turns ≡ replicate n Idle → length turns ≡ n
-start_turns n turns e = ap length e ∙ length-replicate n Idle
 
 -- what is true of every machine is true of one at the start
 pub start_running : (p : Planned) (guess : Option ℤ) (workers : ℕ) → IsPlan p → IfSome guess IsScore → 0 < workers
@@ -287,4 +225,4 @@ pub stopped_sound : (m : Running) (hs : List Haul) → IsRunning m → is_stoppe
     → IsSoundEnd (task_of m.plan) m.state × AreSound (task_of m.plan) hs × AreUnderFloor
     (task_of m.plan) m.guess hs m.state.floor
 stopped_sound m hs r e a = ends_sound (task_of m.plan) m.guess m.state hs r.some r.sound
-    (both_true (not m.failed) (all_stopped m.state.workers) e).1 a
+    (and_parts (not m.failed) (all_stopped m.state.workers) e).1 a

@@ -1,13 +1,7 @@
 -- Steps: which are accepted, that they are computed, and that a machine that failed stays so.
-use Rattle.std.proofs.Common.{◌≡◌, true, Some, None, arith}
-use Rattle.std.specs.Prelude.{slice_get}
-use Rattle.rank_sched.specs.declared.event.Event.{Event}
-use Rattle.rank_sched.specs.declared.turn.Turn.{Turn}
-use Rattle.rank_sched.specs.Task.{Task}
-use Rattle.rank_sched.specs.Machine.{Worker, State, worker_of, is_awaited, refusal, IsStep, Does, moved, after}
-use Rattle.rank_sched.specs.Laws.{FailedStaysFailed, OneWorkerHasNoChoice, StepsAreComputed, WantOfMemoryFails}
-use Rattle.std.proofs.lemmas.Int.{ints}
-use Rattle.std.proofs.lemmas.Option.{slice_get_within}
+use Rattle.rank_sched.proofs.Cited.{◌≡◌, true, Some, None, arith, slice_get, Event, Turn, Task, Worker, State}
+use Rattle.rank_sched.proofs.Cited.{worker_of, is_awaited, refusal, IsStep, Does, moved, after, FailedStaysFailed}
+use Rattle.rank_sched.proofs.Cited.{OneWorkerHasNoChoice, StepsAreComputed, WantOfMemoryFails, ints, slice_get_within}
 
 -- ---- a machine that failed
 

@@ -1,17 +1,10 @@
 -- The records of sound hauls as one list.
-use Rattle.std.proofs.Common.{rules, ◌≡◌, ◌≢◌, ℕ, ◌+◌, ◌<◌, ◌≤◌, true, false, List, [], ◌∷◌, ◌++◌, length, refl, sym}
-use Rattle.std.proofs.Common.{ap, ◌∙◌, append-nil, append_assoc, arith, option_to_list}
-use Rattle.std.specs.Prelude.{◌==◌}
-use Rattle.std.specs.List.{flat_map, range_with_len, AllByRecursion}
-use Rattle.ghcn_fields.specs.Counting.{times_below}
-use Rattle.rank_sched.specs.declared.record.Record.{Record}
-use Rattle.rank_sched.specs.declared.haul.Haul.{Haul}
-use Rattle.rank_sched.specs.Task.{Task}
-use Rattle.rank_sched.specs.Exchanges.{Exchange, morsels_of, exchanges, SeeUpward}
-use Rattle.rank_sched.specs.SoundRun.{NumbersRise}
-use Rattle.rank_sched.specs.Hauls.{records_of, all_records, exchanges_in, turns_of, IsHaulOf, AreHaulsFrom, records_by}
-use Rattle.rank_sched.specs.Hauls.{turns_by}
-use Rattle.rank_sched.specs.Laws.{SeenIsAtMost, NoHauls, RecordsAreSound}
+use Rattle.rank_sched.proofs.Cited.{rules, ◌≡◌, ◌≢◌, ℕ, ◌+◌, ◌<◌, ◌≤◌, true, false, List, [], ◌∷◌, ◌++◌, length, refl}
+use Rattle.rank_sched.proofs.Cited.{sym, ap, ◌∙◌, append-nil, append_assoc, arith, option_to_list, ◌==◌, flat_map}
+use Rattle.rank_sched.proofs.Cited.{range_with_len, AllByRecursion, times_below, Record, Haul, Task, Exchange}
+use Rattle.rank_sched.proofs.Cited.{morsels_of, exchanges, SeeUpward, NumbersRise, records_of, all_records}
+use Rattle.rank_sched.proofs.Cited.{exchanges_in, turns_of, IsHaulOf, AreHaulsFrom, records_by, turns_by, SeenIsAtMost}
+use Rattle.rank_sched.proofs.Cited.{NoHauls, RecordsAreSound}
 use Rattle.rank_sched.proofs.Lists.{each-append, each-weaker}
 use Rattle.rank_sched.proofs.Reached.{all_skips}
 
@@ -19,17 +12,12 @@ use Rattle.rank_sched.proofs.Reached.{all_skips}
 pub seen_at_most : SeenIsAtMost
 seen_at_most t guess s h = grind arith
 
--- if there are no morsels, no number is a morsel's
-none_times : (x n : ℕ) → n ≡ 0 → 0 ≡ times_below x n
-none_times x n e = grind arith
-
--- if not even zero is a morsel's number, there are no morsels
-some_times : (n : ℕ) → 0 ≡ times_below 0 n → n ≡ 0
-some_times n e = grind arith
-
 -- no hauls are sound if and only if there are no morsels
 pub no_hauls : NoHauls
-no_hauls t = (λ s. some_times t.len (s.once 0), λ e. record { each = tt; once = λ x. none_times x t.len e })
+no_hauls t = (
+  λ s. let none : 0 ≡ times_below 0 t.len = s.once 0 in grind arith,
+  λ e. record { each = tt; once = λ x. grind arith },
+)
 
 -- ---- by worker
 

@@ -1,25 +1,12 @@
 -- The morsel of a query that is about one station.
-use Rattle.std.proofs.Common.{◌≡◌, ℕ, Bool, true, false, List, [], ◌∷◌, map, Option, Some, None, refl, sym, ap, ◌∙◌, subst}
-use Rattle.std.proofs.Common.{ℤ, cond, option_to_list}
-use Rattle.std.specs.Prelude.{if◌then◌else◌, slice_get}
-use Rattle.std.specs.List.{find, filter_map, cons_option, AllByRecursion, IsDistinct}
-use Rattle.std.specs.Option.{option_map, option_and_then}
-use Rattle.std.proofs.lemmas.Option.{slice_get-map}
-use Rattle.ghcn_files.specs.declared.station.StationId.{StationId}
-use Rattle.ghcn_files.specs.declared.station.Station.{Station}
-use Rattle.ghcn_files.specs.Ids.{same_id}
-use Rattle.ghcn_files.specs.Listed.{is_station_of, place_of}
-use Rattle.ghcn_files.proofs.ById.{found-at_place, none-without_place}
-use Rattle.ghcn_files.proofs.IdLaws.{same_id-is, same_id-turned}
-use Rattle.ghcn_series.specs.Series.{Contents, series_of}
-use Rattle.ghcn_series.specs.Held.{IsContents}
-use Rattle.rank_query.specs.declared.region.Region.{Region}
-use Rattle.rank_query.specs.declared.region.Region.TheVariants.{Only}
-use Rattle.rank_query.specs.Asked.{Asked, score_element}
-use Rattle.rank_query.specs.Admits.{admits_station, region_holds}
-use Rattle.rank_scores.specs.Morsels.{has_admitted, passing}
+use Rattle.rank_sched.proofs.Cited.{◌≡◌, ℕ, Bool, true, false, List, [], ◌∷◌, map, Option, Some, None, refl, sym, ap}
+use Rattle.rank_sched.proofs.Cited.{◌∙◌, subst, ℤ, cond, option_to_list, if◌then◌else◌, slice_get, find, filter_map}
+use Rattle.rank_sched.proofs.Cited.{cons_option, AllByRecursion, IsDistinct, option_map, option_and_then, slice_get-map}
+use Rattle.rank_sched.proofs.Cited.{StationId, Station, same_id, is_station_of, place_of, found-at_place}
+use Rattle.rank_sched.proofs.Cited.{none-without_place, same_id-is, same_id-turned, Contents, series_of, IsContents}
+use Rattle.rank_sched.proofs.Cited.{Region, Only, Asked, score_element, region_holds, has_admitted, passing, measured}
+use Rattle.rank_sched.proofs.Cited.{measured_at, measure_of, measures, planned_morsel}
 use Rattle.rank_sched.specs.declared.plan.Morsel as code
-use Rattle.rank_sched.specs.Plan.{Morsel, measured, measured_at, measure_of, measures, planned_morsel}
 use Rattle.rank_sched.proofs.PlanMade.{cons-alone}
 
 -- ---- what is made of one station of a list, if nothing is made of the others

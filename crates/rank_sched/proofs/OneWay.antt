@@ -1,18 +1,10 @@
 -- With one worker a run that ends stopped has one list of events and one end.
-use Rattle.std.proofs.Common.{◌≡◌, ℕ, zero, suc, true, false, List, [], ◌∷◌, length, Some, refl, sym, ap, ◌∙◌}
-use Rattle.std.proofs.Common.{subst, arith}
-use Rattle.std.specs.Prelude.{slice_get}
-use Rattle.std.specs.List.{list_all}
-use Rattle.rank_sched.specs.declared.event.Event.{Event}
-use Rattle.rank_sched.specs.declared.turn.Turn.{Turn}
-use Rattle.rank_sched.specs.Task.{Task}
-use Rattle.rank_sched.specs.Machine.{Worker, State, started, worker_of, is_awaited, IsStep, Leads, after, has_stopped}
-use Rattle.rank_sched.specs.Machine.{all_stopped}
-use Rattle.rank_sched.specs.Laws.{OneWorkerEndsOneWay, RecordsAloneAreOne}
+use Rattle.rank_sched.proofs.Cited.{◌≡◌, ℕ, true, false, List, [], ◌∷◌, length, Some, refl, sym, ap, ◌∙◌, subst, arith}
+use Rattle.rank_sched.proofs.Cited.{slice_get, list_all, Event, Turn, Task, Worker, State, started, worker_of}
+use Rattle.rank_sched.proofs.Cited.{is_awaited, IsStep, Leads, after, has_stopped, all_stopped, OneWorkerEndsOneWay}
+use Rattle.rank_sched.proofs.Cited.{RecordsAloneAreOne, length-set, ints, AllPass-from_list_all, get_or_from_slice_get}
+use Rattle.rank_sched.proofs.Cited.{slice_get_within}
 use Rattle.rank_sched.proofs.Machines.{steps_computed, one_worker, does_awaited}
-use Rattle.std.proofs.lemmas.List.{length-set}
-use Rattle.rank_sched.proofs.Lists.{both_true}
-use Rattle.std.proofs.lemmas.Int.{ints}
 
 -- a worker that stopped waits for no event
 stopped_waits : (turn : Turn) (e : Event) → has_stopped turn ≡ true → is_awaited turn e ≡ false
@@ -21,10 +13,8 @@ stopped_waits turn e h = grind arith
 -- each of some workers has stopped, if all have
 stopped_at : (vs : List Worker) (i : ℕ) (v : Worker) → list_all (λ w. has_stopped w.turn) vs ≡ true
     → slice_get vs i ≡ Some v → has_stopped v.turn ≡ true
-stopped_at [] i v all e = absurd cc
-stopped_at (w ∷ vs) zero v all e = grind (arith, ints, both_true)
-stopped_at (w ∷ vs) (suc i) v all e =
-    stopped_at vs i v (both_true (has_stopped w.turn) (list_all (λ (u : Worker). has_stopped u.turn) vs) all).1 e
+stopped_at vs i v all e = rw (get_or_from_slice_get vs i v v e)
+    at (AllPass-from_list_all (λ (w : Worker). has_stopped w.turn) vs all i v (slice_get_within vs i v e))
 
 -- if all have stopped no step is made
 none_after : (t : Task) (s s' : State) (e : Event) → all_stopped s.workers ≡ true → IsStep t s e s' → ⊥

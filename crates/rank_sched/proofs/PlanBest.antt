@@ -1,33 +1,14 @@
 -- The candidates of a plan are those of the query in another order, so they have the same best.
-use Rattle.std.proofs.lemmas.List.Folds.{flat_map-map}
-use Rattle.std.proofs.Common.{◌≡◌, ℕ, zero, suc, Bool, List, [], ◌∷◌, ◌++◌, length}
-use Rattle.std.proofs.Common.{length-append, take, map, filter, Some, refl, sym, ap, ◌∙◌, append_assoc, arith}
-use Rattle.std.proofs.Common.{rules}
-use Rattle.std.specs.Prelude.{IfOk, Result, Ok, Err, slice_get}
-use Rattle.std.specs.List.{flat_map, range_with_len}
-use Rattle.std.specs.Option.{option_map, option_map_or}
-use Rattle.std.proofs.lemmas.List.Sorted.{IsPermutation-sym}
-use Rattle.std.proofs.lemmas.Map.Keys.{IsDistinct-IsPermutation}
-use Rattle.ghcn_fields.specs.Sorting.{placed, sorted_by}
-use Rattle.ghcn_series.specs.Series.{Contents}
-use Rattle.rank_query.specs.Asked.{Asked}
-use Rattle.rank_scores.specs.declared.candidate.Candidate.{Candidate}
-use Rattle.rank_scores.specs.Candidates.{candidates}
-use Rattle.rank_scores.specs.Order.{begin_alike, AreApart, kth_score}
-use Rattle.rank_scores.specs.Morsels.{admitted_series, has_admitted, all_candidates, morsels}
-use Rattle.rank_scores.proofs.QueryMorsels.{asked_alone}
-use Rattle.rank_scores.proofs.QueryCandidates.{all_apart}
-use Rattle.rank_pool.specs.First.{in_order, kth}
-use Rattle.rank_pool.proofs.Places.{in_order-append_comm}
-use Rattle.rank_pool.proofs.Ranked.{in_order-permutation, best-first, kth_score-kth}
-use Rattle.rank_pool.proofs.Kept.{Alike, alike-right, alike-left}
-use Rattle.rank_sched.specs.declared.record.Record.{Record}
-use Rattle.rank_sched.specs.declared.answer.Answer.{Answer}
-use Rattle.rank_sched.specs.Answers.{IsAnswer, AreBestOfQuery, best_of_plan}
-use Rattle.rank_sched.specs.Plan.{Planned, Morsel, measured, is_drawn_first, planned}
-use Rattle.rank_sched.specs.Task.{task_of, all_of_task}
-use Rattle.rank_sched.specs.Laws.{PlanHasTheBest}
-use Rattle.std.proofs.lemmas.Int.{ints}
+use Rattle.rank_sched.proofs.Cited.{flat_map-map, ◌≡◌, ℕ, zero, suc, Bool, List, [], ◌∷◌, ◌++◌, length, length-append}
+use Rattle.rank_sched.proofs.Cited.{take, map, filter, Some, refl, sym, ap, ◌∙◌, append_assoc, arith, rules, IfOk}
+use Rattle.rank_sched.proofs.Cited.{Result, Ok, Err, slice_get, flat_map, range_with_len, option_map, option_map_or}
+use Rattle.rank_sched.proofs.Cited.{IsPermutation-sym, IsDistinct-IsPermutation, placed, sorted_by, Contents, Asked}
+use Rattle.rank_sched.proofs.Cited.{Candidate, candidates, begin_alike, AreApart, kth_score, admitted_series}
+use Rattle.rank_sched.proofs.Cited.{has_admitted, all_candidates, morsels, asked_alone, all_apart, in_order, kth}
+use Rattle.rank_sched.proofs.Cited.{in_order-append_comm, in_order-permutation, best-first, kth_score-kth, Alike}
+use Rattle.rank_sched.proofs.Cited.{alike-right, alike-left, Record, Answer, IsAnswer, AreBestOfQuery, best_of_plan}
+use Rattle.rank_sched.proofs.Cited.{Planned, Morsel, measured, is_drawn_first, planned, task_of, all_of_task}
+use Rattle.rank_sched.proofs.Cited.{PlanHasTheBest, ints}
 
 -- ---- the same candidates in another order
 

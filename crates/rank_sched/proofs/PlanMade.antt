@@ -1,22 +1,12 @@
 -- The plan of a query is the one list of its morsels in which they are drawn.
-use Rattle.std.proofs.Common.{◌≡◌, ℕ, zero, suc, ◌<◌, ◌≤◌, get_or, List, [], ◌∷◌, ◌++◌, length, take, map}
-use Rattle.std.proofs.Common.{filter, Option, Some, refl, ap, ◌∙◌, arith, option_to_list, rules}
-use Rattle.std.specs.Prelude.{slice_get}
-use Rattle.std.specs.List.{filter_map, cons_option, IsDistinct}
-use Rattle.std.specs.List.Sorted.{IsPermutation, IsSortedBy}
-use Rattle.std.specs.Option.{option_map}
-use Rattle.std.proofs.lemmas.List.Sorted.{IsPermutation-map, length_permutation, IsPermutation-trans, IsPermutation-sym}
-use Rattle.std.proofs.lemmas.Map.Keys.{IsDistinct-IsPermutation}
-use Rattle.ghcn_fields.specs.Sorting.{sorted_by}
-use Rattle.ghcn_files.specs.declared.station.Station.{Station}
-use Rattle.ghcn_series.specs.Series.{Contents}
-use Rattle.ghcn_series.specs.Held.{IsContents}
-use Rattle.rank_query.specs.Asked.{Asked}
-use Rattle.rank_scores.specs.Morsels.{has_admitted, admitted_series, morsels}
-use Rattle.rank_sched.specs.Plan.{Morsel, Planned, measured, is_drawn_first, planned, IsPlan, measured_at}
-use Rattle.rank_sched.specs.Laws.{PlanIsTheOne}
-use Rattle.rank_scores.proofs.QueryCandidates.{series_among, morsels_apart}
-use Rattle.ghcn_files.proofs.Ordered.{distinct-map, sorted-permutation}
+use Rattle.rank_sched.proofs.Cited.{◌≡◌, ℕ, zero, suc, ◌<◌, ◌≤◌, get_or, List, [], ◌∷◌, ◌++◌, length, take, map, filter}
+use Rattle.rank_sched.proofs.Cited.{Option, Some, refl, ap, ◌∙◌, arith, option_to_list, rules, slice_get, filter_map}
+use Rattle.rank_sched.proofs.Cited.{cons_option, IsDistinct, IsPermutation, IsSortedBy, option_map, IsPermutation-map}
+use Rattle.rank_sched.proofs.Cited.{length_permutation, IsPermutation-trans, IsPermutation-sym}
+use Rattle.rank_sched.proofs.Cited.{IsDistinct-IsPermutation, sorted_by, Station, Contents, IsContents, Asked}
+use Rattle.rank_sched.proofs.Cited.{has_admitted, admitted_series, morsels, Morsel, Planned, measured, is_drawn_first}
+use Rattle.rank_sched.proofs.Cited.{planned, IsPlan, measured_at, PlanIsTheOne, series_among, morsels_apart}
+use Rattle.rank_sched.proofs.Cited.{distinct-map, sorted-permutation}
 use Rattle.rank_sched.proofs.PlanOrder.{sorted-in_turn, strictly, sort-in_turn, of_one_station, of_one_station-symm}
 use Rattle.rank_sched.proofs.PlanOrder.{one_order}
 

@@ -1,16 +1,8 @@
 -- Morsels in the order in which they are drawn: there is one such list of given morsels.
-use Rattle.std.proofs.Common.{rules, ◌≡◌, Bool, true, List, [], ◌∷◌, map, arith}
-use Rattle.std.specs.List.{IsDistinct}
-use Rattle.std.specs.List.Sorted.{IsPermutation, IsSortedBy}
-use Rattle.std.specs.Cmp.{IsTotalOrder, IsStrictWeakOrder}
-use Rattle.std.specs.Ordering.{is_le, is_eq, ordering_then}
-use Rattle.std.specs.declared.cmp.Ordering.{Ordering}
-use Rattle.std.specs.declared.cmp.Ordering.TheVariants.{Equal}
-use Rattle.std.proofs.lemmas.Cmp.{nat_list_cmp_total}
-use Rattle.std.proofs.lemmas.Map.Text.{is_eq-slice_cmp}
-use Rattle.ghcn_fields.specs.Sorting.{sorted_by}
-use Rattle.ghcn_files.specs.Ids.{same_id}
-use Rattle.rank_sched.specs.Plan.{Morsel, is_drawn_first, drawn_cmp, AreDrawnInTurn}
+use Rattle.rank_sched.proofs.Cited.{rules, ◌≡◌, Bool, true, List, [], ◌∷◌, map, arith, IsDistinct, IsPermutation}
+use Rattle.rank_sched.proofs.Cited.{IsSortedBy, IsTotalOrder, IsStrictWeakOrder, is_le, is_eq, ordering_then, Ordering}
+use Rattle.rank_sched.proofs.Cited.{Equal, nat_list_cmp_total, is_eq-slice_cmp, sorted_by, same_id, Morsel}
+use Rattle.rank_sched.proofs.Cited.{is_drawn_first, drawn_cmp, AreDrawnInTurn}
 use Rattle.ghcn_files.proofs.Ordered as ordered
 
 -- the order by bound and ID is total

@@ -1,27 +1,15 @@
 -- Floors that were seen were reached by scanned candidates, or are the guess: so no skip is undone.
-use Rattle.std.proofs.Common.{rules, ◌≡◌, ℕ, ◌+◌, ◌<◌, ◌≤◌, ⊎_elim, true, false, cond, not, List, [], ◌∷◌, ◌++◌, ℤ, pos}
-use Rattle.std.proofs.Common.{◌-ℤ◌, ◌≤ℤ◌, Option, Some, None, option_to_list, All, refl, append_assoc, arith}
-use Rattle.std.proofs.lemmas.Grind.{common_steps}
-use Rattle.std.specs.Prelude.{◌&&◌, int_lt, IfSome, IsSomeAnd, count_by}
-use Rattle.std.specs.List.{AllByRecursion}
-use Rattle.std.proofs.lemmas.Int.{ints}
-use Rattle.std.proofs.lemmas.List.Elements.{All-nil, All-head, All-append, All-weaker, All-contains}
-use Rattle.ghcn_fields.specs.Floor.{IsGuessOrRaised}
-use Rattle.rank_scores.specs.declared.candidate.Candidate.{Candidate}
-use Rattle.rank_scores.specs.Order.{bound_is_below}
-use Rattle.rank_pool.specs.First.{kth, above}
-use Rattle.rank_pool.proofs.Counts.{above-append, below_kth}
-use Rattle.rank_sched.specs.declared.record.Record.{Record}
-use Rattle.rank_sched.specs.declared.haul.Haul.{Haul}
-use Rattle.rank_sched.specs.Task.{Task, all_of_task, IsFair}
-use Rattle.rank_sched.specs.Exchanges.{scanned_for, scanned, exchange, exchanges, seen_in, raised_in, IsRightSkip}
-use Rattle.rank_sched.specs.Hauls.{records_of, all_records, exchanges_in, turns_of, AreHaulsFrom, AreSound}
-use Rattle.rank_sched.specs.Hauls.{AreUnderFloor}
-use Rattle.rank_sched.specs.TakingBack.{known_before, is_justified, was_skipped, stays}
-use Rattle.rank_sched.specs.Laws.{IsReached, RaisedIsReached, IsLowGuess, NoneIsTakenBack}
-use Rattle.rank_sched.proofs.Lists.{All-left, All-right, each-append, each-weaker, scanned-append}
-use Rattle.rank_scores.proofs.Rising.{from_both}
-use Rattle.rank_sched.proofs.Lists.{seen_in-append, raised_in-append}
+use Rattle.rank_sched.proofs.Cited.{rules, ◌≡◌, ℕ, ◌+◌, ◌<◌, ◌≤◌, ⊎_elim, true, false, cond, not, List, [], ◌∷◌, ◌++◌}
+use Rattle.rank_sched.proofs.Cited.{ℤ, pos, ◌-ℤ◌, ◌≤ℤ◌, Option, Some, None, option_to_list, All, refl, append_assoc}
+use Rattle.rank_sched.proofs.Cited.{arith, common_steps, ◌&&◌, int_lt, IfSome, IsSomeAnd, count_by, AllByRecursion}
+use Rattle.rank_sched.proofs.Cited.{ints, All-nil, All-head, All-append, All-weaker, All-contains, IsGuessOrRaised}
+use Rattle.rank_sched.proofs.Cited.{Candidate, bound_is_below, kth, above, above-append, below_kth, Record, Haul, Task}
+use Rattle.rank_sched.proofs.Cited.{all_of_task, IsFair, scanned_for, scanned, exchange, exchanges, seen_in, raised_in}
+use Rattle.rank_sched.proofs.Cited.{IsRightSkip, records_of, all_records, exchanges_in, turns_of, AreHaulsFrom}
+use Rattle.rank_sched.proofs.Cited.{AreSound, AreUnderFloor, known_before, is_justified, was_skipped, stays, IsReached}
+use Rattle.rank_sched.proofs.Cited.{RaisedIsReached, IsLowGuess, NoneIsTakenBack, from_both, flat_map-append}
+use Rattle.rank_sched.proofs.Cited.{none_above, sym, ◌∙◌}
+use Rattle.rank_sched.proofs.Lists.{All-left, All-right, each-append, each-weaker, seen_in-append, raised_in-append}
 use Rattle.rank_sched.proofs.Totals.{over, over_records, records_over, fewer_above}
 
 -- ---- raised scores are reached
@@ -48,13 +36,9 @@ turn_reached t before rest r some =
           let xs : List Candidate = before ++ t.candidates r.morsel in
           one_reached t (before ++ (t.candidates r.morsel ++ rest)) (kth t.k xs)
           (λ b h. let k : t.k ≤ above b xs = (below_kth t.k b xs some).0 h in
-          omega (
-            arith,
-            above-append b before (t.candidates r.morsel),
-            above-append b before
-                (t.candidates r.morsel ++ rest),
-            above-append b (t.candidates r.morsel) rest,
-          ))
+          let own = above-append b before (t.candidates r.morsel) in
+          let behind = above-append b (t.candidates r.morsel) rest in
+          omega (arith, above-append b before (t.candidates r.morsel ++ rest)))
     ]
 
 -- what a worker raised is reached by what it scanned
@@ -76,9 +60,9 @@ raised_reached t (h ∷ hs) some =
     let R : ℤ → Type 0 = IsReached t (scanned t (one ++ rest)) in
     rw (raised_in-append (exchanges_in t h) (turns_of t hs))
     (All-append R (raised_in (exchanges_in t h)) (raised_in (turns_of t hs))
-    (grind (arith, common_steps, more_reached, scanned-append, above-append, worker_reached))
+    (grind (arith, common_steps, more_reached, flat_map-append, above-append, worker_reached))
     (All-weaker (IsReached t (scanned t rest)) R
-    (grind (arith, common_steps, more_reached, scanned-append, above-append)) (raised_in (turns_of t hs))
+    (grind (arith, common_steps, more_reached, flat_map-append, above-append)) (raised_in (turns_of t hs))
     (raised_reached t hs some)))
 
 -- ---- each record's floor
@@ -134,11 +118,6 @@ justified_one t rs r some right q e =
 
 -- ---- the guess
 
--- none of a morsel's candidates scores above its bound
-none_above_bound : (c d : ℤ) (xs : List Candidate) → AllByRecursion (λ x. x.score ≤ℤ d) xs → d ≤ℤ c → above c xs ≡ 0
-none_above_bound c d [] a le = refl
-none_above_bound c d (x ∷ xs) a le = grind (arith, ints, none_above_bound c d xs a.1 le)
-
 -- if the skipped morsels have nothing above c, all that is above c was scanned
 only_scanned : (t : Task) (c : ℤ) (rs : List Record)
     → AllByRecursion (λ r. r.skipped ≡ true → over t c r.morsel ≡ 0) rs → over_records t c rs ≡ above c (scanned t rs)
@@ -146,12 +125,9 @@ only_scanned t c [] a = refl
 only_scanned t c (r ∷ rs) a = grind (arith, common_steps, only_scanned t c rs a.1)
 
 -- a bound below a floor that is at most the guess is below the guess
-under_guess : (g b : ℤ) (o : Option ℤ) → IfSome o (λ s. s ≤ℤ g) → bound_is_below o b ≡ true → b ≤ℤ (g -ℤ pos 1)
+under_guess : (g b : ℤ) (o : Option ℤ) → IfSome o (λ s. s ≤ℤ g) → bound_is_below o b ≡ true
+    → int_lt (g -ℤ pos 1) b ≡ false
 under_guess g b o h e = grind (arith, ints)
-
--- what is below the guess is at most the guess less one
-lt_less : (b g : ℤ) → int_lt b g ≡ true → b ≤ℤ (g -ℤ pos 1)
-lt_less b g e = omega (arith, ints)
 
 -- a low guess less one is below the k-th score
 fits_below : (g : ℤ) (o : Option ℤ) → IsSomeAnd o (λ s. g ≤ℤ s) → bound_is_below o (g -ℤ pos 1) ≡ true
@@ -161,21 +137,13 @@ fits_below g o h = grind (arith, ints)
 lt_le_lt : (b g f : ℤ) → int_lt b g ≡ true → g ≤ℤ f → int_lt b f ≡ true
 lt_le_lt b g f e h = grind (arith, ints)
 
--- two floors that are equal have one score
-same_some : (g s : ℤ) → Some g ≡ Some s → g ≡ s
-same_some g s e = cc
-
--- of two equal scores each is at most the other
-same_le : (g s : ℤ) → g ≡ s → s ≤ℤ g
-same_le g s e = omega (arith, ints)
-
 module _ (t : Task) (g : ℤ) (hs : List Haul) (fair : IsFair t) (s : AreSound t hs)
     (low_guess : IsLowGuess t (Some g)) where
   -- a morsel that was skipped by a floor of at most the guess has no candidate that scores the guess or more
   skipped_over : (r : Record) → IsRightSkip t r → IfSome r.seen (λ z. z ≤ℤ g) → r.skipped ≡ true
       → over t (g -ℤ pos 1) r.morsel ≡ 0
-  skipped_over r right h e = none_above_bound (g -ℤ pos 1) (t.bound r.morsel) (t.candidates r.morsel)
-      (fair.bounded r.morsel) (grind (arith, under_guess))
+  skipped_over r right h e = none_above (g -ℤ pos 1) (t.bound r.morsel) (t.candidates r.morsel)
+      (under_guess g (t.bound r.morsel) r.seen h (sym right ∙ e)) (fair.bounded r.morsel)
 
   -- if no score above the guess was seen, all that is at least the guess was scanned
   guess_alone : AllByRecursion (λ r. IfSome r.seen (λ z. z ≤ℤ g)) (all_records hs)
@@ -186,13 +154,8 @@ module _ (t : Task) (g : ℤ) (hs : List Haul) (fair : IsFair t) (s : AreSound t
       let none : AllByRecursion (λ r. r.skipped ≡ true → over t c r.morsel ≡ 0) rs =
       grind (arith, from_both, skipped_over, all_skips) in
       let k : t.k ≤ above c (all_of_task t) = grind (arith, below_kth, fits_below) in
-      omega (
-        arith,
-        records_over t c rs s.once,
-        only_scanned t c rs none,
-        fewer_above b c (scanned t rs)
-            (lt_less b g e),
-      )
+      let fewer = fewer_above b c (scanned t rs) (omega (arith, ints)) in
+      omega (arith, records_over t c rs s.once, only_scanned t c rs none)
 
   -- the guess is reached, whether it is the floor of the end or a score above it was raised
   guess_top : (floor : Option ℤ) → AreUnderFloor t (Some g) hs floor → IsReached t (scanned t (all_records hs)) g
@@ -202,9 +165,11 @@ module _ (t : Task) (g : ℤ) (hs : List Haul) (fair : IsFair t) (s : AreSound t
       let under : g ≤ℤ top = All-head (λ z. z ≤ℤ top) g [] f.floor_is.guess_below in
       ⊎_elim
       (λ e.
-      let here : g ≡ top = same_some g top e in
+      let here : g ≡ top = cc in
       let low : All (λ z. z ≤ℤ g) raised = search rules in
-      guess_alone (all_seen_each (λ z. z ≤ℤ g) t hs (grind (arith, same_le, same_some))))
+      guess_alone (all_seen_each (λ z. z ≤ℤ g) t hs (All-weaker (IsGuessOrRaised (Some g) raised) (λ z. z ≤ℤ g)
+      (λ z. ⊎_elim (λ own. let same : g ≡ z = cc in omega (arith, ints)) (All-contains (λ z. z ≤ℤ g) raised z low))
+      (seen_in (turns_of t hs)) f.seen)))
       (λ there. λ b e. All-contains (IsReached t (scanned t (all_records hs))) raised top
       (raised_reached t hs fair.some) there b (lt_le_lt b g top e under))
       f.floor_is.one_of_them

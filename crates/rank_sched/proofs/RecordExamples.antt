@@ -1,19 +1,11 @@
 -- Worked records of runs, by computation.
-use Rattle.std.proofs.Common.{◌≡◌, ℕ, zero, suc, List, [], ◌∷◌, ◌++◌, refl, Some, None, Option, true, false, Bool}
-use Rattle.std.proofs.Common.{filter, replicate, inl, inr, arith}
-use Rattle.std.specs.Prelude.{ℤ, pos, ◌==◌, ◌≤ℤ◌}
-use Rattle.std.proofs.lemmas.Int.{ints}
-use Rattle.std.proofs.lemmas.List.Elements.{All-nil, All-cons, All-head, All-tail, All-contains}
-use Rattle.ghcn_fields.specs.Counting.{times_below, HasEachBelow}
-use Rattle.ghcn_fields.specs.Floor.{IsAtLeast, IsGuessOrRaised}
-use Rattle.ghcn_fields.proofs.CountingLaws.{times_below-suc}
-use Rattle.rank_sched.specs.declared.record.Record.{Record}
-use Rattle.rank_sched.specs.Task.{task_of}
-use Rattle.rank_sched.specs.Exchanges.{exchanges, morsels_of, SeeUpward}
-use Rattle.rank_sched.specs.Hauls.{AreSoundRecords, records_by}
-use Rattle.rank_sched.specs.SoundRun.{NumbersRise}
+use Rattle.rank_sched.proofs.Cited.{◌≡◌, ℕ, zero, suc, List, [], ◌∷◌, ◌++◌, refl, Some, None, Option, true, false, Bool}
+use Rattle.rank_sched.proofs.Cited.{filter, replicate, inl, inr, arith, ℤ, pos, ◌==◌, ◌≤ℤ◌, ints, All-nil, All-cons}
+use Rattle.rank_sched.proofs.Cited.{All-head, All-tail, All-contains, times_below, HasEachBelow, IsAtLeast}
+use Rattle.rank_sched.proofs.Cited.{IsGuessOrRaised, times_below-suc, Record, task_of, exchanges, morsels_of, SeeUpward}
+use Rattle.rank_sched.proofs.Cited.{AreSoundRecords, records_by, NumbersRise}
 use Rattle.rank_sched.proofs.Totals.{times-cons}
-use Rattle.rank_sched.proofs.Examples.{b, plan, records_in, alone}
+use Rattle.rank_sched.proofs.Examples.{plan, records_in, alone}
 
 -- ---- sound records
 

@@ -1,12 +1,7 @@
 -- A run from a list of events, event by event.
-use Rattle.std.proofs.Common.{rules, arith, ℕ, ◌+◌, ◌<◌, List, [], ◌∷◌, ◌++◌, length, take, get_or, Option, ℤ}
-use Rattle.std.proofs.lemmas.Grind.{common_steps}
-use Rattle.rank_sched.specs.declared.event.Event.{Event}
-use Rattle.rank_sched.specs.Plan.{Planned}
-use Rattle.rank_sched.specs.Task.{Task}
-use Rattle.rank_sched.specs.Machine.{State, IsStep, Leads}
-use Rattle.rank_sched.specs.Run.{Running, Steps, IsReplayed}
-use Rattle.std.proofs.lemmas.Int.{ints}
+use Rattle.rank_sched.proofs.Cited.{rules, arith, ℕ, ◌+◌, ◌<◌, List, [], ◌∷◌, ◌++◌, length, take, get_or, Option, ℤ}
+use Rattle.rank_sched.proofs.Cited.{common_steps, Event, Planned, Task, State, IsStep, Leads, Running, Steps}
+use Rattle.rank_sched.proofs.Cited.{IsReplayed, ints}
 
 -- a run goes on by one step at its end
 leads-push : (t : Task) (s mid s' : State) (es : List Event) (e : Event) → Leads t s es mid → IsStep t mid e s'

@@ -1,15 +1,8 @@
 -- A morsel's line is a scan for one cause: its record isn't a skip, or its skip was undone.
-use Rattle.std.proofs.Common.{rules, ◌≡◌, ℕ, zero, suc, ◌<◌, ◌≤◌, Bool, true, false, not, List, [], ◌∷◌, Some, arith}
-use Rattle.std.proofs.lemmas.Grind.{common_steps}
-use Rattle.std.specs.Prelude.{◌↔◌, ◌⊎◌, ◌&&◌, slice_get}
-use Rattle.std.proofs.lemmas.Bool.{cases_eq, ne_eqb}
-use Rattle.ghcn_fields.specs.Counting.{times}
-use Rattle.ghcn_fields.proofs.CountingLaws.{one_if_equal-equal}
-use Rattle.rank_sched.specs.declared.record.Record.{Record}
-use Rattle.rank_sched.specs.Task.{task_of}
-use Rattle.rank_sched.specs.Exchanges.{morsels_of}
-use Rattle.rank_sched.specs.TakingBack.{is_justified, was_skipped}
-use Rattle.rank_sched.specs.Laws.{ScansHaveOneCause}
+use Rattle.rank_sched.proofs.Cited.{rules, ◌≡◌, ℕ, zero, suc, ◌<◌, ◌≤◌, Bool, true, false, not, List, [], ◌∷◌, Some}
+use Rattle.rank_sched.proofs.Cited.{arith, common_steps, ◌↔◌, ◌⊎◌, ◌&&◌, slice_get, cases_eq, ne_eqb, times}
+use Rattle.rank_sched.proofs.Cited.{one_if_equal-equal, Record, task_of, morsels_of, is_justified, was_skipped}
+use Rattle.rank_sched.proofs.Cited.{ScansHaveOneCause}
 use Rattle.rank_sched.proofs.Totals.{times-cons}
 use Rattle.rank_sched.proofs.Finished.{not_skipped, below_few}
 
@@ -24,17 +17,9 @@ skipped_once : (rs : List Record) (i : ℕ) (r : Record) → times r.morsel (mor
     → was_skipped rs r.morsel ≡ r.skipped
 skipped_once [] i r few e = absurd cc
 skipped_once (x ∷ rs) zero r few e = grind (arith, common_steps, not_skipped)
-skipped_once (x ∷ rs) (suc i) r few e = grind (
-  arith,
-  common_steps,
-  cases_eq,
-  times_there,
-  times-cons,
-  one_if_equal-equal,
-  ne_eqb,
-  skipped_once rs i r
-      (omega (arith, times-cons r.morsel x.morsel (morsels_of rs))) e,
-)
+skipped_once (x ∷ rs) (suc i) r few e =
+    let rest = skipped_once rs i r (omega (arith, times-cons r.morsel x.morsel (morsels_of rs))) e in
+    grind (arith, common_steps, cases_eq, times_there, times-cons, one_if_equal-equal, ne_eqb)
 
 -- a skip that isn't justified is undone, one that is justified stays
 causes : (skipped just : Bool) →

@@ -1,29 +1,14 @@
 -- Hauls that have the records of a sound run are sound, under a floor, and a sound run of fewer workers is one of more.
-use Rattle.std.proofs.Common.{◌≡◌, ℕ, zero, suc, ◌+◌, ◌-◌, ◌<◌, ◌≤◌, Bool, true, false, cond, List, [], ◌∷◌, ◌++◌}
-use Rattle.std.proofs.Common.{length, filter, Option, Some, None, inl, refl, sym, ap, ◌∙◌, subst, append-nil, arith, ℤ}
-use Rattle.std.proofs.Common.{◌≤ℤ◌, option_to_list}
-use Rattle.std.specs.Prelude.{◌==◌, nat_le, IsSomeAnd, All}
-use Rattle.std.specs.List.{flat_map, range_with_len, AllByRecursion}
-use Rattle.std.proofs.lemmas.Bool.{eqb-true}
-use Rattle.std.proofs.lemmas.Bool.Decides.{nat_tests}
-use Rattle.std.proofs.lemmas.Int.{ints}
-use Rattle.std.proofs.lemmas.Grind.{flat_map-append}
-use Rattle.std.proofs.lemmas.List.{map-append}
-use Rattle.std.proofs.lemmas.List.Elements.{All-nil}
-use Rattle.ghcn_fields.specs.Counting.{one_if_equal, times}
-use Rattle.ghcn_fields.specs.Floor.{IsFloorOf, IsGuessOrRaised}
-use Rattle.ghcn_fields.proofs.CountingLaws.{times-append}
-use Rattle.ghcn_series.proofs.ListFacts.{all-filter}
-use Rattle.rank_sched.specs.declared.record.Record.{Record}
-use Rattle.rank_sched.specs.declared.haul.Haul.{Haul}
-use Rattle.rank_sched.specs.Exchanges.{Exchange, exchanges, morsels_of, pool_of, raised_in, seen_in, IsRightSkip}
-use Rattle.rank_sched.specs.Exchanges.{SeeUpward}
-use Rattle.rank_sched.specs.Hauls.{all_records, exchanges_in, records_by, records_of, turns_by, turns_of}
-use Rattle.rank_sched.specs.Hauls.{AreHaulsFrom, AreSoundRecords, HaveRecords}
-use Rattle.rank_sched.specs.Laws.{HaulsOfRecordsAreSound, FewerWorkersAreSound}
-use Rattle.rank_sched.specs.Machine.{greater_floor}
-use Rattle.rank_sched.specs.SoundRun.{NumbersRise}
-use Rattle.rank_sched.specs.Task.{Task}
+use Rattle.rank_sched.proofs.Cited.{◌≡◌, ℕ, zero, suc, ◌+◌, ◌-◌, ◌<◌, Bool, true, false, cond, List, [], ◌∷◌, ◌++◌}
+use Rattle.rank_sched.proofs.Cited.{length, filter, Option, Some, None, inl, refl, sym, ap, ◌∙◌, subst, append-nil}
+use Rattle.rank_sched.proofs.Cited.{arith, ℤ, ◌≤ℤ◌, option_to_list, ◌==◌, nat_le, IsSomeAnd, All, flat_map}
+use Rattle.rank_sched.proofs.Cited.{range_with_len, AllByRecursion, eqb-true, nat_tests, ints, flat_map-append}
+use Rattle.rank_sched.proofs.Cited.{map-append, All-nil, one_if_equal, times, IsFloorOf, IsGuessOrRaised, times-append}
+use Rattle.rank_sched.proofs.Cited.{all-filter, Record, Haul, Exchange, exchanges, morsels_of, pool_of, raised_in}
+use Rattle.rank_sched.proofs.Cited.{seen_in, IsRightSkip, SeeUpward, all_records, exchanges_in, records_by, records_of}
+use Rattle.rank_sched.proofs.Cited.{turns_by, turns_of, AreHaulsFrom, AreSoundRecords, HaveRecords}
+use Rattle.rank_sched.proofs.Cited.{HaulsOfRecordsAreSound, FewerWorkersAreSound, greater_floor, NumbersRise, Task}
+use Rattle.rank_sched.proofs.Cited.{All-weaker, filter_passes, recursion_from_All}
 use Rattle.rank_sched.proofs.Lists.{each-weaker, one_there}
 use Rattle.rank_sched.proofs.Floors.{floor-more}
 use Rattle.rank_sched.proofs.OneList.{by-other}
@@ -69,14 +54,10 @@ times-worker : (x w : ℕ) (rs : List Record) → times x (morsels_of (from_work
 unfolding from_worker
 times-worker x w [] = refl
 times-worker x w (r ∷ rs) =
-    omega (
-      arith,
-      times-if x (nat_le w r.worker) r (from_worker w rs),
-      times-if x (r.worker == w) r (records_by w rs),
-      times-if x (nat_le (w + 1) r.worker) r (from_worker (w + 1) rs),
-      this_or_later r.worker w (one_if_equal r.morsel x),
-      times-worker x w rs,
-    )
+    let here = times-if x (nat_le w r.worker) r (from_worker w rs) in
+    let own = times-if x (r.worker == w) r (records_by w rs) in
+    let later = times-if x (nat_le (w + 1) r.worker) r (from_worker (w + 1) rs) in
+    omega (arith, this_or_later r.worker w (one_if_equal r.morsel x), times-worker x w rs)
 
 -- after all workers there are none
 times-none : (x w : ℕ) (rs : List Record) → AllByRecursion (λ r. r.worker < w) rs
@@ -95,23 +76,15 @@ unfolding from_worker
 times-all x [] = refl
 times-all x (r ∷ rs) =
     let here : nat_le 0 r.worker ≡ true = grind (arith, nat_tests) in
+    let more = times-cons x r.morsel (morsels_of (from_worker 0 rs)) in
     ap (λ (b : Bool). times x (morsels_of (cond b (r ∷ from_worker 0 rs) (from_worker 0 rs)))) here
-    ∙ omega (
-      arith,
-      times-cons x r.morsel (morsels_of (from_worker 0 rs)),
-      times-cons x r.morsel (morsels_of rs),
-      times-all x rs,
-    )
+    ∙ omega (arith, times-cons x r.morsel (morsels_of rs), times-all x rs)
 
 -- the records of a worker name it
 by-named : (w : ℕ) (rs : List Record) → AllByRecursion (λ r. r.worker ≡ w) (records_by w rs)
-by-named w [] = tt
-by-named w (r ∷ rs) =
-    elim (r.worker == w) as (λ b. (r.worker == w) ≡ b
-    → AllByRecursion (λ (x : Record). x.worker ≡ w) (cond b (r ∷ records_by w rs) (records_by w rs))) [
-      | true ↦ λ is. (eqb-true r.worker w is, by-named w rs)
-      | false ↦ λ is. by-named w rs
-    ] refl
+by-named w rs = recursion_from_All (λ (r : Record). r.worker ≡ w) (records_by w rs)
+    (All-weaker (λ (r : Record). (r.worker == w) ≡ true) (λ (r : Record). r.worker ≡ w) (λ r is. eqb-true r.worker w is)
+    (records_by w rs) (filter_passes (λ (r : Record). r.worker == w) rs))
 
 -- ---- hauls
 
@@ -160,15 +133,9 @@ module _ (t : Task) (guess : Option ℤ) (workers : ℕ) (rs : List Record)
       let both = ap (times x) (map-append (λ (r : Record). r.morsel) (records_of h) (all_records hs))
       ∙ times-append x (morsels_of (records_of h)) (morsels_of (all_records hs)) in
       let own = ap (λ (l : List Record). times x (morsels_of l)) have.0.0 in
-      omega (
-        arith,
-        both,
-        own,
-        times-worker x w rs,
-        morsels-are x (w + 1) hs have.1
-            (each-weaker (λ (r : Record). r.worker < w + length (h ∷ hs))
-            (λ (r : Record). r.worker < w + 1 + length hs) rs (λ r lt. omega (arith, lt)) low),
-      )
+      let rest = morsels-are x (w + 1) hs have.1 (each-weaker (λ (r : Record). r.worker < w + length (h ∷ hs))
+      (λ (r : Record). r.worker < w + 1 + length hs) rs (λ r lt. omega (arith, lt)) low) in
+      omega (arith, times-worker x w rs)
 
 -- hauls that have the records of a sound run are sound, under a floor
 pub hauls_of_records : HaulsOfRecordsAreSound

@@ -1,35 +1,25 @@
 -- The state of a run is sound at the start, and each step keeps it so.
-use Rattle.std.proofs.Common.{rules, ◌≡◌, ℕ, zero, suc, ◌+◌, ◌<◌, inl, List, [], ◌∷◌, ◌++◌, length}
-use Rattle.std.proofs.Common.{replicate, Option, Some, None, refl, sym, ap, ◌∙◌, subst, append-nil, arith, ℤ}
-use Rattle.std.proofs.Common.{option_to_list, All}
-use Rattle.std.proofs.lemmas.Grind.{flat_map-append}
-use Rattle.std.specs.Prelude.{IfSome, fold, take, slice_set}
-use Rattle.std.specs.List.{flat_map, AllByRecursion}
-use Rattle.std.proofs.lemmas.List.Elements.{All-nil, All-same, All-weaker}
-use Rattle.std.proofs.lemmas.List.Elements.{recursion_from_All}
-use Rattle.ghcn_fields.specs.Counting.{times, times_below}
-use Rattle.ghcn_fields.specs.Floor.{IsAtLeast, IsGuessOrRaised, IsFloorOf}
-use Rattle.ghcn_fields.proofs.CountingLaws.{times_below-suc, all_below, times-append}
-use Rattle.rank_scores.specs.declared.candidate.Candidate.{Candidate}
-use Rattle.rank_pool.specs.Pools.{taken}
-use Rattle.rank_pool.proofs.Places.{holds-fold, size-fold}
-use Rattle.rank_sched.specs.declared.record.Record.{Record}
-use Rattle.rank_sched.specs.declared.event.Event.{Event}
-use Rattle.rank_sched.specs.declared.event.Event.TheVariants.{Claim, Look, Settle}
-use Rattle.rank_sched.specs.declared.turn.Turn.TheVariants.{Idle, Looked}
-use Rattle.rank_sched.specs.Task.{Task}
-use Rattle.rank_sched.specs.Exchanges.{Exchange, pool_of, scanned_for, scanned, exchange, exchanges, seen_in, raised_in}
-use Rattle.rank_sched.specs.Exchanges.{SeeUpward}
-use Rattle.rank_sched.specs.Machine.{Worker, State, new_worker, started, drawn, record_of, greater_floor, floor_after}
-use Rattle.rank_sched.specs.Machine.{worker_of, IsClaim, IsLook, IsSettle, Does, IsStep}
-use Rattle.rank_sched.specs.SoundRun.{unsettled, IsTurnOf, open_exchange, exchanges_of, all_exchanges, IsSoundWorker}
-use Rattle.rank_sched.specs.SoundRun.{AreSoundFrom, claims_in, IsSoundState}
-use Rattle.rank_sched.specs.Laws.{RunsAreSound}
-use Rattle.rank_sched.proofs.Lists.{All-middle, All-between, each-append, one_there, rise-push}
-use Rattle.rank_sched.proofs.Lists.{morsels-push, scanned-push, exchanges-push, seen_in-append, raised_in-append}
-use Rattle.rank_sched.proofs.Lists.{upward-push, upward-last, At, at, last_is_kth, one_in}
+use Rattle.rank_sched.proofs.Cited.{rules, ◌≡◌, ℕ, zero, suc, ◌+◌, ◌<◌, inl, List, [], ◌∷◌, ◌++◌, length, replicate}
+use Rattle.rank_sched.proofs.Cited.{Option, Some, None, refl, sym, ap, ◌∙◌, subst, append-nil, arith, ℤ, option_to_list}
+use Rattle.rank_sched.proofs.Cited.{All, flat_map-append, IfSome, fold, slice_set, AllByRecursion, All-nil, All-same}
+use Rattle.rank_sched.proofs.Cited.{All-weaker, recursion_from_All, times, times_below, IsAtLeast, IsGuessOrRaised}
+use Rattle.rank_sched.proofs.Cited.{IsFloorOf, times_below-suc, all_below, times-append, taken, holds-fold, size-fold}
+use Rattle.rank_sched.proofs.Cited.{Record, Event, Claim, Look, Settle, Idle, Looked, Task, Exchange, pool_of}
+use Rattle.rank_sched.proofs.Cited.{scanned_for, scanned, exchange, exchanges, seen_in, raised_in, SeeUpward, Worker}
+use Rattle.rank_sched.proofs.Cited.{State, new_worker, started, drawn, record_of, greater_floor, floor_after, worker_of}
+use Rattle.rank_sched.proofs.Cited.{IsClaim, IsLook, IsSettle, Does, IsStep, unsettled, IsTurnOf, open_exchange}
+use Rattle.rank_sched.proofs.Cited.{exchanges_of, all_exchanges, IsSoundWorker, AreSoundFrom, claims_in, IsSoundState}
+use Rattle.rank_sched.proofs.Cited.{RunsAreSound, Contains-push, take-nil}
+use Rattle.rank_sched.proofs.Lists.{All-middle, All-between, each-append, one_there, rise-push, morsels-push}
+use Rattle.rank_sched.proofs.Lists.{scanned-push, exchanges-push, seen_in-append, raised_in-append, upward-push}
+use Rattle.rank_sched.proofs.Lists.{upward-last, At, at, last_is_kth}
 use Rattle.rank_sched.proofs.Totals.{times-cons}
 use Rattle.rank_sched.proofs.Floors.{Under, greater_none, greater_own, known-more, floor-more}
+
+-- a number that was drawn isn't settled, has seen no floor, and is a morsel or past the last one
+pub drawn_turn : (t : Task) (n : ℕ)
+    → (unsettled (drawn t n) ≡ n ∷ []) × (open_exchange (drawn t n) ≡ []) × IsTurnOf t.len (drawn t n)
+drawn_turn t n = search rules
 
 module _ (t : Task) (guess : Option ℤ) where
   -- another worker in the place of one
@@ -93,13 +83,10 @@ module _ (t : Task) (guess : Option ℤ) where
       let all : All K (seen_in (all_exchanges t s'.workers)) = All-same K _ _ seen_new
       (All-between K S X g.saw E (All-same K _ _ (sym seen_old) h.seen) g.known) in
       record {
-        claims = λ x. omega (
-          arith,
-          claims_parts x s.workers front v behind old,
-          claims_parts x s'.workers front v' behind new,
-          g.claims x,
-          h.claims x,
-        );
+        claims = λ x.
+            let before = claims_parts x s.workers front v behind old in
+            let after = claims_parts x s'.workers front v' behind new in
+            omega (arith, g.claims x, h.claims x);
         each = rw new (replaced 0 front v v' behind (keeps (0 + length front) (omega arith)) (rw old at h.each));
         floor = rw (raised_new, g.floor) (floor-more guess s.floor g.up F V B (rw raised_old at h.floor));
         seen = All-weaker K K' (λ z. rw (raised_old, raised_new) (known-more guess F V (option_to_list g.up) B z))
@@ -108,26 +95,14 @@ module _ (t : Task) (guess : Option ℤ) where
 
   -- ---- a claim
 
-  -- a number that was drawn isn't settled
-  unsettled_drawn : (n : ℕ) → unsettled (drawn t n) ≡ n ∷ []
-  unsettled_drawn n = search rules
-
-  -- no floor was seen yet for a number that was drawn
-  open_drawn : (n : ℕ) → open_exchange (drawn t n) ≡ []
-  open_drawn n = search rules
-
-  -- a worker that drew a number has a morsel, or stops past the last one
-  turn_drawn : (n : ℕ) → IsTurnOf t.len (drawn t n)
-  turn_drawn n = search rules
-
   -- drawing a number adds no turn
   turns_drew : (s s' : State) (v v' : Worker) → IsClaim t s s' v v' → exchanges_of t v' ≡ exchanges_of t v
-  turns_drew s s' v v' c = cc (open_drawn s.next)
+  turns_drew s s' v v' c = cc ((drawn_turn t s.next).1)
 
   -- a sound worker that draws a number above all its others stays sound
   claim_sound : (w : ℕ) (s s' : State) (v v' : Worker) → IsClaim t s s' v v'
       → AllByRecursion (λ y. y < s.next) v.claims → IsSoundWorker t guess w v → IsSoundWorker t guess w v'
-  claim_sound w s s' v v' c below h = grind (arith, rise-push, append-nil, unsettled_drawn, turn_drawn, turns_drew)
+  claim_sound w s s' v v' c below h = grind (arith, rise-push, append-nil, drawn_turn t s.next, turns_drew)
 
   -- a claim draws the next number
   claim_grows : (s s' : State) (v v' : Worker) → IsClaim t s s' v v' → Grows s s' v v'
@@ -136,13 +111,9 @@ module _ (t : Task) (guess : Option ℤ) where
       record {
         saw = [];
         up = None;
-        claims = λ x. omega (
-          arith,
-          ap (times x) c.claims,
-          times-append x v.claims (s.next ∷ []),
-          times-cons x s.next [],
-          times_below-suc x s.next s'.next c.next,
-        );
+        claims = λ x.
+            let more = ap (times x) c.claims ∙ times-append x v.claims (s.next ∷ []) in
+            omega (arith, times-cons x s.next [], times_below-suc x s.next s'.next c.next);
         seen = ap seen_in turns ∙ sym (append-nil (seen_in (exchanges_of t v)));
         raised = ap raised_in turns ∙ sym (append-nil (raised_in (exchanges_of t v)));
         floor = c.floor ∙ sym (greater_none s.floor);
@@ -187,7 +158,7 @@ module _ (t : Task) (guess : Option ℤ) where
   -- a known score is at most the floor
   pub known_below : (raised : List ℤ) (floor : Option ℤ) → IsFloorOf guess raised floor → (x : ℤ)
       → IsGuessOrRaised guess raised x → Under floor x
-  known_below raised floor f x = grind (arith, one_in)
+  known_below raised floor f x = grind (arith, Contains-push)
 
   -- ---- a settle
 
@@ -307,25 +278,16 @@ module _ (t : Task) (guess : Option ℤ) where
 
   -- ---- the start
 
-  -- the first k of no candidates are none
-  take_none : (k : ℕ) → take {A = Candidate} k [] ≡ []
-  take_none zero = refl
-  take_none (suc k) = refl
-
   -- workers that have done nothing are sound
   new_from : (w n : ℕ) → AreSoundFrom t guess w (replicate n (new_worker t.k))
   new_from w zero = tt
-  new_from w (suc n) = grind (arith, take_none, new_from (w + 1) n)
+  new_from w (suc n) = grind (arith, take-nil, new_from (w + 1) n)
 
-  -- they have drawn no numbers
-  no_claims : (n : ℕ) → flat_map (λ (u : Worker). u.claims) (replicate n (new_worker t.k)) ≡ []
-  no_claims zero = refl
-  no_claims (suc n) = no_claims n
-
-  -- they have had no turns
-  no_turns : (n : ℕ) → all_exchanges t (replicate n (new_worker t.k)) ≡ []
-  no_turns zero = refl
-  no_turns (suc n) = no_turns n
+  -- they have drawn no numbers, and have had no turns
+  nothing_done : (n : ℕ) → (claims_in (replicate n (new_worker t.k)) ≡ [])
+      × (all_exchanges t (replicate n (new_worker t.k)) ≡ [])
+  nothing_done zero = (refl, refl)
+  nothing_done (suc n) = nothing_done n
 
   -- a floor that is the guess is a known score
   itself : (o : Option ℤ) → IfSome o (IsGuessOrRaised o [])
@@ -338,7 +300,8 @@ module _ (t : Task) (guess : Option ℤ) where
 
   -- the start is sound
   start_sound : (workers : ℕ) → IsSoundState t guess (started t workers guess)
-  start_sound workers = grind (arith, no_claims, none_times, new_from, no_turns, itself, greater_own None guess)
+  start_sound workers =
+      grind (arith, nothing_done workers, none_times, new_from, itself, greater_own None guess)
 
 -- the start is sound, and a step keeps it so
 pub runs_sound : RunsAreSound

@@ -1,21 +1,9 @@
 -- How many candidates of some morsels score above a number, added up morsel by morsel.
-use Rattle.std.proofs.Common.{rules, ◌≡◌, ℕ, zero, suc, ◌+◌, ◌≤◌, Bool, cond, List, [], ◌∷◌, ◌++◌, refl, arith, ℤ, ◌≤ℤ◌}
-use Rattle.std.proofs.lemmas.Grind.{common_steps}
-use Rattle.std.specs.Prelude.{sum_by}
-use Rattle.std.specs.List.{flat_map, range_with_len}
-use Rattle.std.proofs.lemmas.List.Sums.{sum_by-cons, sum_by-append}
-use Rattle.std.proofs.lemmas.Int.{ints}
-use Rattle.ghcn_fields.specs.Counting.{one_if_equal, times, HasEachBelow, sum_below}
-use Rattle.ghcn_fields.proofs.CountingLaws.{total-each_below}
-use Rattle.rank_scores.specs.declared.candidate.Candidate.{Candidate}
-use Rattle.rank_pool.specs.First.{above}
-use Rattle.rank_pool.proofs.Counts.{above-append, below_kth}
-use Rattle.rank_sched.specs.declared.record.Record.{Record}
-use Rattle.rank_sched.specs.Task.{Task, all_of_task}
-use Rattle.rank_sched.specs.Exchanges.{morsels_of}
-use Rattle.rank_sched.specs.Hauls.{all_records}
-use Rattle.rank_sched.specs.TakingBack.{known_before}
-use Rattle.rank_sched.specs.Laws.{SkipsAreRight, SkipsStayOnwards}
+use Rattle.rank_sched.proofs.Cited.{rules, ◌≡◌, ℕ, zero, suc, ◌+◌, ◌≤◌, Bool, cond, List, [], ◌∷◌, ◌++◌, refl, arith, ℤ}
+use Rattle.rank_sched.proofs.Cited.{◌≤ℤ◌, common_steps, sum_by, flat_map, range_with_len, sum_by-cons, sum_by-append}
+use Rattle.rank_sched.proofs.Cited.{ints, one_if_equal, times, HasEachBelow, sum_below, total-each_below, Candidate}
+use Rattle.rank_sched.proofs.Cited.{above, above-append, below_kth, Record, Task, all_of_task, morsels_of, all_records}
+use Rattle.rank_sched.proofs.Cited.{known_before, SkipsAreRight, SkipsStayOnwards}
 
 -- ---- sums over the numbers below n
 
@@ -96,12 +84,8 @@ fewer_above b c (x ∷ xs) le = grind (arith, ints, common_steps, fewer_above b 
 
 -- if a skip stays, every skip of a later number stays
 pub skips_onwards : SkipsStayOnwards
-skips_onwards t rs m n fair le lt h s = grind (
-  arith,
-  below_kth t.k (t.bound m) (known_before t rs m) fair.some,
-  known_later t (t.bound m) m n rs le,
-  fewer_above
-      (t.bound n) (t.bound m) (known_before t rs n) (fair.falling m n le lt),
-  below_kth t.k (t.bound n)
-      (known_before t rs n) fair.some,
-)
+skips_onwards t rs m n fair le lt h s =
+    let more = known_later t (t.bound m) m n rs le in
+    let fewer = fewer_above (t.bound n) (t.bound m) (known_before t rs n) (fair.falling m n le lt) in
+    let reached = below_kth t.k (t.bound m) (known_before t rs m) fair.some in
+    grind (arith, below_kth t.k (t.bound n) (known_before t rs n) fair.some)

@@ -1,15 +1,7 @@
 -- The workers that are in given turns with given hauls, and the events that they refuse.
-use Rattle.std.proofs.Common.{◌≡◌, ℕ, zero, suc, ◌<◌, ◌≤◌, true, false, List, [], ◌∷◌}
-use Rattle.std.proofs.Common.{length, Option, Some, None}
-use Rattle.std.proofs.Common.{refl, arith, ℤ}
-use Rattle.std.specs.Prelude.{map, zip, slice_get, slice_set}
-use Rattle.rank_sched.specs.declared.haul.Haul.{Haul}
-use Rattle.rank_sched.specs.declared.event.Event.{Event}
-use Rattle.rank_sched.specs.declared.event.StepFault.TheVariants.{NoWorker, NotNow}
-use Rattle.rank_sched.specs.declared.turn.Turn.{Turn}
-use Rattle.rank_sched.specs.Machine.{Worker, worker_of, is_awaited, refusal}
-use Rattle.rank_sched.specs.Run.{worker_with, state_of}
-use Rattle.std.proofs.lemmas.Int.{ints}
+use Rattle.rank_sched.proofs.Cited.{◌≡◌, ℕ, zero, suc, ◌<◌, ◌≤◌, true, false, List, [], ◌∷◌, length, Option, Some, None}
+use Rattle.rank_sched.proofs.Cited.{refl, arith, ℤ, map, zip, slice_get, slice_set, Haul, Event, NoWorker, NotNow, Turn}
+use Rattle.rank_sched.proofs.Cited.{Worker, worker_of, is_awaited, refusal, worker_with, state_of, ints}
 
 -- ---- workers by their turns and hauls
 

@@ -1,11 +1,6 @@
 -- The workers of a machine, by their turns and hauls.
-use Rattle.std.proofs.Common.{◌≡◌, Bool, false, List, [], ◌∷◌, length, refl, arith}
-use Rattle.std.specs.Prelude.{◌&&◌, not, map, zip}
-use Rattle.std.specs.List.{list_all}
-use Rattle.rank_sched.specs.declared.turn.Turn.{Turn}
-use Rattle.rank_sched.specs.declared.haul.Haul.{Haul}
-use Rattle.rank_sched.specs.Machine.{has_stopped}
-use Rattle.rank_sched.specs.Run.{worker_with}
+use Rattle.rank_sched.proofs.Cited.{◌≡◌, Bool, false, List, [], ◌∷◌, length, refl, arith, ◌&&◌, not, map, zip, list_all}
+use Rattle.rank_sched.proofs.Cited.{Turn, Haul, has_stopped, worker_with}
 
 -- all workers have stopped if all turns have
 pub turns_stopped : (turns : List Turn) (hauls : List Haul) → length turns ≡ length hauls

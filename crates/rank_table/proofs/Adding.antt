@@ -1,8 +1,8 @@
 -- The reports of one file, which are read one after the other.
-use Rattle.std.proofs.Common.{◌≡◌, ℕ, ◌+◌, ◌<◌, ◌≤◌, List, [], ◌∷◌, ◌++◌, length, Result, Ok, Err, Bool, true, false, cond, inl, inr, refl, sym, ap, ◌∙◌, append_assoc, append-nil, length-append, add-zero, add_assoc, arith}
+use Rattle.std.proofs.Common.{◌≡◌, ℕ, ◌+◌, ◌<◌, ◌≤◌, List, [], ◌∷◌, ◌++◌, length, Result, Ok, Err, inl, inr, refl, sym}
+use Rattle.std.proofs.Common.{ap, ap₂, ◌∙◌, append_assoc, append-nil, length-append, add-zero, add_assoc, arith}
 use Rattle.ghcn_fields.specs.Refusals.{IsRefusal}
-use Rattle.std.specs.Prelude.{◌==◌}
-use Rattle.rank_papers.specs.Lines.{before_lines, onto_first, paper_lines}
+use Rattle.rank_papers.specs.Lines.{before_lines, paper_lines}
 use Rattle.rank_papers.specs.ReportLines.{Reported, read_report, reported_lines}
 use Rattle.rank_papers.proofs.ReportPlaces.{in_order}
 use Rattle.rank_papers.proofs.ReportValues.{lines-are}
@@ -12,18 +12,18 @@ use Rattle.rank_table.specs.Files.{AddsReports}
 use Rattle.rank_table.specs.Reading.{and_report, cut_lines, in_file, is_memory, one_report, read_reports, reports_after, reports_of_lines}
 use Rattle.rank_table.specs.Reports.{Placed, line_count, placed_after}
 use Rattle.rank_table.proofs.Cuts.{Lines, joined, joined-cuts, joined-reports, some_cut}
-use Rattle.rank_table.proofs.ManyReports.{SomeLines}
+use Rattle.rank_table.proofs.ManyReports.{some_lines}
 use Rattle.rank_table.proofs.ReportLines.{length-written}
 use Rattle.rank_table.proofs.Written.{unless_memory}
 
 -- ---- how many lines reports have
 
 -- the lines of a report that is read are so many
-pub lines_of_read : (ls : Lines) (r : Reported) → reported_lines ls ≡ Ok r → length ls ≡ line_count r
+lines_of_read : (ls : Lines) (r : Reported) → reported_lines ls ≡ Ok r → length ls ≡ line_count r
 lines_of_read ls r e = ap (λ (xs : Lines). length xs) (lines-are ls r e).1 ∙ length-written r
 
 -- all lines of reports
-abbrev pub all_lines : List Reported → ℕ
+abbrev all_lines : List Reported → ℕ
 all_lines [] = 0
 all_lines (r ∷ rs) = line_count r + all_lines rs
 
@@ -39,11 +39,9 @@ placed_after-more : (file before : ℕ) (rs : List Reported) (r : Reported)
 placed_after-more file before [] r =
     ap (λ (n : ℕ). record { file = file; before = n; report = r } ∷ []) (sym (add-zero before))
 placed_after-more file before (s ∷ rs) r =
-    let first : Placed = record { file = file; before = before; report = s } in
-    ap (λ (ps : List Placed). first ∷ ps) (placed_after-more file (before + line_count s) rs r
-    ∙ ap (λ (n : ℕ). placed_after file
-    (before + line_count s) rs ++ record { file = file; before = n; report = r } ∷ [])
-    (add_assoc before (line_count s) (all_lines rs)))
+    let rest = placed_after-more file (before + line_count s) rs r in
+    let same = add_assoc before (line_count s) (all_lines rs) in
+    cc
 
 -- ---- the lines of a report and of what follows it
 
@@ -63,48 +61,12 @@ module _ (rest first behind : List ℕ)
 
 -- a byte makes at most one line more
 one_line_more : (b : ℕ) (ls : Lines) → length (before_lines b ls) ≤ 1 + length ls
-one_line_more b ls = by (b == 10) refl ls
-  where
-    by : (t : Bool) → (b == 10) ≡ t → (xs : Lines) → length (before_lines b xs) ≤ 1 + length xs
-    by true e xs = omega (arith, ap (λ (x : Bool). length (cond x ((b ∷ []) ∷ xs) (onto_first b xs))) e)
-    by false e [] = omega (arith, ap (λ (x : Bool). length (cond x ((b ∷ []) ∷ []) (onto_first b []))) e)
-    by false e (l ∷ xs) = omega (
-      arith,
-      ap (λ (x : Bool). length (cond x ((b ∷ []) ∷ l ∷ xs) (onto_first b
-          (l ∷ xs)))) e,
-    )
+one_line_more b ls = grind arith
 
 -- a text has no more lines than bytes
 pub lines_within : (bytes : List ℕ) → length (paper_lines bytes) ≤ length bytes
 lines_within [] = omega arith
 lines_within (b ∷ bytes) = omega (arith, one_line_more b (paper_lines bytes), lines_within bytes)
-
--- a text with a byte has a line
-with_byte : (b : ℕ) (bytes : List ℕ) → SomeLines (b ∷ bytes)
-with_byte b bytes = by (b == 10) refl (paper_lines bytes) refl
-  where
-    by : (t : Bool) → (b == 10) ≡ t → (ls : Lines) → paper_lines bytes ≡ ls → SomeLines (b ∷ bytes)
-    by true e ls same = record {
-      first = b ∷ [];
-      others = paper_lines bytes;
-      are = ap (λ (x : Bool). cond x ((b ∷ []) ∷ paper_lines bytes) (onto_first b (paper_lines bytes))) e;
-    }
-    by false e [] same = record {
-      first = b ∷ [];
-      others = [];
-      are = ap (λ (x : Bool). cond x ((b ∷ []) ∷ paper_lines bytes) (onto_first b (paper_lines bytes))) e
-          ∙ ap (onto_first b) same;
-    }
-    by false e (l ∷ ls) same = record {
-      first = b ∷ l;
-      others = ls;
-      are = ap (λ (x : Bool). cond x ((b ∷ []) ∷ paper_lines bytes) (onto_first b (paper_lines bytes))) e
-          ∙ ap (onto_first b) same;
-    }
-
-some_lines_of : (bytes : List ℕ) → 0 < length bytes → SomeLines bytes
-some_lines_of [] some = absurd (omega (arith, some))
-some_lines_of (b ∷ bytes) some = with_byte b bytes
 
 -- ---- how far a file has been read
 
@@ -116,13 +78,11 @@ and_reports rs (Err n) = Err n
 -- one report more
 and_reports-more : (rs : List Reported) (r : Reported) (before : ℕ) (rest : Result (List Reported) ℕ)
     → and_reports rs (and_report before (Ok r) rest) ≡ and_reports (rs ++ r ∷ []) rest
-and_reports-more rs r before (Ok ss) = ap Ok (sym (append_assoc rs (r ∷ []) ss))
-and_reports-more rs r before (Err n) = refl
+and_reports-more rs r before rest = grind (arith, append_assoc)
 
 -- none
 and_reports-none : (r : Result (List Reported) ℕ) → r ≡ and_reports [] r
-and_reports-none (Ok ss) = refl
-and_reports-none (Err n) = refl
+and_reports-none r = grind arith
 
 -- what the rest of a text says comes after the reports that were found, and after that many lines
 pub record HasAdded (file : ℕ) (text : List ℕ) (old : List Placed) (before : ℕ) (rest : List ℕ) (found : List Placed)
@@ -143,13 +103,16 @@ none_added file text old = record {
   read = and_reports-none (read_reports text);
 }
 
-module _ (file : ℕ) (text : List ℕ) (old : List Placed) (before : ℕ) (rest : List ℕ) (found : List Placed)
+module _ {file : ℕ} {text : List ℕ} {old : List Placed} {before : ℕ} {rest : List ℕ} {found : List Placed}
     (h : HasAdded file text old before rest found) (first behind : List ℕ)
     (cut : reports_of_lines (paper_lines rest) ≡ paper_lines first ∷ cut_lines (paper_lines behind)) where
-  -- what is read of the rest: its first report, and those after it
-  read_first : read_reports text ≡ and_reports h.reports (and_report before (read_report first)
-      (reports_after (before + length (paper_lines first)) (cut_lines (paper_lines behind))))
-  read_first = h.read ∙ ap (λ (cuts : List Lines). and_reports h.reports (reports_after before cuts)) cut
+  -- what is read of the rest, if this is read of its first report
+  read_first : (r : Result Reported ℕ) → read_report first ≡ r → read_reports text ≡ and_reports h.reports
+      (and_report before r (reports_after (before + length (paper_lines first)) (cut_lines (paper_lines behind))))
+  read_first r is =
+      h.read ∙ ap (λ (cuts : List Lines). and_reports h.reports (reports_after before cuts)) cut
+      ∙ ap (λ (x : Result Reported ℕ). and_reports h.reports (and_report before x
+      (reports_after (before + length (paper_lines first)) (cut_lines (paper_lines behind))))) is
 
   -- a report that is refused refuses the file
   pub refused_first : (why : TableFault) → IsRefusal is_memory why (one_report file before (read_report first))
@@ -157,16 +120,11 @@ module _ (file : ℕ) (text : List ℕ) (old : List Placed) (before : ℕ) (rest
   refused_first why refused = unless_memory (is_memory why)
       (λ (e : one_report file before (read_report first) ≡ Err why). by (read_report first) refl e) refused
     where
-      by : (r : Result Reported ℕ) → read_report first ≡ r → one_report file before (read_report first) ≡ Err why
+      by : (r : Result Reported ℕ) → read_report first ≡ r → one_report file before r ≡ Err why
           → in_file file (read_reports text) ≡ Err why
-      by (Ok r) is e = let no : Ok r ≡ Err why = sym (ap (one_report file before) is) ∙ e in absurd cc
-      by (Err n) is e =
-          let own : ◌≡◌ {A = Result Reported TableFault} (Err (BadReport file (before + n))) (Err why) =
-          sym (ap (one_report file before) is) ∙ e in
-          let same : BadReport file (before + n) ≡ why = cc in
-          ap (in_file file) (read_first ∙ ap (λ (r : Result Reported ℕ). and_reports h.reports (and_report before r
-          (reports_after (before + length (paper_lines first)) (cut_lines (paper_lines behind))))) is)
-          ∙ ap Err same
+      by (Ok r) is e = absurd cc
+      by (Err n) is e = let same : BadReport file (before + n) ≡ why = cc in
+          ap (in_file file) (read_first (Err n) is) ∙ ap Err same
 
   module _ (r : Reported) (is : read_report first ≡ Ok r) where
     -- the number of the first report's lines
@@ -181,23 +139,18 @@ module _ (file : ℕ) (text : List ℕ) (old : List Placed) (before : ℕ) (rest
     more_added : more ≡ old ++ placed_after file 0 (h.reports ++ r ∷ [])
     more_added =
         let at : before ≡ 0 + all_lines h.reports = omega (arith, h.count) in
-        ap (λ (ps : List Placed). ps ++ record { file = file; before = before; report = r } ∷ []) h.added
-        ∙ append_assoc old (placed_after file 0 h.reports) (record { file = file; before = before; report = r } ∷ [])
-        ∙ ap (λ (n : ℕ). old ++
-        (placed_after file 0 h.reports ++ record { file = file; before = n; report = r } ∷ [])) at
-        ∙ ap (λ (ps : List Placed). old ++ ps) (sym (placed_after-more file 0 h.reports r))
+        let own : List Placed = record { file = file; before = before; report = r } ∷ [] in
+        let apart = append_assoc old (placed_after file 0 h.reports) own in
+        let all = placed_after-more file 0 h.reports r in
+        cc
 
     -- what is read with it
     read_more : read_reports text
         ≡ and_reports (h.reports ++ r ∷ []) (reports_after (before + line_count r) (cut_lines (paper_lines behind)))
     read_more =
-        read_first
-        ∙ ap (λ (x : Result Reported ℕ). and_reports h.reports (and_report before x
-        (reports_after (before + length (paper_lines first)) (cut_lines (paper_lines behind))))) is
-        ∙ and_reports-more h.reports r before _
-        ∙ ap (λ (n : ℕ). and_reports (h.reports ++ r ∷ []) (reports_after (before + n) (cut_lines
-        (paper_lines behind))))
-        first_count
+        read_first (Ok r) is ∙ and_reports-more h.reports r before _
+        ∙ ap (λ (n : ℕ). and_reports (h.reports ++ r ∷ []) (reports_after (before + n)
+        (cut_lines (paper_lines behind)))) first_count
 
     -- if nothing follows it, the file has been read
     pub all_added : (found_now : List Placed) → behind ≡ [] → found_now ≡ more → AddsReports file text old found_now
@@ -213,19 +166,15 @@ module _ (file : ℕ) (text : List ℕ) (old : List Placed) (before : ℕ) (rest
     -- otherwise what follows it is read next
     pub one_added : (before_now : ℕ) (found_now : List Placed) → 0 < length behind → before_now ≡ before + line_count r
         → found_now ≡ more → HasAdded file text old before_now behind found_now
-    one_added before_now found_now some count now =
-        let at = some_lines_of behind some in
-        record {
-          reports = h.reports ++ r ∷ [];
-          added = now ∙ more_added;
-          count = omega (arith, count, h.count, all_lines-more h.reports r);
-          lines = omega (arith, count, h.lines, count_of_both rest first behind cut, first_count);
-          read = read_more
-              ∙ ap (λ (n : ℕ). and_reports (h.reports ++ r ∷ []) (reports_after n (cut_lines (paper_lines behind))))
-              (sym count)
-              ∙ ap (λ (cuts : List Lines). and_reports (h.reports ++ r ∷ []) (reports_after before_now cuts))
-              (ap cut_lines at.are ∙ sym (some_cut at.first at.others) ∙ ap reports_of_lines (sym at.are));
-        }
+    one_added before_now found_now some count now = record {
+      reports = h.reports ++ r ∷ [];
+      added = now ∙ more_added;
+      count = omega (arith, count, h.count, all_lines-more h.reports r);
+      lines = omega (arith, count, h.lines, count_of_both rest first behind cut, first_count);
+      read = read_more
+          ∙ ap₂ (λ (n : ℕ) (cuts : List Lines). and_reports (h.reports ++ r ∷ []) (reports_after n cuts))
+          (sym count) (sym (some_cut (paper_lines behind) (some_lines behind some)));
+    }
 
     -- the numbers of its lines are at most the length of the text
     pub numbers_within : before + line_count r ≤ length text

@@ -11,6 +11,5 @@ pub mod RowsOfReports
 pub mod Adding
 pub mod FilesRead
 pub mod ReadBack
-pub mod NumberTexts
 pub mod Unlisted
 pub mod Places

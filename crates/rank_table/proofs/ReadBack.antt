@@ -1,17 +1,17 @@
 -- A table that is read back is its header and a record for each row.
-use Rattle.std.proofs.Common.{◌≡◌, ℕ, List, [], ◌∷◌, ◌++◌, Option, None, Some, Result, Ok, Err, refl, sym, ap, ◌∙◌, subst, append_assoc, append-nil}
-use Rattle.std.specs.List.{AllByRecursion, AllZip, find}
-use Rattle.std.specs.Option.{option_map}
+use Rattle.std.proofs.Common.{◌≡◌, inl, inr, ℕ, List, [], ◌∷◌, ◌++◌, Option, None, Some, Result, Ok, Err, refl, sym, ap}
+use Rattle.std.proofs.Common.{◌∙◌, subst, append_assoc, append-nil}
+use Rattle.std.specs.List.{AllByRecursion, AllZip}
 use Rattle.csv.specs.Machine.{next_record}
 use Rattle.csv.specs.Reading.{AreRecords, Reached, default_config, strip_bom}
 use Rattle.csv.specs.Writing.{default_writer, fields_text, is_blank, read_back, row_text}
 use Rattle.csv.specs.declared.parser.State.TheVariants as states
 use Rattle.csv.proofs.RoundTrip.{read-write}
 use Rattle.ghcn_files.specs.declared.station.Station.{Station}
-use Rattle.ghcn_files.specs.Listed.{is_station_of}
 use Rattle.rank_table.specs.declared.fault.TableFault.{TableFault}
 use Rattle.rank_table.specs.Laws.{HasRow, TablesAreReadBack}
-use Rattle.rank_table.specs.Tables.{Fields, PlacedRow, and_record, fields_of_row, header, if_listed, place_fields, record_of, records_of, table_text, under_header}
+use Rattle.rank_table.specs.Tables.{Fields, PlacedRow, and_record, fields_of_row, header, place_fields, record_of, records_of, table_text, under_header}
+use Rattle.rank_table.proofs.Unlisted.{by_station}
 
 -- ---- records that are written and read
 
@@ -70,39 +70,22 @@ header_field None = tt
 header_field (Some stations) = tt
 
 -- a record has a row and a field
-pub record IsOfRow (stations : Option (List Station)) (r : PlacedRow) (fields : Fields) : Type 0 where
-  pub row : HasRow stations r fields
-  pub field : HasField fields
+abbrev IsOfRow : Option (List Station) → PlacedRow → Fields → Type 0
+IsOfRow stations r fields = HasRow stations r fields × HasField fields
 
--- so does that of a row without a station list
-of_row : (r : PlacedRow) → IsOfRow None r (fields_of_row r)
-of_row r = record { row = record { query = refl; line = refl; place = refl }; field = tt }
-
--- and that with the place of its station
-of_placed_row : (stations : List Station) (r : PlacedRow) (s : Station)
-    → find (is_station_of r.row.0.id) stations ≡ Some s
-    → IsOfRow (Some stations) r (fields_of_row r ++ place_fields s)
-of_placed_row stations r s e =
-    record { row = record { query = refl; line = refl; place = (s, e, refl) }; field = tt }
-
--- what is made for a row
-made_is : (stations : Option (List Station)) (r : PlacedRow) (made fields : Fields) → IsOfRow stations r made
-    → if_listed r (Some made) ≡ Ok fields → IsOfRow stations r fields
-made_is stations r made fields h e = let same : made ≡ fields = cc in subst (IsOfRow stations r) same h
-
--- the record of a row has it
+-- so does that of a row
 record_is : (stations : Option (List Station)) (r : PlacedRow) (fields : Fields) → record_of stations r ≡ Ok fields
     → IsOfRow stations r fields
-record_is None r fields e = made_is None r (fields_of_row r) fields (of_row r) e
-record_is (Some stations) r fields e = by (find (is_station_of r.row.0.id) stations) refl
-  where
-    by : (o : Option Station) → find (is_station_of r.row.0.id) stations ≡ o → IsOfRow (Some stations) r fields
-    by None s =
-        let no : if_listed r None ≡ Ok fields = sym (ap (λ (o : Option Station).
-        if_listed r (option_map (λ t. fields_of_row r ++ place_fields t) o)) s) ∙ e in
-        absurd cc
-    by (Some t) s = made_is (Some stations) r (fields_of_row r ++ place_fields t) fields (of_placed_row stations r t s)
-        (sym (ap (λ (o : Option Station). if_listed r (option_map (λ u. fields_of_row r ++ place_fields u) o)) s) ∙ e)
+record_is None r fields e =
+    let same : fields_of_row r ≡ fields = cc in
+    subst (IsOfRow None r) same (record { query = refl; line = refl; place = refl }, tt)
+record_is (Some stations) r fields e = elim (by_station stations r) [
+  | inl own ↦
+      let same : fields_of_row r ++ place_fields own.station ≡ fields = cc in
+      subst (IsOfRow (Some stations) r) same
+      (record { query = refl; line = refl; place = (own.station, own.found, refl) }, tt)
+  | inr own ↦ let no = own.refused in absurd cc
+]
 
 -- a record and those after it were made
 and_record-some : (first : Result Fields TableFault) (rest : Result (List Fields) TableFault) (records : List Fields)
@@ -113,20 +96,17 @@ and_record-some (Ok fields) (Err why) records e = absurd cc
 and_record-some (Ok fields) (Ok more) records e = (fields, more, refl, refl, cc)
 
 -- the records of rows have them, each a field
-pub record AreOfRows (stations : Option (List Station)) (rows : List PlacedRow) (records : List Fields) : Type 0 where
-  pub each : AllZip (HasRow stations) rows records
-  pub fields : AllByRecursion HasField records
+abbrev AreOfRows : Option (List Station) → List PlacedRow → List Fields → Type 0
+AreOfRows stations rows records = AllZip (HasRow stations) rows records × AllByRecursion HasField records
 
 records_are : (stations : Option (List Station)) (rows : List PlacedRow) (records : List Fields)
     → records_of stations rows ≡ Ok records → AreOfRows stations rows records
-records_are stations [] records e =
-    let none : [] ≡ records = cc in subst (AreOfRows stations []) none (record { each = tt; fields = tt })
+records_are stations [] records e = let none : [] ≡ records = cc in subst (AreOfRows stations []) none (tt, tt)
 records_are stations (r ∷ rows) records e =
     let it = and_record-some (record_of stations r) (records_of stations rows) records e in
     let own = record_is stations r it.0 it.2 in
     let more = records_are stations rows it.1 it.3 in
-    subst (AreOfRows stations (r ∷ rows)) (sym it.4)
-    (record { each = (own.row, more.each); fields = (own.field, more.fields) })
+    subst (AreOfRows stations (r ∷ rows)) (sym it.4) ((own.0, more.0), (own.1, more.1))
 
 -- ---- a table
 
@@ -146,6 +126,6 @@ tables_read_back stations rows text e =
     record {
       records = it.0;
       read = subst (λ (t : List ℕ). AreRecords default_config states.StartRecord t (header stations ∷ it.0)) (sym same)
-          (all_reached (header stations ∷ it.0) (header_field stations, are.fields));
-      each = are.each;
+          (all_reached (header stations ∷ it.0) (header_field stations, are.1));
+      each = are.0;
     }

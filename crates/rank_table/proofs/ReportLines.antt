@@ -1,8 +1,7 @@
 -- The lines of a report: only the last begins with `end `.
-use Rattle.std.proofs.Common.{◌≡◌, ℕ, suc, ◌+◌, Bool, true, false, List, [], ◌∷◌, ◌++◌, length, take, refl, sym, ap, ◌∙◌, subst, append_assoc, length-append, arith, Ok}
-use Rattle.std.specs.Prelude.{◌&&◌, codes, nat_eq}
-use Rattle.std.specs.Char.{is_ascii_digit}
-use Rattle.std.specs.Cmp.Lexicographic.{pointwise}
+use Rattle.std.proofs.Common.{◌≡◌, ℕ, suc, ◌+◌, true, false, List, [], ◌∷◌, ◌++◌, length, refl, sym, ap, ◌∙◌, Ok}
+use Rattle.std.proofs.Common.{append_assoc, length-append, arith}
+use Rattle.std.specs.Prelude.{nat_eq}
 use Rattle.std.specs.List.{enumerate_from, flat_map, join_with_byte}
 use Rattle.std.proofs.lemmas.Bool.Decides.{nat_tests}
 use Rattle.rank_query.specs.Asked.{Asked}
@@ -20,14 +19,7 @@ use Rattle.rank_table.proofs.Cuts.{HaveNoLast, Lines}
 -- a line that begins by a digit doesn't
 digit_is_other : (line : List ℕ) → starts_by_digit line ≡ true → is_last line ≡ false
 digit_is_other [] digit = absurd cc
-digit_is_other (b ∷ line) digit = by (nat_eq 101 b) refl
-  where
-    by : (t : Bool) → nat_eq 101 b ≡ t → is_last (b ∷ line) ≡ false
-    by true e =
-        let same : b ≡ 101 = grind (arith, nat_tests) in
-        let bad : is_ascii_digit 101 ≡ true = subst (λ (c : ℕ). is_ascii_digit c ≡ true) same digit in
-        absurd cc
-    by false e = ap (λ (t : Bool). t && pointwise nat_eq (codes "nd ") (take 3 line)) e
+digit_is_other (b ∷ line) digit = let other : nat_eq 101 b ≡ false = grind (arith, nat_tests) in cc
 
 -- so no row's line does
 rows_have_none : (q : Asked) (n : ℕ) (rows : List Named) → HaveNoLast (lines_of q n rows)
@@ -61,9 +53,8 @@ lines_by-length line n (row ∷ rows) = ap suc (lines_by-length line (suc n) row
 -- the lines of a report are so many
 pub length-written : (v : Reported) → length (written v) ≡ line_count v
 length-written v =
-    let body : length (lines_of v.query 0 v.rows ++ end_of v ∷ []) ≡ length v.rows + 1
-    = length-append (lines_of v.query 0 v.rows) (end_of v ∷ []) ∙ ap (λ (n : ℕ). n + 1) (lines_by-length _ 0 v.rows) in
-    omega (arith, body)
+    let rows : length (lines_of v.query 0 v.rows) ≡ length v.rows = lines_by-length _ 0 v.rows in
+    omega (arith, rows, length-append (lines_of v.query 0 v.rows) (end_of v ∷ []))
 
 -- ---- reading and writing
 
@@ -74,13 +65,9 @@ written_read v can =
     ∙ text_read (report_text v.query v.rows) v (record { can_be = can; text = refl })
 
 -- the text of a report ends by a line feed
-pub record EndsByFeed (bytes : List ℕ) : Type 0 where
-  pub body : List ℕ
-  pub is : bytes ≡ body ++ 10 ∷ []
-
-pub ends_by_feed : (v : Reported) → EndsByFeed (text_of v)
+pub ends_by_feed : (v : Reported) → (body : List ℕ) × (text_of v ≡ body ++ 10 ∷ [])
 ends_by_feed v =
     let last : List ℕ = join_with_byte 32 (end_fields v.query.k (length v.rows)) in
     let before : List ℕ = title ++ query_line v.query
     ++ flat_map (λ row. text_line (row_fields v.query row)) (enumerate_from 1 v.rows) in
-    record { body = before ++ last; is = sym (append_assoc before last (10 ∷ [])) }
+    (before ++ last, sym (append_assoc before last (10 ∷ [])))

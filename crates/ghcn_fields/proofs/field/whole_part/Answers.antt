@@ -1,5 +1,4 @@
-use Rattle.std.proofs.Common.{◌≡◌, ◌^◌, ℕ, ◌+◌, List, length, take, drop, get_or, sym, ap, ◌∙◌, arith}
-use Rattle.std.proofs.Common.{false, true}
+use Rattle.std.proofs.Common.{◌≡◌, ◌^◌, ℕ, ◌+◌, List, length, take, drop, get_or, sym, ap, ◌∙◌, arith, false}
 use Rattle.std.specs.Char.{is_ascii_digit}
 use Rattle.std.proofs.lemmas.Bool.Decides.{nat_tests}
 use Rattle.std.proofs.Math.Seq.{take-length, drop-length}
@@ -51,8 +50,7 @@ pub returns-then-value-gt-GREATEST-clause-number : goal.returns-then-value-gt-GR
 returns-then-value-gt-GREATEST-clause-number c =
     let text : List ℕ = c.args.text.now in
     let place : ℕ = c.loop-place.place in
-    let digit : is_ascii_digit (get_or text place 0) ≡ true =
-    sym c.is_ascii_digit.ensures.value ∙ c.if-not-is_ascii_digit.false in
+    let digit = sym c.is_ascii_digit.ensures.value ∙ c.if-not-is_ascii_digit.false in
     let more = one_more text place c.loop-place.value c.loop-place-test.true c.loop-place.invariant.value digit in
     sym (whole_too_great text (place + 1) _
     (digits_more text place c.loop-place.invariant.digits c.loop-place-test.true digit)
@@ -63,8 +61,7 @@ pub loop-place-preserved : goal.loop-place-preserved
 loop-place-preserved c =
     let text : List ℕ = c.args.text.now in
     let place : ℕ = c.loop-place.place in
-    let digit : is_ascii_digit (get_or text place 0) ≡ true =
-    sym c.is_ascii_digit.ensures.value ∙ c.if-not-is_ascii_digit.false in
+    let digit = sym c.is_ascii_digit.ensures.value ∙ c.if-not-is_ascii_digit.false in
     record {
       digits = digits_more text place c.loop-place.invariant.digits c.loop-place-test.true digit;
       value = one_more text place c.loop-place.value c.loop-place-test.true c.loop-place.invariant.value digit;

@@ -17,8 +17,7 @@ loop-part-init g c = record { adds = adds-none _ _; empty = refl }
 listed : (g : _) (c : After-next g) → AreListed (g.A.Archive.bytes_of c.args.archive.now)
     (g.A.Archive.opens c.args.archive.now) c.args.null c.args.list.now
     (names_in c.args.null c.in-Ok-from_utf8.text.now)
-listed g c = are-listed (g.A.Archive.bytes_of c.args.archive.now) (g.A.Archive.opens c.args.archive.now) c.args.null
-    c.args.list.now c.list_path.result.now _ c.in-Ok.text.items _ c.list_path.ensures
+listed g c = are-listed _ _ _ _ c.list_path.result.now _ c.in-Ok.text.items _ c.list_path.ensures
     (c.in-Ok-from_utf8.ensures.cases.0 ∙ c.deref.ensures.value) c.in-Ok.ensures.whole c.in-Ok.ensures.opened refl
 
 -- the loop goes over its parts
@@ -46,14 +45,13 @@ named g c = record {
 pub returns-in_err-add_named-clause-stopped : goal.returns-in_err-add_named-clause-stopped
 returns-in_err-add_named-clause-stopped g c =
     let at = goal.at.returns-in_err-add_named-clause-stopped g c in
-    let opens = g.A.Archive.opens c.args.archive.now in
     let among = (at-turn g at.After-next).among c.in-Some.part _ c.in-Some.is (named g at.After-add_named) in
     let p = err_from_is_err_and c.from_residual-in_err-add_named.result c.from_residual-in_err-add_named.ensures.1 in
     rw (p.1, p.2) (inr (record {
       names = names_in c.args.null c.in-Ok-from_utf8.text.now;
       listed = listed g at.After-next;
-      stops = stops-after _ opens _ _ _ _ c.in_err-add_named.field-0.0 _ _ among.1 c.loop-part.invariant.adds
-          c.in_err-add_named.ensures.stopped;
+      stops = stops-after _ (g.A.Archive.opens c.args.archive.now) _ _ _ _ c.in_err-add_named.field-0.0 _ _ among.1
+          c.loop-part.invariant.adds c.in_err-add_named.ensures.stopped;
     }))
 
 -- one name more

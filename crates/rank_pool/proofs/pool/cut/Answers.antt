@@ -1,6 +1,6 @@
 use Rattle.std.proofs.Common.{◌≡◌, ◌-◌, ℕ, ap, sym, ◌∙◌, arith, take}
 use Rattle.std.specs.VecDeque.{deque_len}
-use Rattle.rank_pool.proofs.Offers.{take_itself}
+use Rattle.std.proofs.lemmas.List.{take_all}
 use Rattle.rank_pool.proofs.pool.cut.Goals as goal
 
 -- without one there are exactly as many as places
@@ -13,5 +13,5 @@ returns-then-len-size-clause-items c =
 -- if there are no more none is dropped
 pub returns-else-len-size-clause-items : goal.returns-else-len-size-clause-items
 returns-else-len-size-clause-items c =
-    sym (take_itself c.args.size c.args.held.now.items
+    sym (take_all c.args.size c.args.held.now.items
     (omega (arith, c.len.ensures, c.if-len-size.false, c.args.held.now.ok.0)))

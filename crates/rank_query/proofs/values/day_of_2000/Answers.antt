@@ -9,5 +9,4 @@ returns-clause-day c =
 
 -- and what is read is a day of it
 pub returns-clause-within : goal.returns-clause-within
-returns-clause-within c = if_2000 c.args.text.now c.read_date.result
-    (c.read_date.ensures.value ∙ ap (λ (t : List ℕ). read_date (codes "2000-" ++ t)) (five c.args.text.now c.requires))
+returns-clause-within c = if_2000 c.args.text.now c.read_date.result (returns-clause-day c)

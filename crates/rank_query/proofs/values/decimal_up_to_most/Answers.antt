@@ -1,5 +1,5 @@
-use Rattle.rank_query.proofs.Cited.{◌≡◌, List, ℕ, ◌+◌, ◌-◌, min, length, take, drop, Option, Some, None, sym, ap, subst}
-use Rattle.rank_query.proofs.Cited.{◌∙◌, arith, option_map, common_steps, IsFirstByte, is_byte, natural, joined}
+use Rattle.rank_query.proofs.Cited.{◌≡◌, List, ℕ, ◌+◌, ◌-◌, min, length, take, drop, Some, None, sym, ap, ◌∙◌, arith}
+use Rattle.rank_query.proofs.Cited.{option_map, common_steps, IsFirstByte, is_byte, natural, joined}
 use Rattle.ghcn_fields.proofs.Decimals.{decimal_number-whole, decimal_number-point}
 use Rattle.rank_query.proofs.Numerals.{joined-zero}
 use Rattle.rank_query.proofs.values.decimal_up_to_most.Goals as goal
@@ -8,8 +8,7 @@ use Rattle.rank_query.proofs.values.decimal_up_to_most.Goals as goal
 pub returns-in-None : goal.returns-in-None
 returns-in-None c =
     let text : List ℕ = c.args.text.now in
-    let nowhere : IsFirstByte (is_byte 46) text None =
-    subst (λ (r : Option ℕ). IsFirstByte (is_byte 46) text r) c.in-None.is c.memchr.ensures in
+    let nowhere : IsFirstByte (is_byte 46) text None = rw c.in-None.is at c.memchr.ensures in
     c.joined_up_to_most.ensures
     ∙ ap (option_map (min 1001)) (joined-zero (natural text) ∙ sym (decimal_number-whole 1 text nowhere))
 
@@ -18,8 +17,7 @@ pub returns-in-Some : goal.returns-in-Some
 returns-in-Some c =
     let text : List ℕ = c.args.text.now in
     let point : ℕ = c.in-Some.point in
-    let first : IsFirstByte (is_byte 46) text (Some point) =
-    subst (λ (r : Option ℕ). IsFirstByte (is_byte 46) text r) c.in-Some.is c.memchr.ensures in
+    let first : IsFirstByte (is_byte 46) text (Some point) = rw c.in-Some.is at c.memchr.ensures in
     let rest : take (length text - (point + 1)) (drop (point + 1) text) ≡ drop (point + 1) text =
     grind (arith, common_steps) in
     c.joined_up_to_most-in-Some.ensures

@@ -1,6 +1,6 @@
-use Rattle.std.proofs.Common.{◌<◌, ◌≤◌, length, arith}
+use Rattle.rank_sched.proofs.Cited.{◌<◌, ◌≤◌, length, arith, IfOk-weaker}
 use Rattle.rank_sched.proofs.LoneWorker.{awaits_first, awaits_look, awaits_settle, awaits_claim, last_claim, lone_sound}
-use Rattle.rank_sched.proofs.LoneWorker.{lone_result, lone_records}
+use Rattle.rank_sched.proofs.LoneWorker.{lone_records, lone_answer}
 use Rattle.rank_sched.proofs.PlanBest.{best_of_answer}
 use Rattle.rank_sched.proofs.alone.run_alone.Goals as goal
 
@@ -44,7 +44,7 @@ advance-requires-2 c = c.loop.invariant.accepted
 pub hauls-requires : goal.hauls-requires
 hauls-requires c =
     let past : length c.args.plan.now.morsels ≤ c.loop.counter = omega arith in
-    last_claim c.args.plan.now c.args.guess c.loop.counter _ _ past c.loop.invariant c.in_ok-advance-4.ensures
+    last_claim c.args.plan.now c.args.guess c.loop.counter _ _ c.loop.invariant c.in_ok-advance-4.ensures past
 
 -- the worker's haul is sound
 pub finish-requires : goal.finish-requires
@@ -52,13 +52,14 @@ finish-requires c = grind (arith, lone_sound)
 
 -- the answer is that of a crew of one, and its best are the query's
 pub returns : goal.returns
-returns c = record {
-  answer = lone_result c.args.plan.now c.args.guess c.loop.counter _ _ c.hauls.result.items _ c.loop.invariant
-      c.in_ok-advance-4.ensures c.hauls.ensures.hauls c.hauls.ensures.sound c.hauls.ensures.under_floor
-      c.finish.ensures;
-  alone =
-      let past : length c.args.plan.now.morsels ≤ c.loop.counter = omega arith in
-      lone_records c.args.plan.now c.args.guess c.loop.counter _ _ c.hauls.result.items _ past c.loop.invariant
-      c.in_ok-advance-4.ensures c.hauls.ensures.hauls c.finish.ensures;
-  best = best_of_answer c.args.plan.now _ c.finish.result c.finish.ensures;
-}
+returns c =
+    let past : length c.args.plan.now.morsels ≤ c.loop.counter = omega arith in
+    record {
+      answer = IfOk-weaker c.finish.result _ _ (λ answer is. lone_answer c.args.plan.now c.args.guess c.loop.counter _ _
+          c.loop.invariant c.in_ok-advance-4.ensures c.hauls.result.items answer c.hauls.ensures.hauls
+          c.hauls.ensures.sound c.hauls.ensures.under_floor is) c.finish.ensures;
+      alone = IfOk-weaker c.finish.result _ _ (λ answer is. lone_records c.args.plan.now c.args.guess c.loop.counter _ _
+          c.loop.invariant c.in_ok-advance-4.ensures c.hauls.result.items answer past c.hauls.ensures.hauls is)
+          c.finish.ensures;
+      best = best_of_answer c.args.plan.now _ c.finish.result c.finish.ensures;
+    }

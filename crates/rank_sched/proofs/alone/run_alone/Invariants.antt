@@ -1,4 +1,4 @@
-use Rattle.rank_sched.specs.declared.event.Event.TheVariants.{Claim}
+use Rattle.rank_sched.proofs.Cited.{Claim}
 use Rattle.rank_sched.proofs.LoneWorker.{Awaits}
 use Rattle.rank_sched.proofs.alone.run_alone.Given as goal
 

@@ -1,5 +1,4 @@
-use Rattle.std.proofs.Common.{◌≡◌, ◌≤◌, take}
-use Rattle.rank_sched.specs.Finish.{unmarked}
+use Rattle.rank_sched.proofs.Cited.{◌≡◌, ◌≤◌, take, unmarked}
 use Rattle.rank_sched.proofs.ended.count_back.Given as goal
 
 -- those of the records so far are counted

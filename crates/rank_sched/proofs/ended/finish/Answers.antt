@@ -1,9 +1,5 @@
-use Rattle.std.proofs.Common.{◌≡◌, Bool, List, length, ap, ◌∙◌, subst, arith}
-use Rattle.rank_sched.specs.declared.record.Record.{Record}
-use Rattle.rank_sched.specs.Task.{task_of}
-use Rattle.rank_sched.specs.Hauls.{all_records}
-use Rattle.rank_sched.specs.TakingBack.{stays}
-use Rattle.rank_sched.specs.Finish.{AreMarks, marked_lines, unmarked}
+use Rattle.rank_sched.proofs.Cited.{◌≡◌, Bool, List, length, ap, ◌∙◌, subst, arith, Record, task_of, all_records, stays}
+use Rattle.rank_sched.proofs.Cited.{AreMarks, marked_lines, unmarked}
 use Rattle.rank_sched.proofs.Ending.{lent_within, once_within, back_counted}
 use Rattle.rank_sched.proofs.LineOrder.{lines_are}
 use Rattle.rank_sched.proofs.ended.finish.Goals as goal

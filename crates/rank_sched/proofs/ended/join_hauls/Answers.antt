@@ -1,6 +1,4 @@
-use Rattle.std.proofs.Common.{sym, ap, ◌∙◌, arith}
-use Rattle.rank_sched.specs.Task.{task_of}
-use Rattle.rank_sched.specs.Exchanges.{pool_of}
+use Rattle.rank_sched.proofs.Cited.{sym, ap, ◌∙◌, arith, task_of, pool_of}
 use Rattle.rank_sched.proofs.Ending.{own_pools, new_pool, own_parts, records_more, merged}
 use Rattle.rank_sched.proofs.ended.join_hauls.Goals as goal
 

@@ -1,9 +1,4 @@
-use Rattle.std.proofs.Common.{◌≡◌, ◌++◌}
-use Rattle.std.specs.List.{AllByRecursion}
-use Rattle.std.specs.Vec.Iter.{into_iter_items}
-use Rattle.rank_sched.specs.Task.{task_of}
-use Rattle.rank_sched.specs.Exchanges.{pool_of}
-use Rattle.rank_sched.specs.Hauls.{all_records}
+use Rattle.rank_sched.proofs.Cited.{◌≡◌, ◌++◌, AllByRecursion, into_iter_items, task_of, pool_of, all_records}
 use Rattle.rank_sched.proofs.Ending.{HasOwnPool}
 use Rattle.rank_sched.proofs.ended.join_hauls.Given as goal
 

@@ -1,7 +1,5 @@
-use Rattle.std.proofs.Common.{rules, refl, get_or, false, ◌≤◌, length, arith}
-use Rattle.std.proofs.lemmas.List.Sorted.{answers_always}
-use Rattle.ghcn_files.proofs.IdOrder.{strictly, strictly_ranks}
-use Rattle.rank_sched.specs.declared.line.Line.{Line}
+use Rattle.rank_sched.proofs.Cited.{rules, refl, get_or, false, ◌≤◌, length, arith, answers_always, strictly}
+use Rattle.rank_sched.proofs.Cited.{strictly_ranks, Line}
 use Rattle.rank_sched.proofs.LineOrder.{lines_sorted, lines_more, lines_all}
 use Rattle.rank_sched.proofs.ended.lines_of.Goals as goal
 

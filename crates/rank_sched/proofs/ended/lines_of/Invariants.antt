@@ -1,6 +1,4 @@
-use Rattle.std.proofs.Common.{◌≡◌, map, take}
-use Rattle.std.specs.List.{enumerate_from}
-use Rattle.rank_sched.specs.Finish.{marked_line}
+use Rattle.rank_sched.proofs.Cited.{◌≡◌, map, take, enumerate_from, marked_line}
 use Rattle.rank_sched.proofs.ended.lines_of.Given as goal
 
 -- the lines of the morsels so far

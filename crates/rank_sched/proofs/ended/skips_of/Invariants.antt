@@ -1,6 +1,4 @@
-use Rattle.std.proofs.Common.{take}
-use Rattle.rank_sched.specs.TakingBack.{was_skipped}
-use Rattle.rank_sched.specs.Finish.{AreMarks}
+use Rattle.rank_sched.proofs.Cited.{take, was_skipped, AreMarks}
 use Rattle.rank_sched.proofs.ended.skips_of.Given as goal
 
 -- the skips of the records so far are marked

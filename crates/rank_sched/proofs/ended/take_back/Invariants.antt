@@ -1,5 +1,4 @@
-use Rattle.std.proofs.Common.{length}
-use Rattle.rank_sched.specs.Task.{task_of}
+use Rattle.rank_sched.proofs.Cited.{length, task_of}
 use Rattle.rank_sched.proofs.Ending.{IsBefore}
 use Rattle.rank_sched.proofs.ended.take_back.Given as goal
 

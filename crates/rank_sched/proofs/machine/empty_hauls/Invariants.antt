@@ -1,6 +1,4 @@
-use Rattle.std.proofs.Common.{◌≡◌, length}
-use Rattle.std.specs.List.{AllByRecursion}
-use Rattle.rank_sched.specs.Run.{IsEmptyHaul}
+use Rattle.rank_sched.proofs.Cited.{◌≡◌, length, AllByRecursion, IsEmptyHaul}
 use Rattle.rank_sched.proofs.machine.empty_hauls.Given as goal
 
 -- the hauls so far have nothing

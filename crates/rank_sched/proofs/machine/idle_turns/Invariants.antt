@@ -1,5 +1,4 @@
-use Rattle.std.proofs.Common.{◌≡◌, replicate}
-use Rattle.rank_sched.specs.declared.turn.Turn.TheVariants.{Idle}
+use Rattle.rank_sched.proofs.Cited.{◌≡◌, replicate, Idle}
 use Rattle.rank_sched.proofs.machine.idle_turns.Given as goal
 
 -- the turns so far are idle

@@ -1,6 +1,5 @@
-use Rattle.std.proofs.Common.{◌≡◌, ◌+◌, ◌++◌, ◌∷◌, [], suc, ℕ, List, Option, ℤ, map, take, sym, ap, ◌∙◌, arith}
-use Rattle.rank_sched.specs.Plan.{measure_of}
-use Rattle.std.proofs.lemmas.Option.{slice_get-map}
+use Rattle.rank_sched.proofs.Cited.{◌≡◌, ◌+◌, ◌++◌, ◌∷◌, [], suc, ℕ, List, Option, ℤ, map, take, sym, ap, ◌∙◌, arith}
+use Rattle.rank_sched.proofs.Cited.{measure_of, slice_get-map}
 use Rattle.rank_sched.proofs.PlanMade.{map-more}
 use Rattle.rank_sched.proofs.plan.bounds_of.Goals as goal
 

@@ -1,5 +1,4 @@
-use Rattle.std.proofs.Common.{◌≡◌, take, map}
-use Rattle.rank_sched.specs.Plan.{measure_of}
+use Rattle.rank_sched.proofs.Cited.{◌≡◌, take, map, measure_of}
 use Rattle.rank_sched.proofs.plan.bounds_of.Given as goal
 
 -- the stations so far were measured

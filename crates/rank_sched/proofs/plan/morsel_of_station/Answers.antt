@@ -1,6 +1,4 @@
-use Rattle.std.proofs.Common.{List, sym, ap, ◌∙◌}
-use Rattle.ghcn_files.specs.declared.station.Station.{Station}
-use Rattle.ghcn_files.specs.Listed.{place_of}
+use Rattle.rank_sched.proofs.Cited.{List, sym, ap, ◌∙◌, Station, place_of}
 use Rattle.rank_sched.proofs.OneStation.{measured_of, none_of_station, one_of_station}
 use Rattle.rank_sched.proofs.plan.morsel_of_station.Goals as goal
 

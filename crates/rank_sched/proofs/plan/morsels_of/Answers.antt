@@ -1,12 +1,8 @@
-use Rattle.std.proofs.Common.{◌<◌, length, get_or, ℤ, ◌≡◌, ◌+◌, ◌++◌, ◌∷◌, [], suc, ℕ, List, Option, map, take, Some}
-use Rattle.std.proofs.Common.{None, sym, ap, ◌∙◌, arith, append-nil, option_to_list}
-use Rattle.std.specs.Prelude.{slice_get}
-use Rattle.std.specs.List.{filter_map}
-use Rattle.std.specs.Option.{option_map}
-use Rattle.std.proofs.lemmas.List.{map-append}
+use Rattle.rank_sched.proofs.Cited.{◌<◌, length, get_or, ℤ, ◌≡◌, ◌+◌, ◌++◌, ◌∷◌, [], suc, ℕ, List, Option, map, take}
+use Rattle.rank_sched.proofs.Cited.{Some, None, sym, ap, ◌∙◌, arith, append-nil, option_to_list, slice_get, filter_map}
+use Rattle.rank_sched.proofs.Cited.{option_map, map-append, planned_morsel}
 use Rattle.rank_sched.specs.declared.plan.Morsel as code
 use Rattle.rank_sched.specs.Plan as plan
-use Rattle.rank_sched.specs.Plan.{planned_morsel}
 use Rattle.rank_sched.proofs.PlanMade.{kept-more, made_at}
 use Rattle.rank_sched.proofs.plan.morsels_of.Goals as goal
 use Rattle.rank_sched.proofs.plan.morsels_of.Goals.{in-Some+in_ok-push, in_default}

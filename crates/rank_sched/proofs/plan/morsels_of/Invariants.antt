@@ -1,5 +1,4 @@
-use Rattle.std.proofs.Common.{◌≡◌, take, map}
-use Rattle.std.specs.List.{filter_map}
+use Rattle.rank_sched.proofs.Cited.{◌≡◌, take, map, filter_map}
 use Rattle.rank_sched.specs.Plan as plan
 use Rattle.rank_sched.proofs.plan.morsels_of.Given as goal
 

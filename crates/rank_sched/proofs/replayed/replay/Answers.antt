@@ -1,4 +1,4 @@
-use Rattle.std.proofs.Common.{arith}
+use Rattle.rank_sched.proofs.Cited.{arith}
 use Rattle.rank_sched.proofs.Replays.{replayed-more}
 use Rattle.rank_sched.proofs.replayed.replay.Goals as goal
 

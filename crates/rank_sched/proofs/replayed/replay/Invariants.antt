@@ -1,5 +1,4 @@
-use Rattle.std.proofs.Common.{take}
-use Rattle.rank_sched.specs.Run.{IsReplayed}
+use Rattle.rank_sched.proofs.Cited.{take, IsReplayed}
 use Rattle.rank_sched.proofs.replayed.replay.Given as goal
 
 -- the events so far were accepted

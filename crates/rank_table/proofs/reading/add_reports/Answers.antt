@@ -29,8 +29,7 @@ pub invariant_of-report : goal.invariant_of-report
 invariant_of-report c = record {
   fits = omega (
     arith,
-    numbers_within c.args.file c.args.text.now (placed_in c.args.found.now.items) c.reports.before c.reports.rest.now
-        (placed_in c.reports.found.items) c.reports.invariant c.first_report.result.0.now c.first_report.result.1.now
+    numbers_within c.reports.invariant c.first_report.result.0.now c.first_report.result.1.now
         c.first_report.ensures.lines (reported_in c.in_ok-report.report) c.in_ok-report.ensures.ok,
     length-map c.in_ok-report.report.rows.items named_in,
   );
@@ -39,19 +38,17 @@ invariant_of-report c = record {
 -- a report that is refused refuses the file
 pub returns-in_err-report-clause-err : goal.returns-in_err-report-clause-err
 returns-in_err-report-clause-err c =
-    let told = refused_first c.args.file c.args.text.now (placed_in c.args.found.now.items) c.reports.before
-    c.reports.rest.now (placed_in c.reports.found.items) c.reports.invariant c.first_report.result.0.now
-    c.first_report.result.1.now c.first_report.ensures.lines c.in_err-report.field-0.0 c.in_err-report.ensures.err in
+    let told = refused_first c.reports.invariant c.first_report.result.0.now c.first_report.result.1.now
+    c.first_report.ensures.lines c.in_err-report.field-0.0 c.in_err-report.ensures.err in
     search (rules, told)
 
 -- the last report was added
 pub returns-then-is_empty-clause-ok : goal.returns-then-is_empty-clause-ok
 returns-then-is_empty-clause-ok c =
     let none : length c.first_report.result.1.now ≡ 0 = grind (arith, nat_tests) in
-    all_added c.args.file c.args.text.now (placed_in c.args.found.now.items) c.reports.before c.reports.rest.now
-    (placed_in c.reports.found.items) c.reports.invariant c.first_report.result.0.now c.first_report.result.1.now
-    c.first_report.ensures.lines (reported_in c.in_ok-report.report) c.in_ok-report.ensures.ok
-    (placed_in c.add.new.found.items) (nil_from_length c.first_report.result.1.now none)
+    all_added c.reports.invariant c.first_report.result.0.now c.first_report.result.1.now c.first_report.ensures.lines
+    (reported_in c.in_ok-report.report) c.in_ok-report.ensures.ok (placed_in c.add.new.found.items)
+    (nil_from_length c.first_report.result.1.now none)
     (placed-more c.add.new.found.items c.reports.found.items _ c.in_ok-add.ensures)
 
 -- one report more was added
@@ -60,10 +57,8 @@ reports-preserved c =
     let some : 0 < length c.first_report.result.1.now = grind (arith, nat_tests) in
     let count : c.reports.before + (c.len.result + 3) ≡ c.reports.before + line_count (reported_in c.in_ok-report.report)
     = omega (arith, c.len.ensures, length-map c.in_ok-report.report.rows.items named_in) in
-    one_added c.args.file c.args.text.now (placed_in c.args.found.now.items) c.reports.before c.reports.rest.now
-    (placed_in c.reports.found.items) c.reports.invariant c.first_report.result.0.now c.first_report.result.1.now
-    c.first_report.ensures.lines (reported_in c.in_ok-report.report) c.in_ok-report.ensures.ok
-    (c.reports.before + (c.len.result + 3)) (placed_in c.add.new.found.items) some count
+    one_added c.reports.invariant c.first_report.result.0.now c.first_report.result.1.now c.first_report.ensures.lines
+    (reported_in c.in_ok-report.report) c.in_ok-report.ensures.ok _ (placed_in c.add.new.found.items) some count
     (placed-more c.add.new.found.items c.reports.found.items _ c.in_ok-add.ensures)
 
 -- what follows a report is shorter

@@ -7,7 +7,7 @@ use Rattle.rank_table.proofs.reading.read_texts.Goals as goal
 pub returns-in_err-add_reports-clause-err : goal.returns-in_err-add_reports-clause-err
 returns-in_err-add_reports-clause-err c =
     let told = refused_at (λ t. t.now) c.args.texts.now c.loop-place.place _ c.loop-place-test.true
-    (placed_in c.loop-place.found.items) c.in_err-add_reports.field-0.0 c.loop-place.invariant
+    (placed_in c.loop-place.found.items) c.loop-place.invariant c.in_err-add_reports.field-0.0
     c.in_err-add_reports.ensures.err in
     search (rules, told)
 
@@ -15,5 +15,5 @@ returns-in_err-add_reports-clause-err c =
 pub loop-place-preserved : goal.loop-place-preserved
 loop-place-preserved c =
     found_next (λ t. t.now) c.args.texts.now c.loop-place.place _ c.loop-place-test.true
-    (placed_in c.loop-place.found.items) (placed_in c.add_reports.new.found.items) c.loop-place.invariant
+    (placed_in c.loop-place.found.items) c.loop-place.invariant (placed_in c.add_reports.new.found.items)
     c.in_ok-add_reports.ensures.ok

@@ -1,6 +1,5 @@
-use Rattle.std.proofs.Common.{◌≡◌, ◌<◌, ◌∙◌, List, length, get_or, Option, Some, ap, subst, option_map, rules}
+use Rattle.std.proofs.Common.{◌∙◌, Option, Some, ap, option_map, rules}
 use Rattle.csv.specs.Records.{Row as ByteRow, fields_of}
-use Rattle.rank_papers.specs.declared.paper.Row.{Row}
 use Rattle.rank_table.specs.Reports.{placed_report}
 use Rattle.rank_table.specs.Tables.{if_listed}
 use Rattle.rank_table.proofs.RowsOfReports.{here, made_here, next_written, row_refused}
@@ -17,17 +16,15 @@ returns-in_default-clause-err c =
     let stations = option_map (λ s. s.now) c.args.stations in
     let p = placed_report c.args.report.now in
     let rows = c.args.report.now.report.rows.items in
-    let same : c.deref-row-items.result.now ≡ rows = c.deref-row-items.ensures.value in
-    let below : c.loop-place.place < length rows =
-    subst (λ (rs : List Row). c.loop-place.place < length rs) same c.loop-place-test.true in
-    let is : c.row-item.result ≡ get_or rows c.loop-place.place c.row-item.result =
-    subst (λ (rs : List Row). c.row-item.result ≡ get_or rs c.loop-place.place c.row-item.result) same c.row-item.is in
-    let made = made_here stations p rows c.loop-place.place c.row-item.result is c.as_str.result.now c.score.result (fields_of c.in_ok-fields.fields)
-    (option_map fields_of c.in_ok-fields-2.field-0) (c.as_str.ensures.value ∙ c.in_ok-text.ensures)
-    c.score.ensures.score c.in_ok-fields.ensures.fields c.in_ok-fields-2.ensures in
-    row_refused (λ v. Some v.items) stations p rows c.loop-place.place c.row-item.result below
-    c.args.writer.now c.loop-place.writer _ c.loop-place.invariant
-    (made ∙ ap (λ (o : Option ByteRow). if_listed (here stations p rows c.loop-place.place c.row-item.result) (option_map fields_of o)) c.in_default.is)
+    let below = rw c.deref-row-items.ensures.value at c.loop-place-test.true in
+    let is = rw c.deref-row-items.ensures.value at c.row-item.is in
+    let made = made_here p rows c.loop-place.place c.row-item.result below is stations _ _ _ _
+    (c.as_str.ensures.value ∙ c.in_ok-text.ensures) c.score.ensures.score c.in_ok-fields.ensures.fields
+    c.in_ok-fields-2.ensures in
+    row_refused p rows c.loop-place.place c.row-item.result below is stations (λ v. Some v.items) c.args.writer.now
+    c.loop-place.writer c.loop-place.invariant _
+    (made ∙ ap (λ (o : Option ByteRow). if_listed (here p rows c.loop-place.place c.row-item.result below is)
+    (option_map fields_of o)) c.in_default.is)
 
 -- one row more was written
 pub loop-place-preserved : goal.loop-place-preserved
@@ -35,15 +32,13 @@ loop-place-preserved c =
     let stations = option_map (λ s. s.now) c.args.stations in
     let p = placed_report c.args.report.now in
     let rows = c.args.report.now.report.rows.items in
-    let same : c.deref-row-items.result.now ≡ rows = c.deref-row-items.ensures.value in
-    let below : c.loop-place.place < length rows =
-    subst (λ (rs : List Row). c.loop-place.place < length rs) same c.loop-place-test.true in
-    let is : c.row-item.result ≡ get_or rows c.loop-place.place c.row-item.result =
-    subst (λ (rs : List Row). c.row-item.result ≡ get_or rs c.loop-place.place c.row-item.result) same c.row-item.is in
-    let made = made_here stations p rows c.loop-place.place c.row-item.result is c.as_str.result.now c.score.result (fields_of c.in_ok-fields.fields)
-    (option_map fields_of c.in_ok-fields-2.field-0) (c.as_str.ensures.value ∙ c.in_ok-text.ensures)
-    c.score.ensures.score c.in_ok-fields.ensures.fields c.in_ok-fields-2.ensures in
-    next_written (λ v. Some v.items) stations p rows c.loop-place.place c.row-item.result below
-    c.args.writer.now c.loop-place.writer c.write.new.writer (fields_of c.in-Some.fields) c.loop-place.invariant
-    (made ∙ ap (λ (o : Option ByteRow). if_listed (here stations p rows c.loop-place.place c.row-item.result) (option_map fields_of o)) c.in-Some.is)
+    let below = rw c.deref-row-items.ensures.value at c.loop-place-test.true in
+    let is = rw c.deref-row-items.ensures.value at c.row-item.is in
+    let made = made_here p rows c.loop-place.place c.row-item.result below is stations _ _ _ _
+    (c.as_str.ensures.value ∙ c.in_ok-text.ensures) c.score.ensures.score c.in_ok-fields.ensures.fields
+    c.in_ok-fields-2.ensures in
+    next_written p rows c.loop-place.place c.row-item.result below is stations (λ v. Some v.items) c.args.writer.now
+    c.loop-place.writer c.loop-place.invariant c.write.new.writer (fields_of c.in-Some.fields)
+    (made ∙ ap (λ (o : Option ByteRow). if_listed (here p rows c.loop-place.place c.row-item.result below is)
+    (option_map fields_of o)) c.in-Some.is)
     (search (rules, c.fields.view_is, c.in_ok-write.ensures))

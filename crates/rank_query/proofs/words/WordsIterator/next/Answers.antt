@@ -34,9 +34,9 @@ invariant_of-self c =
 -- the word is the first of those that were left
 pub returns-clause-steps : goal.returns-clause-steps
 returns-clause-steps c =
-    let some : 0 < length c.without_blanks-text.result.now = grind (arith, nat_tests) in
     let rest : List ℕ = c.without_blanks-text.result.now in
     let n : ℕ = c.word_len.result in
+    let some : 0 < length rest = grind (arith, nat_tests) in
     let first = first_word c.self.inside.text.now rest n c.without_blanks-text.ensures some c.word_len.ensures in
     words_left c.self.inside.given c.args.self.now c.self.inside.text.now (take n rest)
     (drop n rest) _ _ c.self.view_is first.0 (sym c.split_at.ensures.front) (sym c.split_at.ensures.back)

@@ -1,10 +1,6 @@
-use Rattle.std.proofs.Common.{◌∙◌, ap, arith}
-use Rattle.rank_sched.specs.Run.{Running}
-use Rattle.rank_sched.specs.declared.event.Event.TheVariants.{Claim}
-use Rattle.std.proofs.lemmas.List.{length-set}
-use Rattle.std.proofs.lemmas.Option.{slice_get_within}
-use Rattle.rank_sched.proofs.MachineSteps.{not_idle, no_worker_refused, not_now_refused, claim_step}
-use Rattle.rank_sched.proofs.MachineSteps.{still_running, next_small}
+use Rattle.rank_sched.proofs.Cited.{◌∙◌, ap, arith, Running, Claim, length-set, slice_get_within}
+use Rattle.rank_sched.proofs.MachineSteps.{not_idle, no_worker_refused, not_now_refused, claim_step, still_running}
+use Rattle.rank_sched.proofs.MachineSteps.{next_small}
 use Rattle.rank_sched.proofs.machine.Machine.claim.Goals as goal
 
 -- there is no such worker

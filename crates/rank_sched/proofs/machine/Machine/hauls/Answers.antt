@@ -1,5 +1,4 @@
-use Rattle.std.proofs.Common.{arith}
-use Rattle.rank_sched.specs.Hauls.{AreHaulsOf}
+use Rattle.rank_sched.proofs.Cited.{arith, AreHaulsOf}
 use Rattle.rank_sched.proofs.MachineSteps.{hauls_of, stopped_sound}
 use Rattle.rank_sched.proofs.machine.Machine.hauls.Goals as goal
 

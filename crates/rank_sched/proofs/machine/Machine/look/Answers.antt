@@ -1,11 +1,6 @@
-use Rattle.std.proofs.Common.{◌∙◌, ap, arith}
-use Rattle.rank_sched.specs.Run.{Running}
-use Rattle.rank_sched.specs.declared.event.Event.TheVariants.{Look}
-use Rattle.std.proofs.lemmas.List.{length-set}
-use Rattle.std.proofs.lemmas.Option.{slice_get_within}
+use Rattle.rank_sched.proofs.Cited.{◌∙◌, ap, arith, Running, Look, length-set, slice_get_within, ints}
 use Rattle.rank_sched.proofs.MachineSteps.{not_claimed, no_worker_refused, not_now_refused, look_step, still_running}
 use Rattle.rank_sched.proofs.machine.Machine.look.Goals as goal
-use Rattle.std.proofs.lemmas.Int.{ints}
 
 -- there is no such worker
 pub returns-in_err-morsel : goal.returns-in_err-morsel

@@ -1,13 +1,8 @@
-use Rattle.std.proofs.Common.{◌≡◌, ◌∙◌, Some, true, refl, ap, sym, arith, rules}
-use Rattle.std.specs.Prelude.{slice_get}
-use Rattle.rank_sched.specs.declared.turn.Turn.TheVariants.{Idle, Looked}
-use Rattle.rank_sched.specs.Run.{Running}
-use Rattle.rank_sched.specs.declared.event.Event.TheVariants.{Settle}
-use Rattle.std.proofs.lemmas.List.{length-set}
-use Rattle.std.proofs.lemmas.Option.{slice_get_within}
-use Rattle.rank_sched.proofs.MachineSteps.{settle_made, same_state_of, not_looked}
+use Rattle.rank_sched.proofs.Cited.{◌≡◌, ◌∙◌, Some, true, refl, ap, sym, arith, rules, slice_get, Idle, Looked, Running}
+use Rattle.rank_sched.proofs.Cited.{Settle, length-set, slice_get_within}
+use Rattle.rank_sched.proofs.MachineSteps.{settle_step, same_state_of, not_looked, running_failed, no_worker_refused}
+use Rattle.rank_sched.proofs.MachineSteps.{not_now_refused, still_running}
 use Rattle.rank_sched.proofs.TurnsAndHauls.{is_now_by}
-use Rattle.rank_sched.proofs.MachineSteps.{running_failed, no_worker_refused, not_now_refused, still_running}
 use Rattle.rank_sched.proofs.machine.Machine.settle.Goals as goal
 
 -- there is no such worker
@@ -31,7 +26,7 @@ invariant_of-self c =
     search rules in (
       length-set c.self.inside.turns.items c.args.worker Idle ∙ c.self.invariant.0
           ∙ sym (length-set c.self.inside.hauls.items c.args.worker c.settle.new.self),
-      still_running _ (Settle c.args.worker) _ c.self.inside.failed c.self.invariant.1 (settle_made _ _ _ _ _ _ _ _ _ _
+      still_running _ (Settle c.args.worker) _ c.self.inside.failed c.self.invariant.1 (settle_step _ _ _ _ _ _ _ _ _ _
           _ _ _ c.self.invariant.0 here c.index_mut.ensures.value c.record_of-record.ensures c.in-Ok.ensures.settled
           c.in-Ok.ensures.raised c.greater_floor-self-inside.ensures),
     )
@@ -53,7 +48,7 @@ returns-in-Ok c =
     search rules in
     rw (← c.self.view_is) (record {
       running = ap (λ (m : Running). m.failed) c.self.view_is ∙ c.requires;
-      step = settle_made _ _ _ _ _ _ _ _ _ _ _ _ _ c.self.invariant.0 here c.index_mut.ensures.value
+      step = settle_step _ _ _ _ _ _ _ _ _ _ _ _ _ c.self.invariant.0 here c.index_mut.ensures.value
           c.record_of-record.ensures c.in-Ok.ensures.settled c.in-Ok.ensures.raised
           c.greater_floor-self-inside.ensures;
       kept = refl;

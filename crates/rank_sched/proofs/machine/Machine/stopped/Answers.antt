@@ -1,4 +1,4 @@
-use Rattle.std.proofs.Common.{arith}
+use Rattle.rank_sched.proofs.Cited.{arith}
 use Rattle.rank_sched.proofs.Workers.{turns_stopped, not_failed}
 use Rattle.rank_sched.proofs.machine.Machine.stopped.Goals as goal
 

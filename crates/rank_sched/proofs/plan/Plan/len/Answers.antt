@@ -1,5 +1,4 @@
-use Rattle.std.proofs.Common.{subst}
-use Rattle.rank_sched.specs.Plan.{IsPlan}
+use Rattle.rank_sched.proofs.Cited.{subst, IsPlan}
 use Rattle.rank_sched.proofs.FairPlans.{plans_fair}
 use Rattle.rank_sched.proofs.plan.Plan.len.Goals as goal
 

@@ -1,7 +1,5 @@
-use Rattle.std.proofs.Common.{rules, ◌≡◌, map}
-use Rattle.std.proofs.lemmas.List.Sorted.{answers_always}
+use Rattle.rank_sched.proofs.Cited.{rules, ◌≡◌, map, answers_always, planned_morsel}
 use Rattle.rank_sched.specs.Plan as plan
-use Rattle.rank_sched.specs.Plan.{planned_morsel}
 use Rattle.rank_sched.proofs.PlanOrder.{strictly, strictly_ranks}
 use Rattle.rank_sched.proofs.PlanMade.{sort-planned}
 use Rattle.rank_sched.proofs.plan.Plan.of_morsels.Goals as goal
