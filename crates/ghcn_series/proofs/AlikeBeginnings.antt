@@ -1,9 +1,10 @@
 -- Beginnings of lines that are alike, and what is kept of a long one.
-use Rattle.std.proofs.Common.{◌≡◌, ℕ, suc, ◌+◌, ◌-◌, ◌<◌, ◌≤◌, min, Bool, true, false, cond}
+use Rattle.std.proofs.Common.{◌≡◌, ℕ, suc, ◌+◌, ◌-◌, ◌<◌, ◌≤◌, min, Bool, cond}
 use Rattle.std.proofs.Common.{List, [], ◌∷◌, ◌++◌, length, take, drop, set, get_or}
 use Rattle.std.proofs.Common.{refl, sym, ap, ◌∙◌, subst₂, append_assoc, length-append, length-take, length-set, arith}
 use Rattle.std.specs.Prelude.{◌==◌, ◌&&◌}
 use Rattle.std.specs.Str.Lines.{strip_carriage_return}
+use Rattle.std.proofs.Math.Bool.{and-true}
 use Rattle.std.proofs.lemmas.List.{append-nil, take-append-drop, length-take-le, take_at, drop_at, take_more_set}
 use Rattle.std.proofs.lemmas.List.{nil_from_length}
 use Rattle.std.proofs.lemmas.List.Folds.{list_all-append}
@@ -25,21 +26,16 @@ begin-alike a b c one other = record {
 -- they stay so when the same bytes follow
 pub begin-more : (a b bytes : List ℕ) → BeginAlike a b → BeginAlike (a ++ bytes) (b ++ bytes)
 begin-more a b bytes is = record {
-  holds = λ more.
-      subst₂ (λ (x y : List ℕ). AreAlike (strip_carriage_return x) (strip_carriage_return y))
-      (sym (append_assoc a bytes more)) (sym (append_assoc b bytes more)) (is.holds (bytes ++ more));
+  holds = λ more. rw (append_assoc a bytes more, append_assoc b bytes more) (is.holds (bytes ++ more));
 }
 
 -- as lines they are alike
 pub begin-line : (a b : List ℕ) → BeginAlike a b → AreAlike (strip_carriage_return a) (strip_carriage_return b)
-begin-line a b is =
-    subst₂ (λ (x y : List ℕ). AreAlike (strip_carriage_return x) (strip_carriage_return y)) (append-nil a) (append-nil b)
-    (is.holds [])
+begin-line a b is = rw (append-nil a, append-nil b) at (is.holds [])
 
 -- of either of two lists with one more element in front
 either_cons : (t : Bool) (x : ℕ) (xs ys : List ℕ) → cond t (x ∷ xs) (x ∷ ys) ≡ x ∷ cond t xs ys
-either_cons true x xs ys = refl
-either_cons false x xs ys = refl
+either_cons t x xs ys = grind arith
 
 -- the carriage return at the end of a line is not its first byte if others follow
 strip-cons : (x y : ℕ) (ys : List ℕ) → strip_carriage_return (x ∷ y ∷ ys) ≡ x ∷ strip_carriage_return (y ∷ ys)
@@ -60,16 +56,10 @@ strip-append (x ∷ z ∷ xs) y ys =
 same_count : (a b : List ℕ) → BeginAlike a b → min 269 (length a + 1) ≡ min 269 (length b + 1)
 same_count a b is =
     let same : take 269 (a ++ 120 ∷ []) ≡ take 269 (b ++ 120 ∷ []) =
-    ap (λ (l : List ℕ). take 269 l) (sym (strip-append a 120 [])) ∙ (is.holds (120 ∷ [])).columns
-    ∙ ap (λ (l : List ℕ). take 269 l) (strip-append b 120 []) in
-    omega (
-      arith,
-      ap (λ (l : List ℕ). length l) same,
-      length-take 269 (a ++ 120 ∷ []),
-      length-take 269 (b ++ 120 ∷ []),
-      length-append a (120 ∷ []),
-      length-append b (120 ∷ []),
-    )
+    rw (strip-append a 120 [], strip-append b 120 []) at (is.holds (120 ∷ [])).columns in
+    let long_a = length-append a (120 ∷ []) in
+    let long_b = length-append b (120 ∷ []) in
+    omega (arith, ap length same, length-take 269 (a ++ 120 ∷ []), length-take 269 (b ++ 120 ∷ []))
 
 -- if one has a byte, so has the other
 pub begin-some : (a b : List ℕ) → BeginAlike a b → 0 < length b → 0 < length a
@@ -90,24 +80,15 @@ begin-short front middle other last long same = record {
       let end = strip_carriage_return (last ∷ more) in
       let line : (xs : List ℕ) → strip_carriage_return ((front ++ (xs ++ last ∷ [])) ++ more) ≡ front ++ (xs ++ end) =
       λ xs.
-      ap (λ (l : List ℕ). strip_carriage_return l)
-      (append_assoc front (xs ++ last ∷ []) more ∙ ap (λ (l : List ℕ). front ++ l) (append_assoc xs (last ∷ []) more)
-      ∙ sym (append_assoc front xs (last ∷ more)))
-      ∙ strip-append (front ++ xs) last more ∙ append_assoc front xs end in
+      let whole : (front ++ (xs ++ last ∷ [])) ++ more ≡ (front ++ xs) ++ last ∷ more = simp append_assoc in
+      ap strip_carriage_return whole ∙ strip-append (front ++ xs) last more ∙ append_assoc front xs end in
+      let blank : (xs : List ℕ) → is_blank (drop 269 (front ++ (xs ++ end))) ≡ (is_blank xs && is_blank end) = λ xs.
+      ap is_blank (drop_at front (xs ++ end) 269 long) ∙ list_all-append (λ b. b == 32) xs end in
       subst₂ AreAlike (sym (line middle)) (sym (line other)) (record {
         columns = take_at front (middle ++ end) 269 long ∙ sym (take_at front (other ++ end) 269 long);
-        behind = ap is_blank (drop_at front (middle ++ end) 269 long)
-            ∙ list_all-append (λ b. b == 32) middle end
-            ∙ ap (λ (t : Bool). t && is_blank end) same
-            ∙ sym (list_all-append (λ b. b == 32) other end)
-            ∙ sym (ap is_blank (drop_at front (other ++ end) 269 long));
+        behind = blank middle ∙ ap (λ (t : Bool). t && is_blank end) same ∙ sym (blank other);
       });
 }
-
--- a test and one that holds
-and_true : (t : Bool) → (t && true) ≡ t
-and_true true = refl
-and_true false = refl
 
 -- so it is with a byte in place of the others
 pub begin-kept : (rest middle : List ℕ) (mark last : ℕ) → 271 ≤ length rest
@@ -117,14 +98,12 @@ begin-kept rest middle mark last long marked =
     let front = take 269 rest in
     let behind = drop 269 rest in
     let whole : rest ++ (middle ++ last ∷ []) ≡ front ++ ((behind ++ middle) ++ last ∷ []) =
-    ap (λ (l : List ℕ). l ++ (middle ++ last ∷ [])) (sym (take-append-drop 269 rest))
-    ∙ append_assoc front behind (middle ++ last ∷ [])
-    ∙ ap (λ (l : List ℕ). front ++ l) (sym (append_assoc behind middle (last ∷ []))) in
+    ap (λ (l : List ℕ). l ++ (middle ++ last ∷ [])) (sym (take-append-drop 269 rest)) ∙ simp append_assoc in
     let kept : take 271 (set (set rest 269 mark) 270 last) ≡ front ++ ((mark ∷ []) ++ last ∷ []) =
     take_more_set (set rest 269 mark) 270 last (omega (arith, long, length-set rest 269 mark))
     ∙ ap (λ (l : List ℕ). l ++ last ∷ []) (take_more_set rest 269 mark (omega (arith, long)))
     ∙ append_assoc front (mark ∷ []) (last ∷ []) in
     let blank : is_blank (behind ++ middle) ≡ is_blank (mark ∷ []) =
-    list_all-append (λ b. b == 32) behind middle ∙ marked ∙ sym (and_true (mark == 32)) in
+    list_all-append (λ b. b == 32) behind middle ∙ marked ∙ sym (and-true (mark == 32)) in
     rw (whole, kept) (begin-short front (behind ++ middle) (mark ∷ []) last
     (length-take-le 269 rest (omega (arith, long))) blank)

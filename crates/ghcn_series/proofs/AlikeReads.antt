@@ -1,30 +1,11 @@
 -- Readers read and refuse lines as they are before their line feeds, and with them each line that is alike.
-use Rattle.std.proofs.Common.{◌≡◌, ℕ, true, false}
-use Rattle.std.proofs.Common.{List, [], ◌∷◌}
-use Rattle.std.proofs.Common.{refl, sym, ◌∙◌, subst}
+use Rattle.std.proofs.Common.{◌≡◌, ℕ, true, false, List, ◌∙◌}
 use Rattle.std.specs.Str.Lines.{strip_carriage_return}
 use Rattle.std.proofs.lemmas.List.{append-nil}
 use Rattle.ghcn_fields.specs.Bytes.{is_blank}
-use Rattle.ghcn_series.specs.Alike.{AreAlike}
 use Rattle.ghcn_series.specs.declared.fault.DataFault.{DataFault}
-use Rattle.ghcn_series.specs.DailyFaults.{FileLine, file_line, one_line}
-use Rattle.ghcn_series.specs.LinesRead.{Reading, Reads, Refuses, ReadsLike, RefusesLike, ReadsText, RefusesText}
+use Rattle.ghcn_series.specs.LinesRead.{Reading, ReadsLike, RefusesLike, ReadsText, RefusesText}
 use Rattle.ghcn_series.proofs.AlikeLines.{same_blank}
-
--- a blank line as it is before its line feed adds no line
-no_line : (file line : ℕ) (text bytes : List ℕ)
-    → AreAlike (strip_carriage_return text) (strip_carriage_return bytes)
-    → is_blank (strip_carriage_return bytes) ≡ true → one_line file line text ≡ []
-no_line file line text bytes alike blank =
-    rw (same_blank (strip_carriage_return text) (strip_carriage_return bytes) alike ∙ blank) refl
-
--- any other is one
-this_line : (file line : ℕ) (text bytes : List ℕ)
-    → AreAlike (strip_carriage_return text) (strip_carriage_return bytes)
-    → is_blank (strip_carriage_return bytes) ≡ false
-    → one_line file line text ≡ file_line file (line, strip_carriage_return text) ∷ []
-this_line file line text bytes alike some =
-    rw (same_blank (strip_carriage_return text) (strip_carriage_return bytes) alike ∙ some) refl
 
 module _ {L : Type 0} {has_read : Reading L} where
   -- a blank line is read by what has read the lines before it
@@ -33,7 +14,11 @@ module _ {L : Type 0} {has_read : Reading L} where
   blank-read r file line bytes blank = record {
     holds = λ text alike. record {
       holds = λ stations keep before read.
-          rw (no_line file line text bytes alike blank, append-nil before) read;
+          rw (
+            same_blank (strip_carriage_return text) (strip_carriage_return bytes) alike ∙ blank,
+            append-nil before,
+          )
+          read;
     };
   }
 
@@ -42,7 +27,7 @@ module _ {L : Type 0} {has_read : Reading L} where
       → ReadsLike has_read old new file line (strip_carriage_return bytes) → ReadsText has_read old new file line bytes
   text-read old new file line bytes some reads = record {
     holds = λ text alike.
-        subst (Reads has_read old new) (sym (this_line file line text bytes alike some))
+        rw (same_blank (strip_carriage_return text) (strip_carriage_return bytes) alike ∙ some)
         (reads.holds (strip_carriage_return text) alike);
   }
 
@@ -53,6 +38,6 @@ module _ {L : Type 0} {has_read : Reading L} where
       → RefusesText has_read old file line bytes fault
   text-refused old file line bytes fault some refuses = record {
     holds = λ text alike.
-        subst (λ (ls : List FileLine). Refuses has_read old ls fault)
-        (sym (this_line file line text bytes alike some)) (refuses.holds (strip_carriage_return text) alike);
+        rw (same_blank (strip_carriage_return text) (strip_carriage_return bytes) alike ∙ some)
+        (refuses.holds (strip_carriage_return text) alike);
   }

@@ -1,22 +1,23 @@
 -- Parts without a common day: a part more, and no day of theirs occurs twice.
-use Rattle.std.proofs.Common.{◌≡◌, ℕ, zero, suc, ◌+◌, false, List, [], ◌∷◌, ◌++◌, length, get_or, set}
-use Rattle.std.proofs.Common.{Option, Some, None, IsSome}
-use Rattle.std.proofs.Common.{inl, inr, refl, sym, ap, subst, ◌∙◌, arith, ℤ, pos, ◌<ℤ◌}
+use Rattle.std.proofs.Common.{◌≡◌, ℕ, zero, suc, ◌+◌, false, List, [], ◌∷◌, ◌++◌, length, get_or, set, Option, Some}
+use Rattle.std.proofs.Common.{None, IsSome, inl, inr, refl, sym, ap, subst, ◌∙◌, arith, ℤ, pos}
 use Rattle.std.specs.Prelude.{bit_or}
 use Rattle.std.specs.List.{IsDistinct, AllByRecursion}
-use Rattle.std.specs.Map.{keys_of}
+use Rattle.std.specs.Map.{keys_of, lookup}
 use Rattle.std.specs.Option.{option_or}
 use Rattle.std.specs.Ordering.{int_eq}
-use Rattle.std.proofs.lemmas.Int.{ints}
-use Rattle.std.proofs.lemmas.Bool.{false≢true}
+use Rattle.std.proofs.lemmas.Bool.{cases_Bool, false≢true}
+use Rattle.std.proofs.lemmas.Cmp.{int_eq_equiv}
+use Rattle.std.proofs.lemmas.Map.{lookup-none, none_passes_from_lookup}
 use Rattle.std.proofs.lemmas.Option.{none-some}
 use Rattle.ghcn_series.specs.Series.{DayValue, value_on}
 use Rattle.ghcn_series.specs.Packed.{Block, block_days, days_of_blocks, blocks_of, AreBlocks, AreRising}
 use Rattle.ghcn_series.specs.Parts.{AreNew, AreDisjoint, AreJoined}
-use Rattle.ghcn_series.proofs.Lookups.{int_eq-no, value_on-append}
+use Rattle.ghcn_files.proofs.Ordered.{each-map, each-mapped}
+use Rattle.ghcn_series.proofs.Lookups.{value_on-append}
 use Rattle.ghcn_series.proofs.JoinedDays.{both-none, same_block, last-joined, pushed-blocks}
 use Rattle.ghcn_series.proofs.PartsAdded.{days-pushed, join-last, IsJoin}
-use Rattle.ghcn_series.proofs.RisingDays.{behind, front, block-rises}
+use Rattle.ghcn_series.proofs.RisingDays.{before_all, behind, front, block-rises}
 
 -- days that are new beside two lists are new beside both together
 new-both : (days one two both : List DayValue) → AreNew days one → AreNew days two → AreJoined one two both
@@ -88,23 +89,26 @@ join-apart ns ws vs i p u r is apart =
 
 -- ---- no day occurs twice
 
--- two numbers differ in both directions
-other-turned : (a b : ℤ) → int_eq a b ≡ false → int_eq b a ≡ false
-other-turned a b e = grind (arith, ints)
+-- a day is looked up among pairs as it is in a map
+pub lookup-is : (q : ℤ) (xs : List DayValue) → lookup (int_eq q) xs ≡ value_on xs q
+lookup-is q [] = refl
+lookup-is q (x ∷ xs) = rw (int_eq_equiv.symm q x.0) (elim (cases_Bool (int_eq x.0 q)) [
+  | inl here ↦ rw here
+  | inr other ↦ rw other (lookup-is q xs)
+])
 
 -- a day without a value is none of the days
 none-is : (xs : List DayValue) (d : ℤ) → value_on xs d ≡ None → AllByRecursion (λ k. int_eq d k ≡ false) (keys_of xs)
-none-is [] d none = tt
-none-is (x ∷ xs) d none = elim (same_block x.0 d) [
-  | inl here ↦ absurd (none-some x.1 (sym (sym (front x xs) ∙ ap (value_on (x ∷ xs)) here ∙ none)))
-  | inr other ↦ (other-turned x.0 d (int_eq-no x.0 d other), none-is xs d (sym (behind x xs d other) ∙ none))
-]
+none-is xs d none =
+    each-map (λ (x : DayValue). x.0) (λ (k : ℤ). int_eq d k ≡ false) xs
+    (none_passes_from_lookup (int_eq d) xs (lookup-is d xs ∙ none))
 
 -- and a day that is none of them has no value
 pub none-from : (xs : List DayValue) (d : ℤ) → AllByRecursion (λ k. int_eq d k ≡ false) (keys_of xs)
     → value_on xs d ≡ None
-none-from [] d all = refl
-none-from (x ∷ xs) d all = rw (other-turned d x.0 all.0) (none-from xs d all.1)
+none-from xs d all =
+    sym (lookup-is d xs)
+    ∙ lookup-none (int_eq d) xs (each-mapped (λ (x : DayValue). x.0) (λ (k : ℤ). int_eq d k ≡ false) xs all)
 
 -- of days in a row, of which no two are the same, the later are new
 pub new-behind : (xs ys : List DayValue) → IsDistinct int_eq (keys_of (xs ++ ys)) → AreNew xs ys
@@ -129,8 +133,7 @@ new-distinct (x ∷ xs) ys fresh p q =
       | None ↦ λ e. refl
       | Some v ↦ λ e. absurd (none-some x.1 (sym (sym (front x xs) ∙ fresh x.0 (subst IsSome (sym e) refl))))
     ] refl in (
-      none-is (xs ++ ys) x.0 (value_on-append xs ys x.0 ∙ ap (λ (o : Option ℤ). option_or o (value_on ys x.0))
-          (none-from xs x.0 p.0) ∙ later),
+      none-is (xs ++ ys) x.0 (rw (value_on-append xs ys x.0, none-from xs x.0 p.0) later),
       new-distinct xs ys (new-each (x ∷ []) xs ys fresh).1 p.1 q,
     )
 
@@ -138,16 +141,7 @@ new-distinct (x ∷ xs) ys fresh p q =
 pub rising-distinct : (xs : List DayValue) → AreRising xs → IsDistinct int_eq (keys_of xs)
 unfolding IsDistinct
 rising-distinct [] rise = tt
-rising-distinct (x ∷ xs) rise = (all_other x.0 xs rise.0, rising-distinct xs rise.1)
-  where
-    all_other : (d : ℤ) (ys : List DayValue) → AllByRecursion (λ y. d <ℤ y.0) ys
-        → AllByRecursion (λ k. int_eq d k ≡ false) (keys_of ys)
-    all_other d [] all = tt
-    all_other d (y ∷ ys) all = let lt = all.0 in (
-      int_eq-no d y.0 (λ e. omega (arith, ints, lt, e)),
-      all_other d ys
-          all.1,
-    )
+rising-distinct (x ∷ xs) rise = (none-is xs x.0 (before_all xs x.0 rise.0), rising-distinct xs rise.1)
 
 -- parts that are apart have no day twice
 pub apart-distinct : (bs : List Block) → AreDisjoint bs → IsDistinct int_eq (keys_of (days_of_blocks bs))

@@ -1,15 +1,15 @@
 -- What is counted of one line more, or of one file more.
 use Rattle.std.proofs.Common.{◌≡◌, ℕ, ◌+◌, ◌≤◌, true, false, Bool, cond, List, [], ◌∷◌, ◌++◌, length, map}
-use Rattle.std.proofs.Common.{Option, None, Some, refl, sym, subst, ap, ◌∙◌, length-append, arith}
+use Rattle.std.proofs.Common.{Option, None, Some, refl, sym, ap, ◌∙◌, length-append, arith}
 use Rattle.std.specs.Prelude.{◌-◌, ◌^◌, ◌&&◌, ◌||◌, ◌==◌, not, if◌then◌else◌, take, drop, replicate}
 use Rattle.std.proofs.Math.Bool.{or-false}
 use Rattle.std.specs.List.{list_any, count_by, find, slice_get}
 use Rattle.std.specs.Option.{is_some, option_map, option_or}
-use Rattle.std.proofs.lemmas.Bool.{eqb-true}
+use Rattle.std.proofs.lemmas.Bool.{eqb-true, and_parts}
 use Rattle.std.proofs.lemmas.List.{append-nil, map-append, take-append-drop}
 use Rattle.std.proofs.lemmas.List.Elements.{filter-append}
 use Rattle.std.proofs.lemmas.List.Folds.{list_any-append, list_all-append, find-append}
-use Rattle.std.proofs.lemmas.List.Sums.{sum_by-append, count_by-le-length}
+use Rattle.std.proofs.lemmas.List.Sums.{sum_by-append, sum_by_push, count_by-le-length}
 use Rattle.std.proofs.lemmas.Grind.{flat_map-append}
 use Rattle.ghcn_fields.specs.Bytes.{is_blank}
 use Rattle.ghcn_fields.specs.Lines.{columns, lines}
@@ -18,6 +18,7 @@ use Rattle.ghcn_files.specs.Elements.{element_of}
 use Rattle.ghcn_series.specs.declared.counts.Foreign.{Foreign}
 use Rattle.ghcn_series.specs.declared.counts.LinePlace.{LinePlace}
 use Rattle.ghcn_series.specs.declared.counts.LineCounts.{LineCounts}
+use Rattle.ghcn_series.specs.declared.counts.LineKind.{LineKind}
 use Rattle.ghcn_series.specs.declared.counts.LineKind.TheVariants.{Blank, OfElement, Other, Odd}
 use Rattle.ghcn_series.specs.Counted.{HaveCounted, CountsLine, AddsForeign, with_odd}
 use Rattle.ghcn_series.specs.DailyFaults.{FileLine, file_line, not_blank, file_lines, daily_lines}
@@ -27,37 +28,15 @@ use Rattle.ghcn_series.proofs.FedLines.{daily_lines-one}
 
 -- ---- odd lines
 
--- the place of the first of two lines, of which the first may be absent
-first_place : (first : Option FileLine) (l : FileLine)
-    → option_map place_of (option_or first (Some l)) ≡ option_or (option_map place_of first) (Some (place_of l))
-first_place None l = refl
-first_place (Some x) l = refl
-
--- nothing comes after it
-first_alone : (first : Option FileLine) → option_or first None ≡ first
-first_alone None = refl
-first_alone (Some x) = refl
-
--- among one line more, which is odd or isn't
-odd_one : (odd : Bool) (before : List FileLine) (l : FileLine) → is_odd l.bytes ≡ odd
-    → (if odd then with_odd (odd_among before) (place_of l) else odd_among before) ≡ odd_among (before ++ l ∷ [])
-odd_one true before l is =
-    let count : count_by (λ x. is_odd x.bytes) (before ++ l ∷ []) ≡ count_by (λ x. is_odd x.bytes) before + 1 =
-    sum_by-append (λ x. cond (is_odd x.bytes) 1 0) before (l ∷ []) ∙ rw is refl in
-    let first : find (λ x. is_odd x.bytes) (before ++ l ∷ [])
-    ≡ option_or (find (λ x. is_odd x.bytes) before) (Some l) =
-    find-append (λ x. is_odd x.bytes) before (l ∷ []) ∙ rw is refl in
-    rw (count, first, first_place (find (λ x. is_odd x.bytes) before) l) refl
-odd_one false before l is =
-    let count : count_by (λ x. is_odd x.bytes) (before ++ l ∷ []) ≡ count_by (λ x. is_odd x.bytes) before =
-    sum_by-append (λ x. cond (is_odd x.bytes) 1 0) before (l ∷ []) ∙ rw is (omega arith) in
-    let first : find (λ x. is_odd x.bytes) (before ++ l ∷ []) ≡ find (λ x. is_odd x.bytes) before =
-    find-append (λ x. is_odd x.bytes) before (l ∷ []) ∙ rw is (first_alone (find (λ x. is_odd x.bytes) before)) in
-    rw (count, first) refl
-
--- a place by its two numbers
-abbrev place_at : ℕ → ℕ → LinePlace
-place_at file line = record { file = file; line = line }
+-- a line more that is odd, or isn't, after so many odd ones and the first of them
+odd_step : (odd : Bool) (n : ℕ) (first : Option FileLine) (l : FileLine)
+    → (if odd then with_odd (record { count = n; first = option_map place_of first }) (place_of l)
+    else record { count = n; first = option_map place_of first })
+    ≡ record { count = n + cond odd 1 0; first = option_map place_of (option_or first (cond odd (Some l) None)) }
+odd_step true n None l = refl
+odd_step true n (Some x) l = refl
+odd_step false n None l = let same : n ≡ n + 0 = omega arith in cc
+odd_step false n (Some x) l = let same : n ≡ n + 0 = omega arith in cc
 
 -- among a line more that is odd, or isn't, or is blank
 odd_more : (blank : Bool) (before : List FileLine) (place : LinePlace) (line : List ℕ) → is_blank line ≡ blank
@@ -67,19 +46,20 @@ odd_more true before place line is = rw (is, append-nil before) refl
 odd_more false before place line is =
     let l : FileLine = file_line (place.file + 1) (place.line, line) in
     let file : place.file + 1 - 1 ≡ place.file = omega arith in
-    let same : place_of l ≡ place = ap (λ n. place_at n place.line) file in
     let alone : not_blank (place.file + 1) ((place.line, line) ∷ []) ≡ l ∷ [] = rw is refl in
-    subst (λ (p : LinePlace). (if is_odd line then with_odd (odd_among before) p else odd_among before)
-    ≡ odd_among (before ++ l ∷ [])) same (odd_one (is_odd line) before l refl)
-    ∙ ap (λ (ls : List FileLine). odd_among (before ++ ls)) (sym alone)
+    rw (
+      alone,
+      sum_by_push (λ (x : FileLine). cond (is_odd x.bytes) 1 0) before l,
+      find-append (λ (x : FileLine). is_odd x.bytes) before (l ∷ []),
+    )
+    (rw file at (odd_step (is_odd line) (count_by (λ x. is_odd x.bytes) before) (find (λ x. is_odd x.bytes) before) l))
 
 -- ---- a line
 
 -- a test that some of these lines pass, or one line more
 any-more : (p : List ℕ → Bool) (ls : List (List ℕ)) (more line : List ℕ) {so_far : Bool}
     → lines more ≡ ls ++ line ∷ [] → so_far ≡ list_any p ls → (so_far || p line) ≡ list_any p (lines more)
-any-more p ls more line all is =
-    rw (is, all, list_any-append p ls (line ∷ []), or-false (p line)) refl
+any-more p ls more line all is = rw (is, all, list_any-append p ls (line ∷ []), or-false (p line)) refl
 
 -- a line more of the current file is counted
 pub counted-line : (old new : LineCounts) (ended : List (List ℕ)) (whole more line : List ℕ) (place : LinePlace)
@@ -89,13 +69,8 @@ pub counted-line : (old new : LineCounts) (ended : List (List ℕ)) (whole more 
     → HaveCounted old ended whole → HaveCounted new ended more
 counted-line old new ended whole more line place all behind adds is = record {
   number = adds.number ∙ is.number;
-  blank = omega (
-    arith,
-    adds.blank,
-    is.blank,
-    ap (count_by is_blank) all,
-    sum_by-append (λ l. cond (is_blank l) 1 0) (lines whole) (line ∷ []),
-  );
+  blank = rw all
+      (omega (arith, adds.blank, is.blank, sum_by_push (λ l. cond (is_blank l) 1 0) (lines whole) line));
   foreign = adds.foreign ∙ is.foreign;
   odd = adds.odd ∙ rw is.odd
       (odd_more (is_blank line) (daily_lines ended ++ file_lines (length ended + 1, whole)) place line refl)
@@ -108,10 +83,7 @@ counted-line old new ended whole more line place all behind adds is = record {
 
 -- two tests that hold
 pub both_of : (a b : Bool) → (a && b) ≡ true → (a ≡ true) × (b ≡ true)
-both_of true true e = (refl, refl)
-both_of true false e = absurd cc
-both_of false true e = absurd cc
-both_of false false e = absurd cc
+both_of a b e = and_parts a b e
 
 -- blanks name no element
 no_element : (bytes : List ℕ) → is_blank bytes ≡ true → is_some (element_of bytes) ≡ false
@@ -124,8 +96,7 @@ no_element (b ∷ bytes) blank =
 blank_parts : (n : ℕ) (bytes : List ℕ) → is_blank bytes ≡ true
     → (is_blank (take n bytes) ≡ true) × (is_blank (drop n bytes) ≡ true)
 blank_parts n bytes blank =
-    both_of (is_blank (take n bytes)) (is_blank (drop n bytes))
-    (sym (list_all-append (λ b. b == 32) (take n bytes) (drop n bytes))
+    both_of _ _ (sym (list_all-append (λ b. b == 32) (take n bytes) (drop n bytes))
     ∙ ap is_blank (take-append-drop n bytes) ∙ blank)
 
 -- a blank line has no element
@@ -135,69 +106,48 @@ blank_line line blank =
     let all : is_blank whole ≡ true = list_all-append (λ b. b == 32) line (replicate 21 32) ∙ rw blank refl in
     no_element (columns 18 21 line) (blank_parts 4 (drop 17 whole) (blank_parts 17 whole all).1).0
 
--- what is blank has no element, and isn't odd
-blank_alone : (b e f : Bool) → Blank ≡ (if b then Blank else if e then OfElement else if f then Other else Odd)
-    → (b ≡ true → e ≡ false) → (b ≡ true) × ((e ≡ false) × ((not b && not e && not f) ≡ false))
-blank_alone true e f is none = (refl, (none refl, refl))
-blank_alone false true f is none = absurd cc
-blank_alone false false true is none = absurd cc
-blank_alone false false false is none = absurd cc
+-- what a kind says of a line: whether it is blank, has an element, and is odd
+abbrev kind_tests : LineKind → Bool × (Bool × Bool)
+kind_tests Blank = (true, (false, false))
+kind_tests OfElement = (false, (true, false))
+kind_tests Other = (false, (false, false))
+kind_tests Odd = (false, (false, true))
 
--- what has an element isn't blank, nor odd
-element_alone : (b e f : Bool) → OfElement ≡ (if b then Blank else if e then OfElement else if f then Other else Odd)
-    → (b ≡ false) × ((e ≡ true) × ((not b && not e && not f) ≡ false))
-element_alone true e f is = absurd cc
-element_alone false true f is = (refl, (refl, refl))
-element_alone false false true is = absurd cc
-element_alone false false false is = absurd cc
-
--- what has another code is none of these
-other_alone : (b e f : Bool) → Other ≡ (if b then Blank else if e then OfElement else if f then Other else Odd)
-    → (b ≡ false) × ((e ≡ false) × ((not b && not e && not f) ≡ false))
-other_alone true e f is = absurd cc
-other_alone false true f is = absurd cc
-other_alone false false true is = (refl, (refl, refl))
-other_alone false false false is = absurd cc
-
--- what is odd isn't blank and has no element
-odd_alone : (b e f : Bool) → Odd ≡ (if b then Blank else if e then OfElement else if f then Other else Odd)
-    → (b ≡ false) × ((e ≡ false) × ((not b && not e && not f) ≡ true))
-odd_alone true e f is = absurd cc
-odd_alone false true f is = absurd cc
-odd_alone false false true is = absurd cc
-odd_alone false false false is = (refl, (refl, refl))
+-- by the tests that find the kind, of which a blank line passes one alone
+of_kind : (b e f : Bool) (k : LineKind) → (b ≡ true → e ≡ false)
+    → k ≡ (if b then Blank else if e then OfElement else if f then Other else Odd)
+    → (b ≡ (kind_tests k).0) × ((e ≡ (kind_tests k).1.0) × ((not b && not e && not f) ≡ (kind_tests k).1.1))
+of_kind true e f k none is = rw is (refl, (none refl, refl))
+of_kind false true f k none is = rw is (refl, (refl, refl))
+of_kind false false true k none is = rw is (refl, (refl, refl))
+of_kind false false false k none is = rw is (refl, (refl, refl))
 
 -- so it is with a line of this kind
 pub blank_kind : (line : List ℕ) → Blank ≡ line_kind line
     → (is_blank line ≡ true) × ((has_element line ≡ false) × (is_odd line ≡ false))
-blank_kind line is = blank_alone (is_blank line) (has_element line) (has_form line) is (blank_line line)
+blank_kind line is = of_kind (is_blank line) (has_element line) (has_form line) Blank (blank_line line) is
 
 pub element_kind : (line : List ℕ) → OfElement ≡ line_kind line
     → (is_blank line ≡ false) × ((has_element line ≡ true) × (is_odd line ≡ false))
-element_kind line is = element_alone (is_blank line) (has_element line) (has_form line) is
+element_kind line is = of_kind (is_blank line) (has_element line) (has_form line) OfElement (blank_line line) is
 
 pub other_kind : (line : List ℕ) → Other ≡ line_kind line
     → (is_blank line ≡ false) × ((has_element line ≡ false) × (is_odd line ≡ false))
-other_kind line is = other_alone (is_blank line) (has_element line) (has_form line) is
+other_kind line is = of_kind (is_blank line) (has_element line) (has_form line) Other (blank_line line) is
 
 pub odd_kind : (line : List ℕ) → Odd ≡ line_kind line
     → (is_blank line ≡ false) × ((has_element line ≡ false) × (is_odd line ≡ true))
-odd_kind line is = odd_alone (is_blank line) (has_element line) (has_form line) is
+odd_kind line is = of_kind (is_blank line) (has_element line) (has_form line) Odd (blank_line line) is
 
 -- ---- the end of a file
 
--- the place of a file, if it is foreign
-place_if : (foreign : Bool) (n : ℕ) (file : List ℕ)
-    → map (λ (f : ℕ × List ℕ). f.0) (cond foreign ((0 + n, file) ∷ []) []) ≡ (if foreign then n ∷ [] else [])
-place_if true n file = ap (λ k. k ∷ []) (omega arith)
-place_if false n file = refl
-
 -- the places of the foreign files, with one file more
 places-more : (ended : List (List ℕ)) (whole : List ℕ) → foreign_places (ended ++ whole ∷ [])
-    ≡ foreign_places ended ++ (if is_foreign whole then length ended ∷ [] else [])
+    ≡ foreign_places ended ++ map (λ (f : ℕ × List ℕ). f.0) (cond (is_foreign whole) ((length ended, whole) ∷ []) [])
 places-more ended whole =
     simp (enumerate_from-append, filter-append, map-append)
-    (ap (λ (ps : List ℕ). foreign_places ended ++ ps) (place_if (is_foreign whole) (length ended) whole))
+    (ap (λ n. foreign_places ended ++ map (λ (f : ℕ × List ℕ). f.0) (cond (is_foreign whole) ((n, whole) ∷ []) []))
+    (omega arith))
 
 -- the first of some places, with one more
 first-more : (places : List ℕ) (place : ℕ)
@@ -210,8 +160,7 @@ pub foreign-added : (old new : Foreign) (ended : List (List ℕ)) (whole : List 
     → place ≤ 2 ^ 20 → is_foreign whole ≡ true → old ≡ foreign_of ended → AddsForeign old new place
     → new ≡ foreign_of (ended ++ whole ∷ [])
 foreign-added old new ended whole place at few foreign is adds =
-    let one : count_by is_foreign (ended ++ whole ∷ []) ≡ count_by is_foreign ended + 1 =
-    sum_by-append (λ f. cond (is_foreign f) 1 0) ended (whole ∷ []) ∙ rw foreign refl in
+    let one = rw foreign at (sum_by_push (λ f. cond (is_foreign f) 1 0) ended whole) in
     let count : new.count ≡ count_by is_foreign (ended ++ whole ∷ []) =
     omega (arith, adds.count, one, ap (λ (f : Foreign). f.count) is, count_by-le-length is_foreign ended, at, few) in
     let first : new.first ≡ slice_get (foreign_places (ended ++ whole ∷ [])) 0 =
@@ -235,25 +184,19 @@ same_test c ended whole is = rw (is.has_line, is.has_element) refl
 -- the counts of the lines of one file more
 pub counted-end : (old : LineCounts) (n : ℕ) (foreign : Foreign) (ended : List (List ℕ)) (whole : List ℕ)
     → n ≡ old.lines + length (lines whole) → foreign ≡ foreign_of (ended ++ whole ∷ [])
-    → HaveCounted old ended whole → HaveCounted (record {
+    → HaveCounted old ended whole → HaveCounted (record old {
       lines = n;
-      blank = old.blank;
-      warnings = record { foreign = foreign; odd = old.warnings.odd };
+      warnings = record old.warnings { foreign = foreign };
       has_line = false;
       has_element = false;
     }) (ended ++ whole ∷ []) []
 counted-end old n foreign ended whole more same is =
     let all : all_lines (ended ++ whole ∷ []) ≡ all_lines ended ++ lines whole =
-    flat_map-append lines ended (whole ∷ [])
-    ∙ ap (λ (ls : List (List ℕ)). all_lines ended ++ ls) (append-nil (lines whole)) in
+    rw (flat_map-append lines ended (whole ∷ []), append-nil (lines whole)) refl in
     record {
       number = omega (arith, more, is.number, ap length all, length-append (all_lines ended) (lines whole));
-      blank = omega (
-        arith,
-        is.blank,
-        ap (count_by is_blank) all,
-        sum_by-append (λ l. cond (is_blank l) 1 0) (all_lines ended) (lines whole),
-      );
+      blank = rw all
+          (omega (arith, is.blank, sum_by-append (λ l. cond (is_blank l) 1 0) (all_lines ended) (lines whole)));
       foreign = same;
       odd = rw (daily_lines-one ended whole, append-nil (daily_lines ended ++ file_lines (length ended + 1, whole)))
           is.odd;

@@ -1,13 +1,12 @@
 -- The usable days of months of different times are different days.
-use Rattle.std.proofs.Common.{◌≡◌, ℕ, ◌+◌, ◌≤◌, Bool, true, false, cond, List, [], ◌∷◌, ◌++◌, Option, Some, None}
+use Rattle.std.proofs.Common.{◌≡◌, ℕ, ◌+◌, ◌≤◌, Bool, true, false, List, [], ◌∷◌, ◌++◌, Option, Some, None}
 use Rattle.std.proofs.Common.{refl, sym, ap, ◌∙◌, subst, arith, ℤ, pos}
 use Rattle.std.specs.Prelude.{◌||◌, int_le}
 use Rattle.std.specs.Ordering.{int_eq}
 use Rattle.std.specs.List.{filter_map, flat_map, enumerate_from, cons_option, IsDistinct, AllByRecursion}
 use Rattle.std.specs.Option.{option_and_then}
 use Rattle.std.specs.Map.{keys_of}
-use Rattle.std.proofs.lemmas.Bool.Decides.{Decides-int_eq}
-use Rattle.std.proofs.lemmas.Bool.{false_from_ne_true, both_ways, and_from, eq-eqb}
+use Rattle.std.proofs.lemmas.Bool.{both_ways, and_from, eq-eqb}
 use Rattle.ghcn_fields.specs.Days.{day_number}
 use Rattle.ghcn_fields.specs.Dates.{civil}
 use Rattle.ghcn_fields.proofs.CivilDates.{civil-is}
@@ -17,9 +16,10 @@ use Rattle.ghcn_files.specs.Elements.{may_be_negative}
 use Rattle.ghcn_series.specs.Series.{DayValue}
 use Rattle.ghcn_series.specs.Says.{fact_if}
 use Rattle.ghcn_series.specs.Gathered.{counted_day, usable_day, usable_days, same_time}
+use Rattle.ghcn_series.proofs.Lookups.{int_eq-no}
 use Rattle.ghcn_series.proofs.MonthDays.{has_number, civil_of}
 use Rattle.ghcn_series.proofs.ListFacts.{each-append, both_distinct, each-weaker}
-use Rattle.std.proofs.lemmas.Option.{same_Some}
+use Rattle.std.proofs.lemmas.Option.{cond_some}
 use Rattle.std.proofs.lemmas.List.{map-append}
 
 -- a day's number gives its date back
@@ -36,8 +36,7 @@ IsDayOf m j n = day_number m.year m.month j ≡ Some n
 apart_by_date : (a b : Month) (i j : ℕ) (m n : ℤ) → (a.year ≡ b.year → a.month ≡ b.month → i ≡ j → ⊥)
     → IsDayOf a i m → IsDayOf b j n → int_eq m n ≡ false
 apart_by_date a b i j m n other p q =
-    false_from_ne_true (int_eq m n) (λ eq.
-    let same : m ≡ n = (Decides-int_eq m n).0 eq in
+    int_eq-no m n (λ same.
     let dates : ◌≡◌ {A = ℕ × ℕ × ℕ} (a.year, a.month, i) (b.year, b.month, j) = sym (date_is a.year a.month i m p)
     ∙ ap civil same ∙ date_is b.year b.month j n q in
     other (ap (λ (t : ℕ × ℕ × ℕ). t.0) dates) (ap (λ (t : ℕ × ℕ × ℕ). t.1) dates)
@@ -54,11 +53,8 @@ parts_of m true o v d e = absurd cc
 parts_of m false None v d e = absurd cc
 parts_of m false (Some n) None d e = absurd cc
 parts_of m false (Some n) (Some v) d e =
-    elim (may_be_negative m.element || int_le (pos 0) v) as (λ b. (may_be_negative m.element || int_le (pos 0) v) ≡ b
-    → cond b (Some (n, v)) None ≡ Some d → Parts m (Some n) (Some v) d) [
-      | true ↦ λ counts is. subst (Parts m (Some n) (Some v)) (same_Some (n, v) d is) (refl, refl, counts)
-      | false ↦ λ counts is. absurd cc
-    ] refl e
+    let is = cond_some {A = DayValue} (may_be_negative m.element || int_le (pos 0) v) (n, v) d e in
+    subst (Parts m (Some n) (Some v)) is.1 (refl, refl, is.0)
 
 -- a usable day is the day of its place
 pub is_day_of : (m : Month) (j : ℕ) (r : Reading) (d : DayValue) → usable_day m (j, r) ≡ Some d → IsDayOf m j d.0
@@ -68,20 +64,6 @@ is_day_of m j r d e = (parts_of m r.flagged (day_number m.year m.month j) r.valu
 abbrev AreFrom : Month → ℕ → List ℤ → Type 0
 AreFrom m low days = AllByRecursion (λ n. (j : ℕ) × (low ≤ j) × IsDayOf m j n) days
 
--- the usable days of readings from a place on are at such places
-usable_from : (m : Month) (low : ℕ) (rs : List Reading)
-    → AreFrom m low (keys_of (filter_map (usable_day m) (enumerate_from low rs)))
-usable_from m low [] = tt
-usable_from m low (r ∷ rs) =
-    let rest : List DayValue = filter_map (usable_day m) (enumerate_from (low + 1) rs) in
-    let later : AreFrom m low (keys_of rest) =
-    each-weaker (λ n. (j : ℕ) × (low + 1 ≤ j) × IsDayOf m j n) _ (keys_of rest)
-    (λ n of. (of.0, omega (arith, of.1), of.2)) (usable_from m (low + 1) rs) in
-    elim (usable_day m (low, r)) as (λ o. usable_day m (low, r) ≡ o → AreFrom m low (keys_of (cons_option o rest))) [
-      | None ↦ λ is. later
-      | Some d ↦ λ is. ((low, omega arith, is_day_of m low r d is), later)
-    ] refl
-
 -- a day is none of those of other dates
 apart_from : (a b : Month) (i low : ℕ) (n : ℤ) (days : List ℤ)
     → ((j : ℕ) → low ≤ j → a.year ≡ b.year → a.month ≡ b.month → i ≡ j → ⊥) → IsDayOf a i n → AreFrom b low days
@@ -90,20 +72,25 @@ apart_from a b i low n days other is =
     each-weaker (λ k. (j : ℕ) × (low ≤ j) × IsDayOf b j k) (λ k. int_eq n k ≡ false) days
     (λ k of. apart_by_date a b i of.0 n k (other of.0 of.1) is of.2)
 
--- the usable days of one month differ
-distinct_in_month : (m : Month) (low : ℕ) (rs : List Reading)
-    → IsDistinct int_eq (keys_of (filter_map (usable_day m) (enumerate_from low rs)))
+-- the usable days of readings from a place on are at such places, and differ
+usable_from : (m : Month) (low : ℕ) (rs : List Reading)
+    → AreFrom m low (keys_of (filter_map (usable_day m) (enumerate_from low rs)))
+    × IsDistinct int_eq (keys_of (filter_map (usable_day m) (enumerate_from low rs)))
 unfolding IsDistinct
-distinct_in_month m low [] = tt
-distinct_in_month m low (r ∷ rs) =
+usable_from m low [] = (tt, tt)
+usable_from m low (r ∷ rs) =
+    let rest : List DayValue = filter_map (usable_day m) (enumerate_from (low + 1) rs) in
+    let both = usable_from m (low + 1) rs in
+    let later : AreFrom m low (keys_of rest) =
+    each-weaker (λ n. (j : ℕ) × (low + 1 ≤ j) × IsDayOf m j n) _ (keys_of rest)
+    (λ n of. (of.0, omega (arith, of.1), of.2)) both.0 in
     elim (usable_day m (low, r)) as (λ o. usable_day m (low, r) ≡ o
-    → IsDistinct int_eq (keys_of (cons_option o (filter_map (usable_day m) (enumerate_from (low + 1) rs))))) [
-      | None ↦ λ is. distinct_in_month m (low + 1) rs
-      | Some d ↦ λ is. (
-        apart_from m m low (low + 1) d.0 _ (λ j le _ _ e. omega (arith, le, e)) (is_day_of m low r d is)
-            (usable_from m (low + 1) rs),
-        distinct_in_month m (low + 1) rs,
-      )
+    → AreFrom m low (keys_of (cons_option o rest)) × IsDistinct int_eq (keys_of (cons_option o rest))) [
+      | None ↦ λ is. (later, both.1)
+      | Some d ↦ λ is.
+          let own = is_day_of m low r d is in
+          let other = apart_from m m low (low + 1) d.0 (keys_of rest) (λ j le _ _ e. omega (arith, le, e)) own both.0 in
+          (((low, omega arith, own), later), (other, both.1))
     ] refl
 
 -- the days of two lists are those of both
@@ -118,7 +105,7 @@ apart_from_others a i n (b ∷ bs) all is =
     rw (keys_of-append (usable_days b) (flat_map usable_days bs))
     (each-append (λ k. int_eq n k ≡ false) (keys_of (usable_days b)) (keys_of (flat_map usable_days bs))
     (apart_from a b i 1 n _ (λ j le year month _. both_ways (same_time a b) all.0
-    (and_from _ _ (eq-eqb a.year b.year year) (eq-eqb a.month b.month month))) is (usable_from b 1 b.days))
+    (and_from _ _ (eq-eqb a.year b.year year) (eq-eqb a.month b.month month))) is (usable_from b 1 b.days).0)
     (apart_from_others a i n bs all.1 is))
 
 -- months of different times have different usable days
@@ -127,6 +114,6 @@ unfolding IsDistinct
 distinct_days [] distinct = tt
 distinct_days (m ∷ ms) distinct =
     rw (keys_of-append (usable_days m) (flat_map usable_days ms))
-    (both_distinct int_eq (keys_of (usable_days m)) (keys_of (flat_map usable_days ms)) (distinct_in_month m 1 m.days)
+    (both_distinct int_eq (keys_of (usable_days m)) (keys_of (flat_map usable_days ms)) (usable_from m 1 m.days).1
     (distinct_days ms distinct.1) (each-weaker (λ n. (j : ℕ) × (1 ≤ j) × IsDayOf m j n)
-    _ (keys_of (usable_days m)) (λ x of. apart_from_others m of.0 x ms distinct.0 of.2) (usable_from m 1 m.days)))
+    _ (keys_of (usable_days m)) (λ x of. apart_from_others m of.0 x ms distinct.0 of.2) (usable_from m 1 m.days).0))

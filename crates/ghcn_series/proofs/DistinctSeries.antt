@@ -1,5 +1,5 @@
 -- No two series have the same station and element.
-use Rattle.std.proofs.Common.{◌≡◌, false, List, [], ◌∷◌, map}
+use Rattle.std.proofs.Common.{◌≡◌, false, List, [], ◌∷◌, map, refl}
 use Rattle.std.specs.List.{flat_map, AllByRecursion, IsDistinct}
 use Rattle.std.proofs.lemmas.Bool.{and_left, and_right}
 use Rattle.ghcn_files.specs.declared.station.Station.{Station}
@@ -11,25 +11,18 @@ use Rattle.ghcn_series.specs.Series.{Usable}
 use Rattle.ghcn_series.specs.Says.{Fact, usable_of}
 use Rattle.ghcn_series.specs.Held.{same_series}
 use Rattle.ghcn_series.proofs.Places.{ids}
-use Rattle.ghcn_series.proofs.StationMonths.{elements_differ}
 use Rattle.ghcn_series.proofs.ListFacts.{each-append, both_distinct}
 
 -- ---- no two series have the same station and element
 
--- the series of one element is none of those of the others
-others_apart : (facts : List Fact) (s : Station) (e : Element) (es : List Element)
-    → AllByRecursion (λ f. same_element e f ≡ false) es
-    → AllByRecursion (λ u. same_series (usable_of facts s e) u ≡ false) (map (usable_of facts s) es)
-others_apart facts s e [] other = tt
-others_apart facts s e (f ∷ fs) other =
-    (and_right (same_id s.id s.id) (same_element e f) other.0, others_apart facts s e fs other.1)
-
 -- the series of distinct elements are distinct
-elements_apart : (facts : List Fact) (s : Station) (es : List Element) → IsDistinct same_element es
-    → IsDistinct same_series (map (usable_of facts s) es)
+elements_apart : (facts : List Fact) (s : Station) → IsDistinct same_series (map (usable_of facts s) elements)
 unfolding IsDistinct
-elements_apart facts s [] apart = tt
-elements_apart facts s (e ∷ es) apart = (others_apart facts s e es apart.0, elements_apart facts s es apart.1)
+elements_apart facts s =
+    let no = and_right (same_id s.id s.id) false refl in (
+      (no, (no, (no, (no, tt)))),
+      ((no, (no, (no, tt))), ((no, (no, tt)), ((no, tt), (tt, tt)))),
+    )
 
 -- all that may be said of these stations
 abbrev pub all_said : List Fact → List Station → List Usable
@@ -52,5 +45,5 @@ stations_apart facts [] apart = tt
 stations_apart facts (s ∷ ss) apart =
     let each = λ (e : Element). ids_apart facts (usable_of facts s e) ss apart.0 in
     both_distinct same_series (map (usable_of facts s) elements) (all_said facts ss)
-    (elements_apart facts s elements elements_differ) (stations_apart facts ss apart.1)
+    (elements_apart facts s) (stations_apart facts ss apart.1)
     (each Prcp, (each Snow, (each Snwd, (each Tmax, (each Tmin, tt)))))

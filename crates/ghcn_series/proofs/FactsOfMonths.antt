@@ -1,11 +1,10 @@
 -- The facts that count, of one station and element, are the usable days of its months.
 use Rattle.std.proofs.Common.{◌≡◌, ℕ, Bool, true, false, cond, List, [], ◌∷◌, ◌++◌, map, filter, Option, None, Some}
-use Rattle.std.proofs.Common.{refl, ap, subst, ◌∙◌, ℤ, pos}
+use Rattle.std.proofs.Common.{refl, ap, ◌∙◌, arith, ℤ, pos}
 use Rattle.std.specs.Prelude.{◌&&◌, ◌||◌, int_le}
 use Rattle.std.specs.List.{filter_map, flat_map, enumerate_from, cons_option}
 use Rattle.std.specs.Option.{option_and_then}
 use Rattle.std.proofs.lemmas.List.{map-append}
-use Rattle.std.proofs.lemmas.Option.{same_Some}
 use Rattle.std.proofs.lemmas.List.Elements.{filter-append}
 use Rattle.std.proofs.lemmas.Bool.{and_parts}
 use Rattle.ghcn_files.specs.declared.station.StationId.{StationId}
@@ -21,17 +20,16 @@ use Rattle.ghcn_series.specs.Says.{Fact, fact_of, fact_if, facts_of, is_usable}
 use Rattle.ghcn_series.specs.Gathered.{counted_day, usable_day, usable_days, months_of}
 use Rattle.ghcn_files.proofs.IdLaws.{same_id-is}
 
--- a fact has its month's station and element
-abbrev pub OfMonth : Month → Fact → Type 0
-OfMonth m f = (f.id ≡ m.id) × (f.element ≡ m.element)
+-- a fact of a month is of its station and element, and of a day that isn't flagged, with its value
+pub fact_parts : (m : Month) (flagged : Bool) (day value : Option ℤ) (f : Fact) → fact_if m flagged day value ≡ Some f
+    → (flagged ≡ false) × (day ≡ Some f.day) × (value ≡ Some f.value) × (f.id ≡ m.id) × (f.element ≡ m.element)
+fact_parts m flagged day value f e = grind arith
 
--- a fact of a month has its station, element, day and value
-pub of_month : (m : Month) (b : Bool) (o v : Option ℤ) (f : Fact) → fact_if m b o v ≡ Some f → OfMonth m f
-of_month m true o v f e = absurd cc
-of_month m false None v f e = absurd cc
-of_month m false (Some n) None f e = absurd cc
-of_month m false (Some n) (Some v) f e =
-    subst (OfMonth m) (same_Some (record { id = m.id; element = m.element; day = n; value = v }) f e) (refl, refl)
+-- something more that is there or isn't is kept if it is there and passes a test
+one_kept : {X Y : Type 0} (test : X → Bool) (g : X → Y) (there passes : Bool) (x : X) (xs : List X)
+    → test x ≡ passes → map g (filter test (cond there (x ∷ xs) xs))
+    ≡ cons_option (cond passes (cond there (Some (g x)) None) None) (map g (filter test xs))
+one_kept test g there passes x xs is = grind arith
 
 module _ (stations : List Station) (id : StationId) (e : Element) where
   -- the fact has this station and element
@@ -48,25 +46,7 @@ module _ (stations : List Station) (id : StationId) (e : Element) where
 
   -- what is selected of two lists is that of both
   selected-append : (xs ys : List Fact) → selected (xs ++ ys) ≡ selected xs ++ selected ys
-  selected-append xs ys =
-      simp (filter-append, map-append)
-
-  -- a fact of the station and element is selected if it counts
-  one_selected : (c : Bool) (f : Fact) (fs : List Fact) → is_of f ≡ true
-      → map pair (filter is_of (cond c (f ∷ fs) fs)) ≡ cons_option (cond c (Some (pair f)) None)
-      (map pair (filter is_of fs))
-  one_selected true f fs of = ap (λ b. map pair (cond b (f ∷ filter is_of fs) (filter is_of fs))) of
-  one_selected false f fs of = refl
-
-  -- a fact of another isn't
-  none_selected : (u : Bool) (f : Fact) (fs : List Fact) → is_of f ≡ false
-      → map pair (filter is_of (cond u (f ∷ fs) fs)) ≡ map pair (filter is_of fs)
-  none_selected true f fs of = ap (λ b. map pair (cond b (f ∷ filter is_of fs) (filter is_of fs))) of
-  none_selected false f fs of = refl
-
-  -- a fact has a station and element if and only if its month does
-  is_of-month : (m : Month) (f : Fact) → OfMonth m f → is_of f ≡ (same_id m.id id && same_element m.element e)
-  is_of-month m f of = rw (of.0, of.1) refl
+  selected-append xs ys = simp (filter-append, map-append)
 
   -- of a month of the station and element
   selected-this : (m : Month) (xs : List (ℕ × Reading)) → is_listed stations id ≡ true
@@ -78,12 +58,12 @@ module _ (stations : List Station) (id : StationId) (e : Element) where
       ≡ cons_option (option_and_then counted_day o) (filter_map (usable_day m) xs)) [
         | None ↦ λ is. selected-this m xs listed this
         | Some f ↦ λ is.
-            let of = of_month m x.1.flagged _ x.1.value f is in
+            let of = fact_parts m x.1.flagged _ x.1.value f is in
             let same : m.id ≡ id = same_id-is m.id id (and_parts (same_id m.id id) (same_element m.element e) this).0 in
-            let known : is_listed stations f.id ≡ true = ap (is_listed stations) (of.0 ∙ same) ∙ listed in
+            let known : is_listed stations f.id ≡ true = ap (is_listed stations) (of.3 ∙ same) ∙ listed in
             rw (known, ← selected-this m xs listed this)
-            (one_selected (may_be_negative f.element || int_le (pos 0) f.value) f
-            (filter (is_usable stations) (filter_map (fact_of m) xs)) (is_of-month m f of ∙ this))
+            (one_kept is_of pair (may_be_negative f.element || int_le (pos 0) f.value) true f
+            (filter (is_usable stations) (filter_map (fact_of m) xs)) (rw (of.3, of.4) this))
       ] refl
 
   -- of any other month
@@ -94,9 +74,9 @@ module _ (stations : List Station) (id : StationId) (e : Element) where
       elim (fact_of m x) as (λ o. fact_of m x ≡ o → selected (cons_option o (filter_map (fact_of m) xs)) ≡ []) [
         | None ↦ λ is. selected-other m xs other
         | Some f ↦ λ is.
-            let of = of_month m x.1.flagged _ x.1.value f is in
-            none_selected (is_usable stations f) f (filter (is_usable stations) (filter_map (fact_of m) xs))
-            (is_of-month m f of ∙ other)
+            let of = fact_parts m x.1.flagged _ x.1.value f is in
+            one_kept is_of pair (is_usable stations f) false f
+            (filter (is_usable stations) (filter_map (fact_of m) xs)) (rw (of.3, of.4) other)
             ∙ selected-other m xs other
       ] refl
 

@@ -1,12 +1,11 @@
 -- A cutter that counts files.
-use Rattle.std.proofs.Common.{◌≡◌, ℕ, true, false, ◌+◌, ◌<◌, ◌≤◌, ◌^◌, List, [], ◌∷◌, ◌++◌, length}
-use Rattle.std.proofs.Common.{sym, ap, ◌∙◌, refl, length-append, arith}
+use Rattle.std.proofs.Common.{◌≡◌, ℕ, true, false, ◌+◌, ◌<◌, ◌≤◌, ◌^◌, min, List, [], ◌∷◌, ◌++◌, length}
+use Rattle.std.proofs.Common.{◌∙◌, refl, length-append, arith}
 use Rattle.std.proofs.lemmas.Bool.Decides.{nat_tests}
 use Rattle.ghcn_series.specs.declared.cutter.Cutter.{Cutter}
 use Rattle.ghcn_series.specs.Says.{in_64_bits}
 use Rattle.ghcn_series.specs.Fed.{Files, more, with_end, and_current, files_of}
 use Rattle.ghcn_series.specs.Cut.{HasCounted}
-use Rattle.ghcn_series.proofs.ReadMonths.{capped}
 
 -- a current file with a byte counts
 pub and_current-some : (ended : List (List ℕ)) (current : List ℕ) → 0 < length current
@@ -14,10 +13,11 @@ pub and_current-some : (ended : List (List ℕ)) (current : List ℕ) → 0 < le
 and_current-some ended [] lt = absurd (omega arith)
 and_current-some ended (b ∷ bs) lt = refl
 
--- there are no fewer files than were ended
-ended_first : (ended : List (List ℕ)) (current : List ℕ) → length ended ≤ length (and_current ended current)
-ended_first ended [] = omega arith
-ended_first ended (b ∷ bs) = omega (arith, length-append ended ((b ∷ bs) ∷ []))
+-- there are as many files as were ended, and one more if the current one has a byte
+with_current : (ended : List (List ℕ)) (current : List ℕ)
+    → length (and_current ended current) ≡ length ended + min 1 (length current)
+with_current ended [] = omega arith
+with_current ended (b ∷ bs) = omega (arith, length-append ended ((b ∷ bs) ∷ []))
 
 -- more bytes of the current file are counted
 pub counted-more : {L : Type 0} (old new : Cutter L) (files : Files) (bytes : List ℕ) → 0 < length bytes
@@ -31,52 +31,34 @@ counted-more old new files bytes some ended begun is = record {
 pub counted-end : {L : Type 0} (old new : Cutter L) (files : Files) → new.ended ≡ in_64_bits (old.ended + 1)
     → new.begun ≡ false → HasCounted old files → HasCounted new (with_end files)
 counted-end old new files ended begun is = record {
-  ended = ended ∙ ap (λ n. in_64_bits (n + 1)) is.ended ∙ capped (length files.ended)
-      ∙ ap in_64_bits (sym (length-append files.ended (files.current ∷ [])));
+  ended = omega (arith, ended, is.ended, length-append files.ended (files.current ∷ []));
   begun = begun;
 }
 
 -- if the files are few, the cutter is at the one after those that were ended
 pub at_file : {L : Type 0} (c : Cutter L) (files : Files) → length (files_of files) ≤ 2 ^ 20 → HasCounted c files
     → c.ended ≡ length files.ended
-at_file c files few is = omega (arith, is.ended, few, ended_first files.ended files.current)
+at_file c files few is = omega (arith, is.ended, few, with_current files.ended files.current)
 
 -- whose place is one of the first
 pub at_place : {L : Type 0} (c : Cutter L) (files : Files) → length (files_of files) ≤ 2 ^ 20 → HasCounted c files
     → c.ended ≤ 2 ^ 20
-at_place c files few is =
-    omega (arith, at_file c files few is, few, ended_first files.ended files.current)
+at_place c files few is = omega (arith, at_file c files few is, few, with_current files.ended files.current)
 
 -- and there is a number for that one, if it has a byte
 pub may_be_read : {L : Type 0} (c : Cutter L) (files : Files) → length (files_of files) ≤ 2 ^ 20
     → 0 < length files.current → HasCounted c files → c.ended < 2 ^ 20
 may_be_read c files few some is =
-    omega (
-      arith,
-      at_file c files few is,
-      few,
-      ap length (and_current-some files.ended files.current some),
-      length-append files.ended (files.current ∷ []),
-    )
+    omega (arith, at_file c files few is, few, some, with_current files.ended files.current)
 
 -- there were no more files before the last bytes of the current one
-few_in : (ended : List (List ℕ)) (current bytes : List ℕ) → length (and_current ended (current ++ bytes)) ≤ 2 ^ 20
-    → length (and_current ended current) ≤ 2 ^ 20
-few_in ended [] bytes few = omega (arith, few, ended_first ended bytes)
-few_in ended (b ∷ bs) bytes few =
-    omega (arith, few, length-append ended ((b ∷ bs) ∷ []), length-append ended ((b ∷ bs ++ bytes) ∷ []))
-
--- and so it is with files as they come
 pub few_before : (files : Files) (bytes : List ℕ) → length (files_of (more files bytes)) ≤ 2 ^ 20
     → length (files_of files) ≤ 2 ^ 20
-few_before files bytes few = few_in files.ended files.current bytes few
+few_before files bytes few =
+    let all = with_current files.ended files.current in
+    omega (arith, few, all, with_current files.ended (files.current ++ bytes), length-append files.current bytes)
 
 -- nor before the end of the current one
-few_in_end : (ended : List (List ℕ)) (current : List ℕ) → length (ended ++ current ∷ []) ≤ 2 ^ 20
-    → length (and_current ended current) ≤ 2 ^ 20
-few_in_end ended [] few = omega (arith, few, length-append ended ([] ∷ []))
-few_in_end ended (b ∷ bs) few = few
-
--- so it is with files as they come
 pub few_at_end : (files : Files) → length (files_of (with_end files)) ≤ 2 ^ 20 → length (files_of files) ≤ 2 ^ 20
-few_at_end files few = few_in_end files.ended files.current few
+few_at_end files few =
+    omega (arith, few, with_current files.ended files.current, length-append files.ended (files.current ∷ []))

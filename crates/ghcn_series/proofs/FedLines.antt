@@ -1,36 +1,21 @@
 -- The lines of files, of which one more line or file has come.
-use Rattle.std.proofs.Common.{◌≡◌, ℕ, ◌+◌, List, [], ◌∷◌, ◌++◌, length}
-use Rattle.std.proofs.Common.{ap, ◌∙◌, arith, map, filter, not, refl}
+use Rattle.std.proofs.Common.{◌≡◌, ℕ, ◌+◌, List, [], ◌∷◌, ◌++◌, length, ap, arith, refl}
 use Rattle.std.specs.List.{flat_map, enumerate_from}
 use Rattle.std.proofs.lemmas.List.{append-nil, map-append}
 use Rattle.std.proofs.lemmas.List.Elements.{filter-append}
 use Rattle.std.proofs.lemmas.Grind.{flat_map-append}
-use Rattle.ghcn_fields.specs.Bytes.{is_blank}
-use Rattle.ghcn_fields.specs.Lines.{lines, numbered_lines, EndsLine}
+use Rattle.std.proofs.lemmas.Simd.{map-map}
+use Rattle.ghcn_fields.specs.Lines.{lines, EndsLine}
 use Rattle.ghcn_files.proofs.LineLaws.{lines-append, enumerate_from-append}
-use Rattle.ghcn_series.specs.DailyFaults.{FileLine, file_line, not_blank, file_lines, daily_lines}
+use Rattle.ghcn_series.specs.DailyFaults.{FileLine, not_blank, file_lines, daily_lines}
 use Rattle.ghcn_series.specs.LinesRead.{line_texts}
-
--- the numbered lines of a text that ends a line, and then others, numbered on
-numbered_lines-append : (whole rest : List ℕ) → EndsLine whole
-    → numbered_lines (whole ++ rest) ≡ numbered_lines whole ++ enumerate_from (1 + length (lines whole)) (lines rest)
-numbered_lines-append whole rest ends =
-    ap (enumerate_from 1) (lines-append whole rest ends) ∙ enumerate_from-append 1 (lines whole) (lines rest)
 
 -- the lines of a file, of which the first part ends a line
 pub file_lines-append : (file : ℕ) (whole tail : List ℕ) → EndsLine whole
     → file_lines (file, whole ++ tail) ≡ file_lines (file, whole) ++ not_blank file
     (enumerate_from (1 + length (lines whole)) (lines tail))
 file_lines-append file whole tail ends =
-    rw (numbered_lines-append whole tail ends) (simp (filter-append, map-append))
-
--- and whose other part is one line
-pub file_lines-one : (file : ℕ) (whole tail line : List ℕ) → EndsLine whole → lines tail ≡ line ∷ []
-    → file_lines (file, whole ++ tail) ≡ file_lines (file, whole) ++ not_blank file
-    ((length (lines whole) + 1, line) ∷ [])
-file_lines-one file whole tail line ends one =
-    rw (file_lines-append file whole tail ends, one)
-    (ap (λ n. file_lines (file, whole) ++ not_blank file ((n, line) ∷ [])) (omega arith))
+    rw (lines-append whole tail ends) (simp (enumerate_from-append, filter-append, map-append))
 
 -- the lines of files from a number on
 pub lines_from : ℕ → List (List ℕ) → List FileLine
@@ -56,8 +41,7 @@ lines_from-cons n file files = refl
 pub daily_lines-append : (files others : List (List ℕ))
     → daily_lines (files ++ others) ≡ daily_lines files ++ lines_from (1 + length files) others
 unfolding lines_from
-daily_lines-append files others =
-    simp (enumerate_from-append, flat_map-append)
+daily_lines-append files others = simp (enumerate_from-append, flat_map-append)
 
 -- the lines of one file more
 pub daily_lines-one : (files : List (List ℕ)) (file : List ℕ)
@@ -67,24 +51,11 @@ daily_lines-one files file =
     rw (daily_lines-append files (file ∷ []))
     (simp append-nil (ap (λ n. daily_lines files ++ file_lines (n, file)) (omega arith)))
 
--- what is on the lines of a file doesn't depend on its number
-texts-numbered : (a b : ℕ) (ls : List (ℕ × List ℕ)) → line_texts (map (file_line a) ls) ≡ line_texts (map (file_line b) ls)
-texts-numbered a b [] = refl
-texts-numbered a b (l ∷ ls) = ap (λ (ts : List (List ℕ)). l.1 ∷ ts) (texts-numbered a b ls)
-
--- nor does it on those of files
+-- what is on the lines of files doesn't depend on the files' numbers
 texts-from : (a b : ℕ) (files : List (List ℕ)) → line_texts (lines_from a files) ≡ line_texts (lines_from b files)
 unfolding lines_from
 texts-from a b [] = refl
-texts-from a b (file ∷ files) =
-    let told = filter (λ (l : ℕ × List ℕ). not (is_blank l.1)) (numbered_lines file) in
-    rw (
-      map-append (λ (l : FileLine). l.bytes) (file_lines (a, file)) (lines_from (a + 1) files),
-      map-append (λ (l : FileLine). l.bytes) (file_lines (b, file)) (lines_from (b + 1) files),
-      texts-numbered a b told,
-      texts-from (a + 1) (b + 1) files,
-    )
-    refl
+texts-from a b (file ∷ files) = simp (map-append, map-map) (rw (texts-from (a + 1) (b + 1) files) refl)
 
 -- on the lines of files from any number on is what is on them from the first on
 pub texts-renumbered : (n : ℕ) (files : List (List ℕ)) → line_texts (lines_from n files) ≡ line_texts (daily_lines files)

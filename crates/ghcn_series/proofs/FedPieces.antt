@@ -1,8 +1,7 @@
 -- A cutter that has read one line more, one file's end more, or part of a line.
-use Rattle.std.proofs.Common.{◌≡◌, ℕ, ◌+◌, ◌<◌, List, [], ◌∷◌, ◌++◌, length}
-use Rattle.std.proofs.Common.{inl, inr, refl}
+use Rattle.std.proofs.Common.{◌≡◌, ℕ, ◌+◌, ◌<◌, List, [], ◌∷◌, ◌++◌, length, inl, inr, refl}
 use Rattle.std.proofs.Common.{sym, ap, ◌∙◌, subst, append_assoc, length-append, arith}
-use Rattle.std.specs.Prelude.{true, false, is_none, Option, None, Some, Result, Ok, Err, OnOk, IfErr}
+use Rattle.std.specs.Prelude.{◌==◌, true, false, is_none, Option, None, Some, Result, Ok, Err, OnOk, IfErr}
 use Rattle.std.specs.List.{enumerate_from}
 use Rattle.std.specs.Result.{result_err}
 use Rattle.std.specs.Str.Lines.{strip_carriage_return}
@@ -15,56 +14,51 @@ use Rattle.ghcn_series.specs.declared.fault.DataFault.TheVariants.{DailyLine, To
 use Rattle.ghcn_series.specs.Alike.{BeginAlike}
 use Rattle.ghcn_series.specs.Counted.{HaveCounted}
 use Rattle.ghcn_series.specs.Cut.{IsCutFile, lines_to, HasReadFed, HasLineFault, HasFault, AddsLine, RefusesLine}
-use Rattle.ghcn_series.specs.DailyFaults.{FileLine, not_blank, one_line, file_lines, daily_lines}
+use Rattle.ghcn_series.specs.DailyFaults.{not_blank, one_line, daily_lines}
 use Rattle.ghcn_series.specs.Fed.{Files, Fed, IsOfMemory, more, with_end, with_files}
 use Rattle.ghcn_series.specs.Gathered.{IsLineRefusal}
 use Rattle.ghcn_series.specs.LinesRead.{Reading}
 use Rattle.ghcn_series.proofs.AlikeBeginnings.{begin-same, begin-alike, begin-more, begin-some, begin-none}
 use Rattle.ghcn_series.proofs.CountedLines.{counted-line}
+use Rattle.ghcn_series.proofs.ListFacts.{each-append}
 use Rattle.ghcn_series.proofs.ReadLines.{refused_among}
-use Rattle.ghcn_series.proofs.FedLines.{file_lines-append, file_lines-one, daily_lines-one}
-
--- no line feed in two texts, one after the other
-no_line_feed-append : (xs ys : List ℕ) → HasNoLineFeed xs → HasNoLineFeed ys → HasNoLineFeed (xs ++ ys)
-no_line_feed-append [] ys p q = q
-no_line_feed-append (x ∷ xs) ys p q = (p.0, no_line_feed-append xs ys p.1 q)
+use Rattle.ghcn_series.proofs.FedLines.{file_lines-append, daily_lines-one}
 
 -- ---- files that are cut
-
--- the current file with a line and its line feed
-joined : (whole rest line behind : List ℕ) → (whole ++ rest) ++ (line ++ 10 ∷ behind)
-    ≡ (whole ++ ((rest ++ line) ++ 10 ∷ [])) ++ behind
-joined whole rest line behind = simp append_assoc
 
 -- the current file, cut after one line more
 cut_behind : (files : Files) (whole rest line behind : List ℕ) → IsCutFile files whole rest
     → IsCutFile (more files (line ++ 10 ∷ behind)) (whole ++ ((rest ++ line) ++ 10 ∷ [])) behind
 cut_behind files whole rest line behind cut = record {
-  parts = rw cut.parts (joined whole rest line behind);
+  parts = rw cut.parts (simp append_assoc);
   ends = inr (whole ++ (rest ++ line), sym (append_assoc whole (rest ++ line) (10 ∷ [])));
 }
 
--- bytes that are fed in two parts
-more-more : (fed : Fed) (a b c : List ℕ) → a ++ b ≡ c
-    → with_files fed (more (more fed.files a) b) ≡ with_files fed (more fed.files c)
-more-more fed a b c is = rw (← is, append_assoc) refl
+-- a line and its line feed, of which a first part was there
+lines-fed : (rest line : List ℕ) → HasNoLineFeed rest → HasNoLineFeed line
+    → lines ((rest ++ line) ++ 10 ∷ []) ≡ strip_carriage_return (rest ++ line) ∷ []
+lines-fed rest line none none_too =
+    lines-one (rest ++ line) (each-append (λ (b : ℕ). (b == 10) ≡ false) rest line none none_too)
 
 -- what is left of a file is its last line
 lines-rest : (rest : List ℕ) → 0 < length rest → HasNoLineFeed rest
     → lines rest ≡ strip_carriage_return (rest ++ []) ∷ []
 lines-rest [] some none = absurd (omega arith)
-lines-rest (b ∷ bs) some none = lines-unended b bs none
-    ∙ ap (λ (l : List ℕ). strip_carriage_return l ∷ []) (sym (append-nil (b ∷ bs)))
+lines-rest (b ∷ bs) some none = rw (append-nil bs) (lines-unended b bs none)
+
+-- the lines of the files, when the current one is ended
+lines_at_end : (files : Files) → lines_to (with_end files) [] ≡ lines_to files files.current
+lines_at_end files =
+    append-nil (daily_lines (files.ended ++ files.current ∷ [])) ∙ daily_lines-one files.ended files.current
 
 -- an error of the lines of the files, when the current one is ended
-found_at_end : (fed : Fed) (f : DataFault)
-    → IsLineRefusal fed.stations (daily_lines (fed.files.ended ++ fed.files.current ∷ [])) f
-    → HasLineFault (with_files fed (with_end fed.files)) f
-found_at_end fed f first = record {
+found_at_end : (fed : Fed) (whole : List ℕ) (f : DataFault) → fed.files.current ≡ whole
+    → IsLineRefusal fed.stations (lines_to fed.files whole) f → HasLineFault (with_files fed (with_end fed.files)) f
+found_at_end fed whole f all first = record {
   whole = [];
   rest = [];
   cut = record { parts = refl; ends = inl refl };
-  first = rw (append-nil (daily_lines (fed.files.ended ++ fed.files.current ∷ []))) first;
+  first = rw (lines_at_end fed.files, all) first;
 }
 
 -- more bytes after change no error
@@ -80,16 +74,10 @@ fault-more fed f bytes is = record {
 -- nor does the end of the file
 pub fault-end : (fed : Fed) (f : DataFault) → HasLineFault fed f → HasLineFault (with_files fed (with_end fed.files)) f
 fault-end fed f is =
-    let file = length fed.files.ended + 1 in
-    let behind = not_blank file (enumerate_from (1 + length (lines is.whole)) (lines is.rest)) in
-    let all : daily_lines (fed.files.ended ++ fed.files.current ∷ []) ≡ lines_to fed.files is.whole ++ behind =
-    rw (
-      daily_lines-one fed.files.ended fed.files.current,
-      is.cut.parts,
-      file_lines-append file is.whole is.rest is.cut.ends,
-    )
-    (sym (append_assoc (daily_lines fed.files.ended) (file_lines (file, is.whole)) behind)) in
-    found_at_end fed f (rw all (refused_among fed.stations (lines_to fed.files is.whole) behind f is.first))
+    let after = not_blank (length fed.files.ended + 1) (enumerate_from (1 + length (lines is.whole)) (lines is.rest)) in
+    found_at_end fed (is.whole ++ is.rest) f is.cut.parts
+    (rw (file_lines-append (length fed.files.ended + 1) is.whole is.rest is.cut.ends, ← append_assoc)
+    (refused_among fed.stations (lines_to fed.files is.whole) after f is.first))
 
 -- out of memory can be found anywhere
 pub memory-found : (fed : Fed) (f : DataFault) → IsOfMemory f → HasLineFault fed f
@@ -118,10 +106,9 @@ module _ {L : Type 0} {has_read : Reading L} where
       → lines_to fed.files read.whole ++ one_line (c.ended + 1) (c.line + 1) (read.rest ++ line)
       ≡ lines_to fed.files (read.whole ++ tail)
   numbered c fed tail line is at one =
-      let file = length fed.files.ended + 1 in
-      let this = strip_carriage_return (is.rest ++ line) in
-      rw (at, is.numbered, file_lines-one file is.whole tail this is.cut.ends one)
-      (append_assoc (daily_lines fed.files.ended) (file_lines (file, is.whole)) _)
+      let next : 1 + length (lines is.whole) ≡ length (lines is.whole) + 1 = omega arith in
+      rw (at, is.numbered, file_lines-append (length fed.files.ended + 1) is.whole tail is.cut.ends, one, next)
+      (append_assoc (daily_lines fed.files.ended) _ _)
 
   -- and its counts are those of the files
   counted : (old new : Cutter L) (fed : Fed) (tail line : List ℕ) (read : HasReadFed has_read old fed)
@@ -133,74 +120,37 @@ module _ {L : Type 0} {has_read : Reading L} where
       (lines-append is.whole tail is.cut.ends ∙ ap (λ (ls : List (List ℕ)). lines is.whole ++ ls) one)
       (numbered old fed tail line is at one) (adds.counted is.rest is.kept) is.counted
 
-  -- a line and its line feed are read
-  pub line-read : (old new : Cutter L) (line : List ℕ) (fed : Fed) → HasNoLineFeed line
-      → old.ended ≡ length fed.files.ended → AddsLine has_read old new line → HasReadFed has_read old fed
-      → HasReadFed has_read new (with_files fed (more fed.files (line ++ 10 ∷ [])))
-  line-read old new line fed none at adds is =
-      let tail = (is.rest ++ line) ++ 10 ∷ [] in
-      let one : lines tail ≡ strip_carriage_return (is.rest ++ line) ∷ [] =
-      lines-one (is.rest ++ line) (no_line_feed-append is.rest line is.unended none) in
-      record {
-        whole = is.whole ++ tail;
-        rest = [];
-        cut = cut_behind fed.files is.whole is.rest line [] is.cut;
-        unended = tt;
-        kept = rw adds.rest (begin-same []);
-        numbered = rw (lines-append is.whole tail is.cut.ends, one)
-            (omega (arith, adds.numbered, is.numbered, length-append {A = List ℕ}));
-        counted = counted old new fed tail line is at one adds;
-        read = subst (has_read new.reader fed.stations fed.keep) (numbered old fed tail line is at one)
-            ((adds.read is.rest is.kept).holds fed.stations fed.keep (lines_to fed.files is.whole) is.read);
-      }
-
-  -- the error of a line is found with its line feed
-  pub line-found : (old : Cutter L) (line later : List ℕ) (fed : Fed) (f : DataFault) → HasNoLineFeed line
-      → old.ended ≡ length fed.files.ended → RefusesLine has_read old line f → HasReadFed has_read old fed
-      → HasLineFault (with_files fed (more fed.files (line ++ 10 ∷ later))) f
-  line-found old line later fed f none at refuses is =
-      let tail = (is.rest ++ line) ++ 10 ∷ [] in
-      let one : lines tail ≡ strip_carriage_return (is.rest ++ line) ∷ [] =
-      lines-one (is.rest ++ line) (no_line_feed-append is.rest line is.unended none) in
-      record {
-        whole = is.whole ++ tail;
-        rest = later;
-        cut = cut_behind fed.files is.whole is.rest line later is.cut;
-        first = rw (← numbered old fed tail line is at one)
-            ((refuses.found is.rest is.kept).first fed.stations fed.keep (lines_to fed.files is.whole) is.read);
-      }
-
   -- ---- a piece
 
   -- nothing of a piece is read yet
   pub piece-begun : (c : Cutter L) (bytes : List ℕ) (fed : Fed) → HasReadFed has_read c fed
       → IsWithinPiece has_read c fed bytes bytes
-  piece-begun c bytes fed is = record {
-    done = [];
-    parts = refl;
-    read = record {
-      whole = is.whole;
-      rest = is.rest;
-      cut = record { parts = append-nil fed.files.current ∙ is.cut.parts; ends = is.cut.ends };
-      unended = is.unended;
-      kept = is.kept;
-      numbered = is.numbered;
-      counted = is.counted;
-      read = is.read;
-    };
-  }
+  piece-begun c bytes fed is = record { done = []; parts = refl; read = rw (append-nil fed.files.current) is }
 
   -- a line more of a piece
   pub piece-line : (old new : Cutter L) (line behind left bytes : List ℕ) (fed : Fed) → left ≡ line ++ 10 ∷ behind
       → HasNoLineFeed line → old.ended ≡ length fed.files.ended → AddsLine has_read old new line
       → IsWithinPiece has_read old fed left bytes → IsWithinPiece has_read new fed behind bytes
-  piece-line old new line behind left bytes fed is none at adds within =
+  piece-line old new line behind left bytes fed parts none at adds within =
+      let so_far = with_files fed (more fed.files within.done) in
+      let is = within.read in
+      let tail = (is.rest ++ line) ++ 10 ∷ [] in
+      let one = lines-fed is.rest line is.unended none in
       record {
         done = within.done ++ (line ++ 10 ∷ []);
-        parts = simp append_assoc (rw is at within.parts);
-        read = subst (HasReadFed has_read new)
-            (more-more fed within.done (line ++ 10 ∷ []) (within.done ++ (line ++ 10 ∷ [])) refl)
-            (line-read old new line (with_files fed (more fed.files within.done)) none at adds within.read);
+        parts = simp append_assoc (rw parts at within.parts);
+        read = rw (← append_assoc fed.files.current within.done (line ++ 10 ∷ [])) (record {
+          whole = is.whole ++ tail;
+          rest = [];
+          cut = cut_behind so_far.files is.whole is.rest line [] is.cut;
+          unended = tt;
+          kept = rw adds.rest (begin-same []);
+          numbered = rw (lines-append is.whole tail is.cut.ends, one)
+              (omega (arith, adds.numbered, is.numbered, length-append {A = List ℕ}));
+          counted = counted old new so_far tail line is at one adds;
+          read = subst (has_read new.reader fed.stations fed.keep) (numbered old so_far tail line is at one)
+              ((adds.read is.rest is.kept).holds fed.stations fed.keep (lines_to so_far.files is.whole) is.read);
+        });
       }
 
   -- the error of a line of a piece
@@ -208,10 +158,17 @@ module _ {L : Type 0} {has_read : Reading L} where
       → left ≡ line ++ 10 ∷ behind → HasNoLineFeed line → old.ended ≡ length fed.files.ended
       → RefusesLine has_read old line f → IsWithinPiece has_read old fed left bytes
       → HasLineFault (with_files fed (more fed.files bytes)) f
-  piece-found old line behind left bytes fed f is none at refuses within =
-      let all : within.done ++ (line ++ 10 ∷ behind) ≡ bytes = rw (← within.parts, is) refl in
-      subst (λ x. HasLineFault x f) (more-more fed within.done (line ++ 10 ∷ behind) bytes all)
-      (line-found old line behind (with_files fed (more fed.files within.done)) f none at refuses within.read)
+  piece-found old line behind left bytes fed f parts none at refuses within =
+      let so_far = with_files fed (more fed.files within.done) in
+      let is = within.read in
+      let one = lines-fed is.rest line is.unended none in
+      rw (← within.parts, parts, ← append_assoc fed.files.current within.done (line ++ 10 ∷ behind)) (record {
+        whole = is.whole ++ ((is.rest ++ line) ++ 10 ∷ []);
+        rest = behind;
+        cut = cut_behind so_far.files is.whole is.rest line behind is.cut;
+        first = rw (← numbered old so_far ((is.rest ++ line) ++ 10 ∷ []) line is at one)
+            ((refuses.found is.rest is.kept).first fed.stations fed.keep (lines_to so_far.files is.whole) is.read);
+      })
 
   -- the last bytes of a piece, which no line feed ends
   pub piece-part : (old new : Cutter L) (left bytes : List ℕ) (fed : Fed) → HasNoLineFeed left
@@ -227,7 +184,7 @@ module _ {L : Type 0} {has_read : Reading L} where
           parts = rw (← within.parts, ← append_assoc, is.cut.parts) (simp append_assoc);
           ends = is.cut.ends;
         };
-        unended = no_line_feed-append is.rest left is.unended none;
+        unended = each-append (λ (b : ℕ). (b == 10) ≡ false) is.rest left is.unended none;
         kept = begin-alike (is.rest ++ left) (old.rest.items ++ left) new.rest.items
             (begin-more is.rest old.rest.items left is.kept) kept;
         numbered = line ∙ is.numbered;
@@ -238,19 +195,19 @@ module _ {L : Type 0} {has_read : Reading L} where
   -- ---- the end of a file
 
   -- the current file is ended, and its lines were read
-  file-read : (old new : Cutter L) (fed : Fed) (ls : List FileLine) → new.line ≡ 0 → new.rest.items ≡ []
-      → ls ≡ daily_lines (fed.files.ended ++ fed.files.current ∷ [])
-      → HaveCounted new.counts (fed.files.ended ++ fed.files.current ∷ []) []
-      → has_read new.reader fed.stations fed.keep ls → HasReadFed has_read new (with_files fed (with_end fed.files))
-  file-read old new fed ls line empty all counts read = record {
+  file-read : (new : Cutter L) (fed : Fed) (whole : List ℕ) → fed.files.current ≡ whole → new.line ≡ 0
+      → new.rest.items ≡ [] → HaveCounted new.counts (fed.files.ended ++ whole ∷ []) []
+      → has_read new.reader fed.stations fed.keep (lines_to fed.files whole)
+      → HasReadFed has_read new (with_files fed (with_end fed.files))
+  file-read new fed whole all line empty counts read = record {
     whole = [];
     rest = [];
     cut = record { parts = refl; ends = inl refl };
     unended = tt;
     kept = rw empty (begin-same []);
     numbered = line;
-    counted = counts;
-    read = rw (append-nil (daily_lines (fed.files.ended ++ fed.files.current ∷ [])), ← all) read;
+    counted = rw all counts;
+    read = rw (lines_at_end fed.files, all) read;
   }
 
   -- the current file is ended, after its last line feed
@@ -262,20 +219,9 @@ module _ {L : Type 0} {has_read : Reading L} where
       → HasReadFed has_read new (with_files fed (with_end fed.files))
   end-read old new fed at none reader counts line empty is =
       let all : fed.files.current ≡ is.whole =
-      is.cut.parts ∙ ap (λ (xs : List ℕ). is.whole ++ xs) (begin-none is.rest old.rest.items is.kept none)
-      ∙ append-nil is.whole in
-      file-read old new fed (lines_to fed.files is.whole) line empty
-      (rw (daily_lines-one fed.files.ended fed.files.current, all) refl)
-      (rw all (counts fed.files.ended is.whole at is.numbered is.counted)) (rw reader is.read)
-
-  -- the lines of the files, with the last line of the current one
-  with_last : (c : Cutter L) (fed : Fed) (is : HasReadFed has_read c fed) → c.ended ≡ length fed.files.ended
-      → 0 < length is.rest
-      → lines_to fed.files is.whole ++ one_line (c.ended + 1) (c.line + 1) (is.rest ++ [])
-      ≡ daily_lines (fed.files.ended ++ fed.files.current ∷ [])
-  with_last c fed is at some =
-      rw (daily_lines-one fed.files.ended fed.files.current, is.cut.parts)
-      (numbered c fed is.rest [] is at (lines-rest is.rest some is.unended))
+      rw (is.cut.parts, begin-none is.rest old.rest.items is.kept none) (append-nil is.whole) in
+      file-read new fed is.whole all line empty (counts fed.files.ended is.whole at is.numbered is.counted)
+      (rw reader is.read)
 
   -- the current file is ended in its last line
   pub last-read : (old mid new : Cutter L) (fed : Fed) → old.ended ≡ length fed.files.ended
@@ -285,23 +231,22 @@ module _ {L : Type 0} {has_read : Reading L} where
       → new.line ≡ 0 → new.rest.items ≡ [] → HasReadFed has_read old fed
       → HasReadFed has_read new (with_files fed (with_end fed.files))
   last-read old mid new fed at some adds same reader counts line empty is =
-      let there = begin-some is.rest old.rest.items is.kept some in
-      let one = lines-rest is.rest there is.unended in
-      let last = counted old mid fed is.rest [] is at one adds in
+      let one = lines-rest is.rest (begin-some is.rest old.rest.items is.kept some) is.unended in
       let number : mid.line ≡ length (lines (is.whole ++ is.rest)) =
       rw (lines-append is.whole is.rest is.cut.ends, one)
       (omega (arith, adds.numbered, is.numbered, length-append {A = List ℕ})) in
-      let all : HaveCounted new.counts (fed.files.ended ++ fed.files.current ∷ []) [] =
-      rw is.cut.parts (counts fed.files.ended (is.whole ++ is.rest) (same ∙ at) number last) in
-      let read = (adds.read is.rest is.kept).holds fed.stations fed.keep (lines_to fed.files is.whole) is.read in
-      file-read old new fed _ line empty (with_last old fed is at there) all (rw reader read)
+      file-read new fed (is.whole ++ is.rest) is.cut.parts line empty (counts fed.files.ended (is.whole ++ is.rest)
+      (same ∙ at) number (counted old mid fed is.rest [] is at one adds))
+      (rw (reader, ← numbered old fed is.rest [] is at one)
+      ((adds.read is.rest is.kept).holds fed.stations fed.keep (lines_to fed.files is.whole) is.read))
 
   -- the error of a file's last line is found at the file's end
   pub last-found : (old : Cutter L) (fed : Fed) (f : DataFault) → old.ended ≡ length fed.files.ended
       → 0 < length old.rest.items → RefusesLine has_read old [] f → HasReadFed has_read old fed
       → HasLineFault (with_files fed (with_end fed.files)) f
   last-found old fed f at some refuses is =
-      found_at_end fed f (rw (← with_last old fed is at (begin-some is.rest old.rest.items is.kept some))
+      let one = lines-rest is.rest (begin-some is.rest old.rest.items is.kept some) is.unended in
+      found_at_end fed (is.whole ++ is.rest) f is.cut.parts (rw (← numbered old fed is.rest [] is at one)
       ((refuses.found is.rest is.kept).first fed.stations fed.keep (lines_to fed.files is.whole) is.read))
 
   -- ---- errors that are kept
@@ -309,16 +254,9 @@ module _ {L : Type 0} {has_read : Reading L} where
   -- what was read depends on the lines alone
   pub same_read : (old new : Cutter L) (fed : Fed) → new.reader ≡ old.reader → new.counts ≡ old.counts
       → new.line ≡ old.line → new.rest ≡ old.rest → HasReadFed has_read old fed → HasReadFed has_read new fed
-  same_read old new fed reader counts line rest is = record {
-    whole = is.whole;
-    rest = is.rest;
-    cut = is.cut;
-    unended = is.unended;
-    kept = rw rest is.kept;
-    numbered = line ∙ is.numbered;
-    counted = rw counts is.counted;
-    read = rw reader is.read;
-  }
+  same_read old new fed reader counts line rest is =
+      rw (append-nil fed.files.current) at (piece-part old new [] [] fed tt reader counts line
+      (rw (rest, append-nil old.rest.items) (begin-same old.rest.items)) (piece-begun old [] fed is))
 
   -- no error is kept
   pub without_fault : (c : Cutter L) (fed : Fed) → is_none c.fault ≡ true → HasFault has_read c fed c.fault

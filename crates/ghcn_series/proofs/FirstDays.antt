@@ -1,19 +1,22 @@
 -- The first day of a block, and the days after it.
-use Rattle.std.proofs.Common.{◌≡◌, ◌≢◌, ℕ, zero, suc, ◌+◌, ◌-◌, ◌/◌, ◌%◌, ◌<◌, ◌≤◌, ◌^◌, true, List, [], ◌∷◌, ◌++◌}
-use Rattle.std.proofs.Common.{length, get_or, Option, Some, None, inl, inr, refl, sym, ap, ◌∙◌, arith, ℤ, pos, ◌+ℤ◌}
-use Rattle.std.proofs.Common.{w32}
-use Rattle.std.specs.Prelude.{bit_and}
+use Rattle.std.proofs.Common.{◌≡◌, ◌≢◌, ℕ, zero, suc, ◌+◌, ◌-◌, ◌/◌, ◌%◌, ◌<◌, ◌≤◌, ◌^◌, true, List, [], ◌∷◌, length}
+use Rattle.std.proofs.Common.{get_or, Option, Some, None, inl, inr, refl, sym, ap, ◌∙◌, arith, ℤ, pos, ◌+ℤ◌, w32, neg_ℤ}
+use Rattle.std.proofs.Common.{◌≤ℤ◌}
+use Rattle.std.specs.Prelude.{bit_and, ⊤}
 use Rattle.std.specs.Int.{bit_at, trailing_zeros}
 use Rattle.std.specs.List.{filter_map, range_with_len}
 use Rattle.std.proofs.lemmas.Bool.{cases_lt}
+use Rattle.std.proofs.lemmas.Nat.{shr-shr}
 use Rattle.std.proofs.lemmas.Nat.Bits.{bit_at-zero, bit_at-trailing_zeros, bit_at_and, bit_at_lowest, bit_at-suc}
-use Rattle.std.proofs.Common.{neg_ℤ, ◌≤ℤ◌}
 use Rattle.std.proofs.lemmas.Int.{ints}
 use Rattle.std.specs.Iterator.{YieldsFirst, MakesProgress, item_count}
-use Rattle.std.specs.Prelude.{⊤}
 use Rattle.ghcn_fields.specs.Days.{is_day, IsBlock}
 use Rattle.ghcn_series.specs.Series.{DayValue}
 use Rattle.ghcn_series.specs.Packed.{block_start, day_at, block_days, days_from, AreCalendarDays}
+
+-- a word that is shifted down has its upper bits
+pub shifted-bit : (w t j : ℕ) → bit_at (w / 2 ^ t) j ≡ bit_at w (t + j)
+shifted-bit w t j = ap (λ (n : ℕ). n % 2) (shr-shr w t j)
 
 -- words with the same bits at some places have the same days there
 pub same-bits : (n : ℤ) (vs : List ℤ) (w v : ℕ) (s m : ℕ) → ((i : ℕ) → s ≤ i → i < s + m → bit_at w i ≡ bit_at v i)
@@ -60,31 +63,24 @@ block-empty n vs w e = none-set n vs w 0 32 (λ i le lt. ap (λ (k : ℕ). bit_a
 
 -- one less has no bit at the place of the lowest one, and the same after it
 one_less : (t w : ℕ) → bit_at w t ≡ 1 → ((i : ℕ) → i < t → bit_at w i ≡ 0)
-    → (bit_at (w - 1) t ≡ 0) × ((i : ℕ) → t < i → bit_at (w - 1) i ≡ bit_at w i)
+    → (bit_at (w - 1) t ≡ 0) × ((i : ℕ) → t ≤ i → bit_at (w - 1) (suc i) ≡ bit_at w (suc i))
 one_less zero w set below =
     let odd : w % 2 ≡ 1 = sym (bit_at_lowest w) ∙ set in
     let half : (w - 1) / 2 ≡ w / 2 = omega (arith, odd) in (
       bit_at_lowest (w - 1) ∙ omega (arith, odd),
-      behind half,
+      λ i le. bit_at-suc (w - 1) i ∙ ap (λ (n : ℕ). bit_at n i) half ∙ sym (bit_at-suc w i),
     )
-  where
-    behind : (w - 1) / 2 ≡ w / 2 → (i : ℕ) → 0 < i → bit_at (w - 1) i ≡ bit_at w i
-    behind half zero lt = absurd (omega (arith, lt))
-    behind half (suc i) lt = bit_at-suc (w - 1) i ∙ ap (λ (n : ℕ). bit_at n i) half ∙ sym (bit_at-suc w i)
 one_less (suc t) w set below =
     let even : w % 2 ≡ 0 = sym (bit_at_lowest w) ∙ below 0 (omega arith) in
     let half : (w - 1) / 2 ≡ w / 2 - 1 = omega (arith, even) in
     let rest = one_less t (w / 2) (sym (bit_at-suc w t) ∙ set)
     (λ i lt. sym (bit_at-suc w i) ∙ below (suc i) (omega (arith, lt))) in (
       bit_at-suc (w - 1) t ∙ ap (λ (n : ℕ). bit_at n t) half ∙ rest.0,
-      behind half rest.1,
+      λ i le.
+          let before : suc (i - 1) ≡ i = omega (arith, le) in
+          let same = rw before at (rest.1 (i - 1) (omega (arith, le))) in
+          bit_at-suc (w - 1) i ∙ ap (λ (n : ℕ). bit_at n i) half ∙ same ∙ sym (bit_at-suc w i),
     )
-  where
-    behind : (w - 1) / 2 ≡ w / 2 - 1 → ((i : ℕ) → t < i → bit_at (w / 2 - 1) i ≡ bit_at (w / 2) i) → (i : ℕ) → suc t < i
-        → bit_at (w - 1) i ≡ bit_at w i
-    behind half same zero lt = absurd (omega (arith, lt))
-    behind half same (suc i) lt =
-        bit_at-suc (w - 1) i ∙ ap (λ (n : ℕ). bit_at n i) half ∙ same i (omega (arith, lt)) ∙ sym (bit_at-suc w i)
 
 -- a word without its lowest bit
 abbrev pub without_lowest : ℕ → ℕ
@@ -108,7 +104,10 @@ module _ (w : ℕ) (some : 0 < w) (fits : w < 2 ^ 32) where
       let less = one_less place w lowest.1 lowest.2 in
       elim (cases_lt i place) [
         | inl lt ↦ omega (arith, bit_at_and w (w - 1) i, lowest.2 i lt)
-        | inr le ↦ omega (arith, bit_at_and w (w - 1) i, less.1 i (omega (arith, le, ne)))
+        | inr le ↦
+            let before : suc (i - 1) ≡ i = omega (arith, le, ne) in
+            let same = rw before at (less.1 (i - 1) (omega (arith, le, ne))) in
+            omega (arith, bit_at_and w (w - 1) i, same)
       ]
 
 -- the first day of a block is at the lowest bit of its word
@@ -144,7 +143,6 @@ module _ (n : ℤ) (w : ℕ) (are : AreCalendarDays n w) (some : 0 < w) (fits : 
   pub days-left : AreCalendarDays n (without_lowest w)
   days-left = record {
     days = λ j lt set.
-        let at = bit_at-trailing_zeros w32 w some fits in
         let gone : bit_at (without_lowest w) lowest ≡ 0 = lowest-gone w some fits in
         let other : j ≢ lowest = λ same. omega (arith, gone, set, ap (bit_at (without_lowest w)) same) in
         are.days j lt (sym (others-stay w some fits j other) ∙ set);
@@ -153,14 +151,6 @@ module _ (n : ℤ) (w : ℕ) (are : AreCalendarDays n w) (some : 0 < w) (fits : 
   -- the block is one of the calendar's
   pub lowest-block : IsBlock n
   lowest-block = block-of_day n lowest (bit_at-trailing_zeros w32 w some fits).0 lowest-day
-
--- what comes of the first days of two parts, of which the first has one
-pub yields-before : (r : Option DayValue) (cur new rest : List DayValue) → 0 < length cur
-    → YieldsFirst (λ (days : List DayValue). days) cur r new
-    → YieldsFirst (λ (days : List DayValue). days) (cur ++ rest) r (new ++ rest)
-yields-before None cur new rest some y = let none : length cur ≡ 0 = ap (λ (l : List DayValue). length l) y.0 in absurd
-    (omega arith)
-yields-before (Some x) cur new rest some y = ap (λ (l : List DayValue). l ++ rest) y
 
 -- days after a first one are fewer
 pub fewer : (all rest : List DayValue) (x : DayValue) → all ≡ x ∷ rest → length rest < length all

@@ -1,13 +1,15 @@
 -- What is counted of files, and of others that go on with the current one.
-use Rattle.std.proofs.Common.{◌≡◌, ℕ, ◌+◌, ◌<◌, Bool, true, false, cond, not}
-use Rattle.std.proofs.Common.{List, [], ◌∷◌, ◌++◌, length, map}
-use Rattle.std.proofs.Common.{filter, Option, None, Some, refl, sym, ap, ◌∙◌, length-append, arith}
+use Rattle.std.proofs.Common.{◌≡◌, ℕ, ◌+◌, Bool, true, false, cond, not, List, [], ◌∷◌, ◌++◌, length}
+use Rattle.std.proofs.Common.{Option, None, Some, inl, inr, refl, sym, ap, ◌∙◌, append_assoc, length-append, arith}
 use Rattle.std.specs.Prelude.{◌&&◌, ◌||◌, ◌==◌, get_or, if◌then◌else◌, nat_lt}
-use Rattle.std.specs.List.{count_by, enumerate_from, list_any, slice_get}
-use Rattle.std.proofs.lemmas.Bool.{ne_eqb}
+use Rattle.std.specs.List.{count_by, list_any, slice_get}
+use Rattle.std.specs.Option.{option_map}
+use Rattle.std.proofs.Math.Bool.{and-true, and-false, or-false, or_comm, and-or_distrib_left}
+use Rattle.std.proofs.lemmas.Bool.{cases_Bool, ne_eqb}
 use Rattle.std.proofs.lemmas.Bool.Decides.{nat_tests}
 use Rattle.std.proofs.lemmas.List.Folds.{list_any-append}
 use Rattle.std.proofs.lemmas.List.Sums.{sum_by-append}
+use Rattle.std.proofs.lemmas.Option.{slice_get-map}
 use Rattle.std.proofs.lemmas.Grind.{flat_map-append}
 use Rattle.ghcn_fields.specs.Bytes.{is_blank}
 use Rattle.ghcn_fields.specs.Lines.{lines, EndsLine}
@@ -15,88 +17,60 @@ use Rattle.ghcn_files.proofs.LineLaws.{lines-append}
 use Rattle.ghcn_series.specs.declared.counts.LineCounts.{LineCounts}
 use Rattle.ghcn_series.specs.Counted.{JoinsForeign, JoinsOdd, JoinsCounts, CutsForeign}
 use Rattle.ghcn_series.specs.Cut.{lines_to}
-use Rattle.ghcn_series.specs.Fed.{followed_by}
-use Rattle.ghcn_series.specs.LineKinds.{all_lines, blank_lines, has_element, is_foreign, foreign_of}
-use Rattle.ghcn_series.specs.LineKinds.{odd_among}
+use Rattle.ghcn_series.specs.Fed.{Files, going_on}
+use Rattle.ghcn_series.specs.LineKinds.{all_lines, blank_lines, has_element, is_foreign, foreign_of, odd_among}
 use Rattle.ghcn_series.proofs.FedLines.{daily_lines-one}
-use Rattle.ghcn_series.proofs.JoinedCounts.{foreign-followed, odd_joined}
-use Rattle.ghcn_series.proofs.JoinedLines.{files_at, lines-followed}
+use Rattle.ghcn_series.proofs.JoinedCounts.{places_from, places_from-later, foreign-followed, odd_joined}
+use Rattle.ghcn_series.proofs.JoinedLines.{lines-followed}
 
 -- ---- numbers of lines
 
--- the lines of the ended files of both: those of the first, and of the current one if it ends among the others
-number-followed : (ended : List (List ℕ)) (current : List ℕ) (others : List (List ℕ)) (whole : List ℕ) (ends : Bool)
-    → EndsLine current → ends ≡ nat_lt 0 (length others)
-    → length (all_lines (followed_by (files_at ended current) (files_at others whole)).ended)
-    ≡ length (all_lines ended) + (if ends then length (lines current) else 0) + length (all_lines others)
-number-followed ended current [] whole ends line is = rw is (omega arith)
-number-followed ended current (rest ∷ files) whole ends line is =
-    let some : ends ≡ true = is ∙ grind (arith, nat_tests) in
-    rw some (omega (
-      arith,
-      ap length (flat_map-append lines ended ((current ++ rest) ∷ files)),
-      length-append (all_lines ended) (lines (current ++ rest) ++ all_lines files),
-      length-append (lines (current ++ rest)) (all_lines files),
-      ap length (lines-append current rest line),
-      length-append (lines current) (lines rest),
-      length-append (lines rest) (all_lines files),
-    ))
+module _ (files : Files) where
+  -- the lines of files, one of which is in two parts
+  lines-gone_on : (rest : List ℕ) (others : List (List ℕ)) → EndsLine files.current
+      → all_lines (files.ended ++ (files.current ++ rest) ∷ others)
+      ≡ all_lines files.ended ++ (lines files.current ++ all_lines (rest ∷ others))
+  lines-gone_on rest others line = simp (flat_map-append, lines-append files.current rest line, append_assoc)
 
--- how many of some lines are blank
-blanks : List (List ℕ) → ℕ
-blanks ls = count_by is_blank ls
+  -- the lines of the ended files of both: those of the first, and of the current one if it ends among the others
+  number-followed : (others : List (List ℕ)) (whole : List ℕ) (ends : Bool) → EndsLine files.current
+      → ends ≡ nat_lt 0 (length others) → length (all_lines (going_on files others whole).ended)
+      ≡ length (all_lines files.ended) + (if ends then length (lines files.current) else 0) + length (all_lines others)
+  number-followed [] whole ends line is = rw is (omega arith)
+  number-followed (rest ∷ others) whole ends line is =
+      let some : ends ≡ true = is ∙ grind (arith, nat_tests) in
+      rw (some, lines-gone_on rest others line) (simp length-append (omega arith))
 
--- of lines, and others after them
-blanks-append : (ls more : List (List ℕ)) → blanks (ls ++ more) ≡ blanks ls + blanks more
-unfolding blanks
-blanks-append ls more = sum_by-append (λ l. cond (is_blank l) 1 0) ls more
-
--- how many lines of both are blank
-blank-followed : (ended : List (List ℕ)) (current : List ℕ) (others : List (List ℕ)) (whole : List ℕ)
-    → EndsLine current → (blank_lines ended + count_by is_blank (lines current))
-    + (blank_lines others + count_by is_blank (lines whole))
-    ≡ blank_lines (followed_by (files_at ended current) (files_at others whole)).ended
-    + count_by is_blank (lines (followed_by (files_at ended current) (files_at others whole)).current)
-unfolding blanks
-blank-followed ended current [] whole line =
-    omega (arith, ap blanks (lines-append current whole line), blanks-append (lines current) (lines whole))
-blank-followed ended current (rest ∷ files) whole line =
-    omega (
-      arith,
-      ap blanks (flat_map-append lines ended ((current ++ rest) ∷ files)),
-      blanks-append (all_lines ended) (lines (current ++ rest) ++ all_lines files),
-      blanks-append (lines (current ++ rest)) (all_lines files),
-      ap blanks (lines-append current rest line),
-      blanks-append (lines current) (lines rest),
-      blanks-append (lines rest) (all_lines files),
-    )
+  -- how many lines of both are blank
+  blank-followed : (others : List (List ℕ)) (whole : List ℕ) → EndsLine files.current
+      → (blank_lines files.ended + count_by is_blank (lines files.current))
+      + (blank_lines others + count_by is_blank (lines whole))
+      ≡ blank_lines (going_on files others whole).ended
+      + count_by is_blank (lines (going_on files others whole).current)
+  blank-followed [] whole line =
+      rw (lines-append files.current whole line)
+      (omega (arith, sum_by-append (λ l. cond (is_blank l) 1 0) (lines files.current) (lines whole)))
+  blank-followed (rest ∷ others) whole line =
+      let later : List (List ℕ) = all_lines (rest ∷ others) in
+      rw (lines-gone_on rest others line) (omega (
+        arith,
+        sum_by-append (λ l. cond (is_blank l) 1 0) (all_lines files.ended) (lines files.current ++ later),
+        sum_by-append (λ l. cond (is_blank l) 1 0) (lines files.current) later,
+      ))
 
 -- ---- the current file
 
--- one of two tests, in any order
-either_way : (a b : Bool) → (a || (b && not false)) ≡ (b || a)
-either_way true true = refl
-either_way true false = refl
-either_way false true = refl
-either_way false false = refl
-
--- or the first one alone
-without : (a b : Bool) → (a || (b && not true)) ≡ a
-without true b = refl
-without false true = refl
-without false false = refl
-
 -- whether a line of the current file passes a test, which goes on if it doesn't end
-any-followed : (p : List ℕ → Bool) (ended : List (List ℕ)) (current : List ℕ) (others : List (List ℕ)) (whole : List ℕ)
-    (ends : Bool) → EndsLine current → ends ≡ nat_lt 0 (length others)
-    → (list_any p (lines whole) || (list_any p (lines current) && not ends))
-    ≡ list_any p (lines (followed_by (files_at ended current) (files_at others whole)).current)
-any-followed p ended current [] whole ends line is =
-    rw (is, lines-append current whole line, list_any-append p (lines current) (lines whole))
-    (either_way (list_any p (lines whole)) (list_any p (lines current)))
-any-followed p ended current (rest ∷ files) whole ends line is =
+any-followed : (p : List ℕ → Bool) (files : Files) (others : List (List ℕ)) (whole : List ℕ) (ends : Bool)
+    → EndsLine files.current → ends ≡ nat_lt 0 (length others)
+    → (list_any p (lines whole) || (list_any p (lines files.current) && not ends))
+    ≡ list_any p (lines (going_on files others whole).current)
+any-followed p files [] whole ends line is =
+    rw (is, lines-append files.current whole line, list_any-append, and-true)
+    (or_comm (list_any p (lines whole)) (list_any p (lines files.current)))
+any-followed p files (rest ∷ others) whole ends line is =
     let some : ends ≡ true = is ∙ grind (arith, nat_tests) in
-    rw some (without (list_any p (lines whole)) (list_any p (lines current)))
+    rw (some, and-false (list_any p (lines files.current))) (or-false (list_any p (lines whole)))
 
 -- ---- all counts
 
@@ -111,23 +85,20 @@ pub counts_joined : (these others both : LineCounts) (place line : ℕ) (ends : 
 counts_joined these others both place line ends number blank foreign odd told_line told_element = record {
   holds = λ files more whole cut here count ended is of.
       let told : List ℕ → Bool = λ l. not (is_blank l) in
-      let others_files = more.ended ++ more.current ∷ [] in
       record {
         number = number ∙ rw (is.number, of.number, count)
-            (sym (number-followed files.ended files.current more.ended more.current ends whole ended));
-        blank = blank
-            ∙ rw (is.blank, of.blank) (blank-followed files.ended files.current more.ended more.current whole);
-        foreign = foreign-followed these.warnings.foreign others.warnings.foreign both.warnings.foreign files.ended
-            files.current more.ended more.current whole cut is.foreign of.foreign (rw here at foreign);
+            (sym (number-followed files more.ended more.current ends whole ended));
+        blank = blank ∙ rw (is.blank, of.blank) (blank-followed files more.ended more.current whole);
+        foreign = foreign-followed these.warnings.foreign others.warnings.foreign both.warnings.foreign files more.ended
+            more.current whole cut is.foreign of.foreign (rw here at foreign);
         odd = odd_joined these.warnings.odd others.warnings.odd both.warnings.odd (lines_to files files.current)
-            others_files place
-            line is.odd (of.odd ∙ ap odd_among (sym (daily_lines-one more.ended more.current))) odd
-            ∙ rw (here, count)
-            (ap odd_among (sym (lines-followed files.ended files.current more.ended more.current whole)));
+            (more.ended ++ more.current ∷ []) place line is.odd
+            (of.odd ∙ ap odd_among (sym (daily_lines-one more.ended more.current))) odd
+            ∙ rw (here, count) (ap odd_among (sym (lines-followed files more.ended more.current whole)));
         has_line = told_line ∙ rw (is.has_line, of.has_line)
-            (any-followed told files.ended files.current more.ended more.current ends whole ended);
+            (any-followed told files more.ended more.current ends whole ended);
         has_element = told_element ∙ rw (is.has_element, of.has_element)
-            (any-followed has_element files.ended files.current more.ended more.current ends whole ended);
+            (any-followed has_element files more.ended more.current ends whole ended);
       };
 }
 
@@ -138,36 +109,21 @@ abbrev pub is_first : Option ℕ → Bool
 is_first None = false
 is_first (Some n) = n == 0
 
--- the places of foreign files, of which the first file has this one
-abbrev places_from : ℕ → List (List ℕ) → List ℕ
-places_from n files = map (λ f. f.0) (filter (λ f. is_foreign f.1) (enumerate_from n files))
-
--- none of them is that of the first file, if the first one here is a later file
-none-first : (n : ℕ) (files : List (List ℕ)) → 0 < n → is_first (slice_get (places_from n files) 0) ≡ false
-none-first n [] later = refl
-none-first n (file ∷ files) later =
-    elim (is_foreign file) as (λ b. is_first (slice_get (map (λ (f : ℕ × List ℕ). f.0)
-    (cond b ((n, file) ∷ filter (λ f. is_foreign f.1) (enumerate_from (n + 1) files))
-    (filter (λ f. is_foreign f.1) (enumerate_from (n + 1) files)))) 0) ≡ false) [
-      | true ↦ ne_eqb n 0 (λ e. absurd (omega (arith, later, e)))
-      | false ↦ none-first (n + 1) files (omega (arith, later))
-    ]
+-- a later place isn't
+later-first : (place : Option ℕ) → is_first (option_map (λ n. n + 1) place) ≡ false
+later-first None = refl
+later-first (Some n) = ne_eqb (n + 1) 0 (λ e. absurd (omega (arith, e)))
 
 -- the first foreign file is the first file if that is foreign
 first-foreign : (files : List (List ℕ)) → is_first (foreign_of files).first ≡ is_foreign (get_or files 0 [])
 first-foreign [] = refl
 first-foreign (file ∷ files) =
-    elim (is_foreign file) as (λ b. is_first (slice_get (map (λ (f : ℕ × List ℕ). f.0)
-    (cond b ((0, file) ∷ filter (λ f. is_foreign f.1) (enumerate_from (0 + 1) files))
-    (filter (λ f. is_foreign f.1) (enumerate_from (0 + 1) files)))) 0) ≡ b) [
-      | true ↦ refl
-      | false ↦ none-first (0 + 1) files (omega arith)
+    elim (cases_Bool (is_foreign file)) [
+      | inl holds ↦ rw holds refl
+      | inr fails ↦
+          rw (fails, places_from-later 0 1 files, slice_get-map (λ (n : ℕ). n + 1) (places_from 0 files) 0)
+          (later-first (slice_get (places_from 0 files) 0))
     ]
-
--- two reasons, of which each has one in common
-both_reasons : (a b c : Bool) → (a && (b || c)) ≡ ((a && b) || (a && c))
-both_reasons true b c = refl
-both_reasons false b c = refl
 
 -- what was noted of the current file, and of the first of the others, says whether a part of it is foreign
 pub cuts-noted : (these others : LineCounts) (cuts : Bool)
@@ -177,6 +133,6 @@ cuts-noted these others cuts noted = record {
   is = λ files more is of.
       noted
       ∙ rw (is.has_line, is.has_element, of.foreign, first-foreign more.ended)
-      (both_reasons (list_any (λ l. not (is_blank l)) (lines files.current))
+      (and-or_distrib_left (list_any (λ l. not (is_blank l)) (lines files.current))
       (not (list_any has_element (lines files.current))) (is_foreign (get_or more.ended 0 [])));
 }

@@ -1,9 +1,9 @@
 -- A cutter that goes on after another one.
 use Rattle.std.proofs.Common.{◌≡◌, ℕ, ◌+◌, ◌^◌, ◌<◌, Bool, true, false, List, [], ◌∷◌, ◌++◌, length, None}
-use Rattle.std.proofs.Common.{inl, inr, refl, sym, ap, ◌∙◌, subst, append_assoc, length-append, arith}
+use Rattle.std.proofs.Common.{inl, inr, refl, sym, ap, ◌∙◌, append_assoc, length-append, arith}
 use Rattle.std.specs.Prelude.{◌&&◌, ◌||◌, not, nat_le, nat_lt, if◌then◌else◌}
 use Rattle.std.specs.List.{enumerate_from, filter_map}
-use Rattle.std.proofs.Math.Bool.{and-false, or-false, or-true}
+use Rattle.std.proofs.Math.Bool.{and-false, or-false}
 use Rattle.std.proofs.lemmas.Bool.{or_left, false≢true}
 use Rattle.std.proofs.lemmas.Bool.Decides.{nat_tests}
 use Rattle.std.proofs.lemmas.List.{append-nil}
@@ -11,15 +11,13 @@ use Rattle.std.proofs.lemmas.List.Elements.{filter_map-append}
 use Rattle.std.proofs.lemmas.List.Folds.{list_any-append}
 use Rattle.ghcn_fields.specs.Lines.{lines, EndsLine}
 use Rattle.ghcn_files.proofs.LineLaws.{lines-append}
-use Rattle.ghcn_files.specs.declared.month.Month.{Month}
 use Rattle.ghcn_files.specs.declared.station.StationId.{StationId}
-use Rattle.ghcn_files.specs.Ids.{same_id}
 use Rattle.ghcn_series.specs.declared.cutter.Cutter.{Cutter}
 use Rattle.ghcn_series.specs.Counted.{HaveCounted, JoinsCounts, CutsForeign}
 use Rattle.ghcn_series.specs.Cut.{IsCutFile, lines_to, HasReadFed, HasFed, HasFedSome, LooksAtLines}
 use Rattle.ghcn_series.specs.Cut.{WereFedAlike, Joins, StayApart, HasReadOn, GoOn}
 use Rattle.ghcn_series.specs.DailyFaults.{FileLine, not_blank, file_lines, daily_lines, month_on}
-use Rattle.ghcn_series.specs.Fed.{Fed, with_files, files_of, followed_by, and_current}
+use Rattle.ghcn_series.specs.Fed.{Files, Fed, with_files, files_of, followed_by, going_on, and_current}
 use Rattle.ghcn_series.specs.Gathered.{has_month_of}
 use Rattle.ghcn_series.specs.LinesRead.{Reading, line_texts, JoinsLines, HaveReadAlike, ReadOneStation}
 use Rattle.ghcn_series.specs.Says.{in_64_bits}
@@ -27,9 +25,13 @@ use Rattle.ghcn_series.proofs.AlikeBeginnings.{begin-none, begin-some}
 use Rattle.ghcn_series.proofs.FedCounts.{at_file}
 use Rattle.ghcn_series.proofs.FedLines.{daily_lines-one, file_lines-append}
 use Rattle.ghcn_series.proofs.FedPieces.{without_fault}
-use Rattle.ghcn_series.proofs.JoinedLines.{files_at, lines_on, texts-on, ends-followed, parts-followed, ended-followed}
+use Rattle.ghcn_series.proofs.JoinedLines.{lines_on, texts-on, ends-followed, parts-followed, ended-followed}
 use Rattle.ghcn_series.proofs.JoinedLines.{length-followed, lines-followed, nothing_left}
 use Rattle.ghcn_series.proofs.KeptFaults.{looking, lines-all}
+
+-- files that came: some that were ended, and the bytes of the one after them
+abbrev files_at : List (List ℕ) → List ℕ → Files
+files_at ended current = record { ended = ended; current = current }
 
 -- ---- months of a station
 
@@ -37,10 +39,7 @@ use Rattle.ghcn_series.proofs.KeptFaults.{looking, lines-all}
 has_more : (ls behind : List FileLine) (id : StationId) → has_month_of (filter_map month_on ls) id ≡ true
     → has_month_of (filter_map month_on (ls ++ behind)) id ≡ true
 has_more ls behind id has =
-    rw (
-      filter_map-append month_on ls behind,
-      list_any-append (λ (m : Month). same_id m.id id) (filter_map month_on ls) (filter_map month_on behind),
-    )
+    simp (filter_map-append, list_any-append)
     (or_left (has_month_of (filter_map month_on ls) id) (has_month_of (filter_map month_on behind) id) has)
 
 -- so have all lines of the files that came
@@ -48,47 +47,40 @@ has_in_all : (ended : List (List ℕ)) (current whole rest : List ℕ) (id : Sta
     → IsCutFile (files_at ended current) whole rest
     → has_month_of (filter_map month_on (lines_to (files_at ended current) whole)) id ≡ true
     → has_month_of (filter_map month_on (daily_lines (and_current ended current))) id ≡ true
-has_in_all ended [] whole rest id cut has =
-    subst (λ (ls : List FileLine). has_month_of (filter_map month_on ls) id ≡ true) (lines-all ended whole rest cut) has
+has_in_all ended [] whole rest id cut has = rw (lines-all ended whole rest cut) at has
 has_in_all ended (b ∷ bs) whole rest id cut has =
     let n = length ended + 1 in
     let behind = not_blank n (enumerate_from (1 + length (lines whole)) (lines rest)) in
     let all : daily_lines (ended ++ (b ∷ bs) ∷ []) ≡ lines_to (files_at ended (b ∷ bs)) whole ++ behind =
     daily_lines-one ended (b ∷ bs)
     ∙ ap (λ (t : List ℕ). daily_lines ended ++ file_lines (n, t)) cut.parts
-    ∙ ap (λ (ls : List FileLine). daily_lines ended ++ ls) (file_lines-append n whole rest cut.ends)
-    ∙ sym (append_assoc (daily_lines ended) (file_lines (n, whole)) behind) in
-    subst (λ (ls : List FileLine). has_month_of (filter_map month_on ls) id ≡ true) (sym all)
-    (has_more (lines_to (files_at ended (b ∷ bs)) whole) behind id has)
+    ∙ rw (file_lines-append n whole rest cut.ends) (simp append_assoc) in
+    rw all (has_more (lines_to (files_at ended (b ∷ bs)) whole) behind id has)
 
 -- ---- the current file of both
 
+-- one of two numbers isn't 0 if their sum isn't
+one_some : (a b : ℕ) → (nat_lt 0 a || (nat_lt 0 b && true)) ≡ nat_lt 0 (b + a)
+one_some a b = grind (arith, nat_tests)
+
 -- it has begun if the last part of it has a byte, or if an earlier part has one and it didn't end
-begun-followed : (ended : List (List ℕ)) (current : List ℕ) (others : List (List ℕ)) (bytes : List ℕ) (ends : Bool)
-    → ends ≡ nat_lt 0 (length others)
-    → (nat_lt 0 (length bytes) || (nat_lt 0 (length current) && not ends))
-    ≡ nat_lt 0 (length (followed_by (files_at ended current) (files_at others bytes)).current)
-begun-followed ended [] [] bytes ends is = or-false (nat_lt 0 (length bytes))
-begun-followed ended (b ∷ bs) [] bytes ends is =
-    let some : nat_lt 0 (length (b ∷ bs)) ≡ true = grind (arith, nat_tests) in
-    let all : nat_lt 0 (length (b ∷ bs ++ bytes)) ≡ true = grind (arith, nat_tests) in
-    rw (is, some, all) (or-true (nat_lt 0 (length bytes)))
-begun-followed ended current (file ∷ files) bytes ends is =
+begun-followed : (files : Files) (others : List (List ℕ)) (bytes : List ℕ) (ends : Bool)
+    → ends ≡ nat_lt 0 (length others) → (nat_lt 0 (length bytes) || (nat_lt 0 (length files.current) && not ends))
+    ≡ nat_lt 0 (length (going_on files others bytes).current)
+begun-followed files [] bytes ends is =
+    rw (is, length-append files.current bytes) (one_some (length bytes) (length files.current))
+begun-followed files (file ∷ others) bytes ends is =
     let some : ends ≡ true = is ∙ grind (arith, nat_tests) in
-    rw (some, and-false (nat_lt 0 (length current))) (or-false (nat_lt 0 (length bytes)))
+    rw (some, and-false (nat_lt 0 (length files.current))) (or-false (nat_lt 0 (length bytes)))
 
 -- its lines are those of its parts that didn't end before
-numbered-followed : (ended : List (List ℕ)) (current : List ℕ) (others : List (List ℕ)) (whole : List ℕ) (ends : Bool)
-    → EndsLine current → ends ≡ nat_lt 0 (length others)
-    → (if not ends then length (lines current) else 0) + length (lines whole)
-    ≡ length (lines (followed_by (files_at ended current) (files_at others whole)).current)
-numbered-followed ended current [] whole ends line is =
-    rw is (omega (
-      arith,
-      ap length (lines-append current whole line),
-      length-append (lines current) (lines whole),
-    ))
-numbered-followed ended current (file ∷ files) whole ends line is =
+numbered-followed : (files : Files) (others : List (List ℕ)) (whole : List ℕ) (ends : Bool) → EndsLine files.current
+    → ends ≡ nat_lt 0 (length others) → (if not ends then length (lines files.current) else 0) + length (lines whole)
+    ≡ length (lines (going_on files others whole).current)
+numbered-followed files [] whole ends line is =
+    rw (is, lines-append files.current whole line)
+    (omega (arith, length-append (lines files.current) (lines whole)))
+numbered-followed files (file ∷ others) whole ends line is =
     let some : ends ≡ true = is ∙ grind (arith, nat_tests) in
     rw some (omega arith)
 
@@ -156,47 +148,41 @@ module _ {L : Type 0} {has_read : Reading L} where
             let one = read_on first fed looks is in
             let two = read_on next (with_files fed files) looks_too of in
             let all = read_whole first fed one.0 (begin-none one.0.rest first.rest.items one.0.kept empty) in
-            let before = fed.files.ended in
-            let current = fed.files.current in
             let others = files.ended in
             let whole = two.0.whole in
-            let both_files = followed_by (files_at before current) (files_at others whole) in
+            let both_files = going_on fed.files others whole in
+            let count : ℕ = length (lines fed.files.current) in
             let at_end : ends ≡ nat_lt 0 (length others) = ended ∙ ap (nat_lt 0) two.1 in
             let same : (followed_by fed.files files).ended ≡ both_files.ended =
-            ended-followed before current others files.current whole in
+            ended-followed fed.files others files.current whole in
             let uncut = sym (cuts.is fed.files (files_at others whole) all.counted two.0.counted) in
             record {
               counted = record {
-                ended = number ∙ ap in_64_bits (omega (
-                  arith,
-                  one.1,
-                  two.1,
-                  length-followed before current others files.current,
-                ));
+                ended = number
+                    ∙ ap in_64_bits (omega (arith, one.1, two.1, length-followed fed.files others files.current));
                 begun = begun ∙ rw (is.counted.begun, of.counted.begun)
-                    (begun-followed before current others files.current ends at_end);
+                    (begun-followed fed.files others files.current ends at_end);
               };
               fault = λ few. rw none (record {
                 whole = both_files.current;
                 rest = two.0.rest;
                 cut = record {
-                  parts = ap (λ (t : List ℕ). (followed_by (files_at before current) (files_at others t)).current)
-                      two.0.cut.parts
-                      ∙ parts-followed before current others whole two.0.rest;
-                  ends = ends-followed before current others whole all.ends two.0.cut.ends;
+                  parts = ap (λ (t : List ℕ). (going_on fed.files others t).current) two.0.cut.parts
+                      ∙ parts-followed fed.files others whole two.0.rest;
+                  ends = ends-followed fed.files others whole all.ends two.0.cut.ends;
                 };
                 unended = two.0.unended;
                 kept = rw rest two.0.kept;
                 numbered = line
                     ∙ ap (λ (n : ℕ). (if not ends then n else 0) + next.line) all.numbered
-                    ∙ ap (λ (n : ℕ). (if not ends then length (lines current) else 0) + n) two.0.numbered
-                    ∙ numbered-followed before current others whole ends all.ends at_end;
+                    ∙ ap (λ (n : ℕ). (if not ends then count else 0) + n) two.0.numbered
+                    ∙ numbered-followed fed.files others whole ends all.ends at_end;
                 counted = rw same (counts.holds fed.files (files_at others whole) all.ends uncut one.1 all.numbered
                     at_end all.counted two.0.counted);
-                read = rw (same, lines-followed before current others whole all.ends)
-                    (reads.holds fed.stations fed.keep (lines_to fed.files current) (lines_to files whole)
-                    (lines_on (length before + 1) (length (lines current)) (others ++ whole ∷ [])) all.read two.0.read
-                    (texts-on (length before + 1) (length (lines current)) (others ++ whole ∷ [])
+                read = rw (same, lines-followed fed.files others whole all.ends)
+                    (reads.holds fed.stations fed.keep (lines_to fed.files fed.files.current) (lines_to files whole)
+                    (lines_on (length fed.files.ended + 1) count (others ++ whole ∷ [])) all.read two.0.read
+                    (texts-on (length fed.files.ended) count (others ++ whole ∷ [])
                     ∙ ap line_texts (daily_lines-one others whole)));
               });
             };
@@ -245,17 +231,6 @@ module _ {L : Type 0} {has_read : Reading L} where
         absurd (omega (arith, left, ap length (none_of_line first fed read ends)));
   }
 
-  -- a part of the file that goes on is foreign
-  pub apart-foreign : (first next : Cutter L) → CutsForeign first.counts next.counts true
-      → StayApart has_read first next
-  apart-foreign first next cuts = record {
-    why = λ fed files is of on on_too ends.
-        let read = read_well first fed on is in
-        let two = read_well next (with_files fed files) on_too of in
-        let all = read_whole first fed read (none_of_line first fed read ends) in
-        inr (sym (cuts.is fed.files (files_at files.ended two.whole) all.counted two.counted));
-  }
-
   -- a listed station has months in both
   pub apart-shared : (first next : Cutter L) → ReadOneStation has_read first.reader next.reader
       → StayApart has_read first next
@@ -277,5 +252,11 @@ module _ {L : Type 0} (has_read : Reading L) where
   -- a next cutter can go on with the files of a first one, or a part of the file that goes on is foreign
   pub goes-on : (first next : Cutter L) (cuts : Bool) → LooksAtLines first true → LooksAtLines next true
       → first.rest.items ≡ [] → CutsForeign first.counts next.counts cuts → GoOn has_read first next (not cuts)
-  goes-on first next true looks looks_too empty cuts = apart-foreign first next cuts
+  goes-on first next true looks looks_too empty cuts = record {
+    why = λ fed files is of on on_too ends.
+        let read = read_well first fed on is in
+        let two = read_well next (with_files fed files) on_too of in
+        let all = read_whole first fed read (none_of_line first fed read ends) in
+        inr (sym (cuts.is fed.files (files_at files.ended two.whole) all.counted two.counted));
+  }
   goes-on first next false looks looks_too empty cuts = (looks, looks_too, empty, cuts)

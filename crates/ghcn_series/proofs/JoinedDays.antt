@@ -1,17 +1,16 @@
 -- Days of a block that join those that are held.
-use Rattle.std.proofs.Common.{◌≡◌, ℕ, zero, suc, ◌+◌, ◌<◌, ◌^◌, true, false, List, [], ◌∷◌, ◌++◌, length, get_or, set}
-use Rattle.std.proofs.Common.{Option, Some, None, inl, inr, refl, sym, ap, subst, ◌∙◌, arith, ℤ, pos, ◌+ℤ◌, w32}
+use Rattle.std.proofs.Common.{◌≡◌, ℕ, zero, suc, ◌+◌, ◌<◌, ◌^◌, List, [], ◌∷◌, ◌++◌, length, get_or, set}
+use Rattle.std.proofs.Common.{Option, Some, None, ◌⊎◌, inl, inr, refl, sym, ap, subst, ◌∙◌, arith, ℤ, pos, ◌+ℤ◌}
+use Rattle.std.proofs.Common.{w32, to_z, of_z, FitsSigned}
 use Rattle.std.specs.Prelude.{◌==◌, bit_or}
 use Rattle.std.specs.Int.{bit_at}
 use Rattle.std.specs.List.{AllByRecursion}
 use Rattle.std.specs.Option.{option_or}
-use Rattle.std.proofs.Common.{◌⊎◌}
 use Rattle.std.specs.Ordering.{int_eq}
-use Rattle.std.proofs.lemmas.Bool.{cases_lt}
+use Rattle.std.proofs.lemmas.Bool.{both_ways, cases_Bool, cases_lt}
 use Rattle.std.proofs.lemmas.Bool.Decides.{Decides-int_eq}
 use Rattle.std.proofs.lemmas.Nat.Bits.{bit_at_or, bit_at-lt}
 use Rattle.std.proofs.lemmas.Nat.{le_or_l}
-use Rattle.std.proofs.Common.{to_z, of_z, FitsSigned}
 use Rattle.std.specs.Int.Bits.{or_zero_l, or_zero_r}
 use Rattle.std.proofs.lemmas.List.{get_or-set_same, get_or-set_other}
 use Rattle.std.proofs.lemmas.Int.{to_z-of_z}
@@ -23,16 +22,14 @@ use Rattle.ghcn_series.proofs.Lookups.{or_none, at_day, block-value, block-other
 
 -- of two that may be nothing, joined to nothing, both are
 pub both-none : (a b : Option ℤ) → option_or a b ≡ None → (a ≡ None) × (b ≡ None)
-both-none None b e = (refl, e)
-both-none (Some x) b e = absurd cc
+both-none a b e = grind arith
 
 -- two numbers are equal or differ
 pub same_block : (a b : ℤ) → (a ≡ b) ⊎ (a ≡ b → ⊥)
-same_block a b =
-    elim (int_eq a b) as (λ t. int_eq a b ≡ t → (a ≡ b) ⊎ (a ≡ b → ⊥)) [
-      | true ↦ λ e. inl ((Decides-int_eq a b).0 e)
-      | false ↦ λ e. inr (λ same. let hit : int_eq a b ≡ true = (Decides-int_eq a b).1 same in absurd cc)
-    ] refl
+same_block a b = elim (cases_Bool (int_eq a b)) [
+  | inl holds ↦ inl ((Decides-int_eq a b).0 holds)
+  | inr fails ↦ inr (λ same. both_ways (int_eq a b) fails ((Decides-int_eq a b).1 same))
+]
 
 -- a bit is 0 or 1
 bit_cases : (w i : ℕ) → (bit_at w i ≡ 0) ⊎ (bit_at w i ≡ 1)
@@ -52,10 +49,8 @@ module _ (w p : ℕ) (v u r : List ℤ) (j : ℕ)
         let bit : bit_at (bit_or w p) j ≡ bit_at p j = omega (arith, bit_at_or w p j) in
         rw (bit, absent) (ap (if_so (bit_at p j == 1)) (row.second (zeros_w absent)))
     | inr present ↦
-        let other : bit_at p j ≡ 0 = elim (bit_cases p j) [
-          | inl none ↦ none
-          | inr both ↦ absurd (apart present both)
-        ] in
+        let not_both : bit_at p j ≡ 1 → ⊥ = apart present in
+        let other : bit_at p j ≡ 0 = omega (arith, bit_at-lt p j, not_both) in
         let bit : bit_at (bit_or w p) j ≡ 1 = omega (arith, bit_at_or w p j) in
         rw (bit, present) (ap Some (row.first (zeros_p other)))
   ]
@@ -67,20 +62,18 @@ pub record AreApart (w p : ℕ) : Type 0 where
 module _ (n : ℤ) (w p : ℕ) (v u r : List ℤ) (a : IsPacked (n, (w, v))) (b : IsPacked (n, (p, u))) (apart : AreApart w p)
     (row : JoinsValues v u r) where
   -- on a day the new part has the value of one of the two
-  Joined : ℤ → Type 0
+  abbrev Joined : ℤ → Type 0
   Joined d = value_on (block_days (n, (bit_or w p, r))) d ≡ option_or (value_on (block_days (n, (w, v))) d)
       (value_on (block_days (n, (p, u))) d)
 
   -- so it is at each place of the block
   at_places : (j : ℕ) → j < 32 → Joined (block_start n +ℤ pos j)
-  unfolding Joined
   at_places j lt =
       rw (block-value (n, (bit_or w p, r)) j lt, block-value (n, (w, v)) j lt, block-value (n, (p, u)) j lt)
       (value-joined w p v u r j (a.zeros j lt) (b.zeros j lt) (apart.apart j lt) (row j lt))
 
   -- the joined block has the days of both
   pub block-joined : AreJoined (block_days (n, (w, v))) (block_days (n, (p, u))) (block_days (n, (bit_or w p, r)))
-  unfolding Joined
   block-joined d = elim (same_block n (block_of d)) [
     | inl here ↦
         at_day Joined d (subst (λ (b : ℤ). (j : ℕ) → j < 32 → Joined (block_start b +ℤ pos j)) here at_places)
@@ -94,9 +87,8 @@ module _ (n : ℤ) (w p : ℕ) (v u r : List ℤ) (a : IsPacked (n, (w, v))) (b 
     present = omega (arith, a.present, le_or_l w p);
     fits = fits;
     zeros = λ j lt none.
-        let mine : bit_at w j ≡ 0 = omega (arith, bit_at_or w p j) in
-        let other : bit_at p j ≡ 0 = omega (arith, bit_at_or w p j) in
-        (row j lt).second (a.zeros j lt mine) ∙ b.zeros j lt other;
+        (row j lt).second (a.zeros j lt (omega (arith, bit_at_or w p j)))
+        ∙ b.zeros j lt (omega (arith, bit_at_or w p j));
     days = λ j lt set. elim (bit_cases w j) [
       | inl absent ↦ b.days j lt (omega (arith, bit_at_or w p j))
       | inr present ↦ a.days j lt present
@@ -105,8 +97,7 @@ module _ (n : ℤ) (w p : ℕ) (v u r : List ℤ) (a : IsPacked (n, (w, v))) (b 
 
 -- a first choice is the same in either grouping
 pub or_assoc : (a b c : Option ℤ) → option_or a (option_or b c) ≡ option_or (option_or a b) c
-or_assoc None b c = refl
-or_assoc (Some x) b c = refl
+or_assoc a b c = grind arith
 
 -- the last block joined with more days: all days are joined with them
 pub last-joined : (ns : List ℤ) (ws : List ℕ) (vs : List (List ℤ)) (i : ℕ) (p : ℕ) (r : List ℤ) (more : List DayValue)

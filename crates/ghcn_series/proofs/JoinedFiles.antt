@@ -1,11 +1,11 @@
 -- Files that are cut into parts: the facts of all of them are those of the parts, and so are the days that they say.
 use Rattle.std.proofs.Common.{◌≡◌, ℕ, ◌+◌, Bool, true, false, cond, not, List, [], ◌∷◌, ◌++◌, length, map, filter}
-use Rattle.std.proofs.Common.{Option, None, Some, Ok, Err, refl, sym, ap, ◌∙◌, arith}
+use Rattle.std.proofs.Common.{Option, None, Some, Ok, Err, refl, sym, ap, ap₂, ◌∙◌}
 use Rattle.std.specs.Prelude.{◌==◌, ◌&&◌, nat_le, ◌^◌}
 use Rattle.std.specs.List.{filter_map, flat_map, AllZip}
 use Rattle.std.proofs.lemmas.Bool.{eqb-true, not-false}
 use Rattle.std.proofs.lemmas.Grind.{flat_map-append}
-use Rattle.std.proofs.lemmas.List.{map-append, append-nil}
+use Rattle.std.proofs.lemmas.List.{map-append, append-nil, nil_from_length}
 use Rattle.std.proofs.lemmas.List.Elements.{filter-append, filter_map-append}
 use Rattle.std.proofs.lemmas.List.Folds.{flat_map-map}
 use Rattle.ghcn_fields.specs.Faults.{first_fault}
@@ -13,14 +13,13 @@ use Rattle.ghcn_fields.specs.Sorting.{sorted_by}
 use Rattle.ghcn_files.specs.declared.station.StationId.{StationId}
 use Rattle.ghcn_files.specs.declared.station.Station.{Station}
 use Rattle.ghcn_files.specs.declared.element.Element.{Element}
-use Rattle.ghcn_files.specs.declared.month.Month.{Month}
 use Rattle.ghcn_files.specs.Ids.{same_id}
 use Rattle.ghcn_files.specs.Elements.{same_element}
 use Rattle.ghcn_series.specs.declared.fault.DataFault.{DataFault}
 use Rattle.ghcn_series.specs.declared.fault.DataFault.TheVariants.{TooManyFiles}
 use Rattle.ghcn_series.specs.Series.{DayValue, Contents, by_day}
 use Rattle.ghcn_series.specs.DailyFaults.{FileLine, daily_lines, daily_fault, month_on}
-use Rattle.ghcn_series.specs.Says.{Fact, facts_of, is_usable, contents, contents_unless}
+use Rattle.ghcn_series.specs.Says.{Fact, contents, contents_unless}
 use Rattle.ghcn_series.specs.JoinedFiles.{facts_in, HaveData, FactsOfParts}
 use Rattle.ghcn_series.proofs.FedLines.{lines_from, daily_lines-append, texts-renumbered}
 use Rattle.ghcn_series.proofs.ReadLines.{months-texts}
@@ -33,20 +32,8 @@ months-append : (files others : List (List ℕ)) → filter_map month_on (daily_
     ≡ filter_map month_on (daily_lines files) ++ filter_map month_on (daily_lines others)
 months-append files others =
     let more = lines_from (1 + length files) others in
-    ap (filter_map month_on) (daily_lines-append files others)
-    ∙ filter_map-append month_on (daily_lines files) more
-    ∙ ap (λ (l : List Month). filter_map month_on (daily_lines files) ++ l)
-    (months-texts more (daily_lines others) (texts-renumbered (1 + length files) others))
-
--- the facts of files, and of others after them
-pub facts-append : (stations : List Station) (files others : List (List ℕ))
-    → facts_in stations (files ++ others) ≡ facts_in stations files ++ facts_in stations others
-facts-append stations files others =
-    let first : List Month = filter_map month_on (daily_lines files) in
-    let rest : List Month = filter_map month_on (daily_lines others) in
-    ap (λ (ms : List Month). filter (is_usable stations) (flat_map facts_of ms)) (months-append files others)
-    ∙ ap (filter (is_usable stations)) (flat_map-append facts_of first rest)
-    ∙ filter-append (is_usable stations) (flat_map facts_of first) (flat_map facts_of rest)
+    rw (daily_lines-append files others, filter_map-append month_on (daily_lines files) more)
+    (rw (months-texts more (daily_lines others) (texts-renumbered (1 + length files) others)) refl)
 
 -- the facts of the files of all parts are those of each part, one part after the other
 pub facts_of_parts : {P : Type 0} (stations : List Station) (files : P → List (List ℕ)) (parts : List P)
@@ -54,8 +41,8 @@ pub facts_of_parts : {P : Type 0} (stations : List Station) (files : P → List 
     (map (λ p. facts_in stations (files p)) parts)
 facts_of_parts stations files [] = refl
 facts_of_parts stations files (p ∷ parts) =
-    facts-append stations (files p) (flat_map files parts)
-    ∙ ap (λ (l : List Fact). facts_in stations (files p) ++ l) (facts_of_parts stations files parts)
+    simp (months-append (files p) (flat_map files parts), flat_map-append, filter-append)
+    (rw (facts_of_parts stations files parts) refl)
 
 -- so it is with parts that are files alone
 pub facts_joined : FactsOfParts
@@ -69,15 +56,11 @@ facts_joined stations parts =
 abbrev pub contents_in : List Station → List (List ℕ) → Contents
 contents_in stations files = contents stations (daily_lines files)
 
--- what lines hold, unless one has an error
-held_unless : (o : Option (FileLine × DataFault)) (c d : Contents) → contents_unless o c ≡ Ok d → c ≡ d
-held_unless None c d e = cc
-held_unless (Some f) c d e = absurd cc
-
--- unless there are too many files
+-- what lines hold, unless one has an error or there are too many files
 held_if_few : (b : Bool) (o : Option (FileLine × DataFault)) (c d : Contents)
     → cond b (contents_unless o c) (Err TooManyFiles) ≡ Ok d → c ≡ d
-held_if_few true o c d e = held_unless o c d e
+held_if_few true None c d e = cc
+held_if_few true (Some f) c d e = absurd cc
 held_if_few false o c d e = absurd cc
 
 -- the data of files without an error are what their lines hold
@@ -95,15 +78,14 @@ all_data-held stations files [] [] h = refl
 all_data-held stations files [] (d ∷ ds) h = absurd h
 all_data-held stations files (p ∷ parts) [] h = absurd h
 all_data-held stations files (p ∷ parts) (d ∷ ds) h =
-    ap (λ (c : Contents). c ∷ map (λ x. contents_in stations (files x)) parts) (data-held stations (files p) d h.0)
-    ∙ ap (λ (l : List Contents). d ∷ l) (all_data-held stations files parts ds h.1)
+    ap₂ (λ (c : Contents) (l : List Contents). c ∷ l) (data-held stations (files p) d h.0)
+    (all_data-held stations files parts ds h.1)
 
 -- ---- the days of facts
 
 -- a list without an element
 pub none_in : {X : Type 0} (xs : List X) → (length xs == 0) ≡ true → xs ≡ []
-none_in [] e = refl
-none_in (x ∷ xs) e = absurd (omega (arith, eqb-true (length (x ∷ xs)) 0 e))
+none_in xs e = nil_from_length xs (eqb-true (length xs) 0 e)
 
 -- if no days are left in order, there were none
 none_sorted : (xs : List DayValue) → not (length (sorted_by by_day xs) == 0) ≡ false → xs ≡ []
@@ -113,14 +95,12 @@ none_sorted xs e =
 -- without first days, the days in order are the last ones
 pub joined-left : (xs ys : List DayValue) → not (length (sorted_by by_day xs) == 0) ≡ false
     → sorted_by by_day (xs ++ ys) ≡ sorted_by by_day ys
-joined-left xs ys none = ap (λ (l : List DayValue). sorted_by by_day (l ++ ys)) (none_sorted xs none)
+joined-left xs ys none = rw (none_sorted xs none) refl
 
 -- and without last days, the first ones
 pub joined-right : (xs ys : List DayValue) → not (length (sorted_by by_day ys) == 0) ≡ false
     → sorted_by by_day (xs ++ ys) ≡ sorted_by by_day xs
-joined-right xs ys none =
-    ap (λ (l : List DayValue). sorted_by by_day (xs ++ l)) (none_sorted ys none)
-    ∙ ap (sorted_by by_day) (append-nil xs)
+joined-right xs ys none = rw (none_sorted ys none, append-nil xs) refl
 
 -- the days of a station and element, as facts come
 abbrev pub days_said : List Fact → StationId → Element → List DayValue
@@ -130,7 +110,4 @@ days_said facts id e =
 -- those of facts, and of others after them
 pub days_said-append : (xs ys : List Fact) (id : StationId) (e : Element)
     → days_said (xs ++ ys) id e ≡ days_said xs id e ++ days_said ys id e
-days_said-append xs ys id e =
-    let is_of : Fact → Bool = λ f. same_id f.id id && same_element f.element e in
-    let pair : Fact → DayValue = λ f. (f.day, f.value) in
-    ap (map pair) (filter-append is_of xs ys) ∙ map-append pair (filter is_of xs) (filter is_of ys)
+days_said-append xs ys id e = simp (filter-append, map-append)

@@ -1,21 +1,19 @@
 -- Lines that two readers have read, joined: those of the second one have other numbers then.
-use Rattle.std.proofs.Common.{◌≡◌, ℕ, ◌+◌, Bool, true, false, cond, List, [], ◌∷◌, ◌++◌, length}
-use Rattle.std.proofs.Common.{Option, None, Some, Result, Ok, Err, refl, sym, ap, ◌∙◌, append_assoc, subst}
+use Rattle.std.proofs.Common.{◌≡◌, ◌+◌, Bool, true, false, cond, List, [], ◌∷◌, ◌++◌, length}
+use Rattle.std.proofs.Common.{Option, None, Some, Result, Ok, Err, refl, sym, ap, ◌∙◌, append_assoc, subst, arith}
 use Rattle.std.specs.Prelude.{◌&&◌, ◌||◌}
 use Rattle.std.specs.List.{filter_map, list_any, Contains}
 use Rattle.std.specs.Option.{option_map}
-use Rattle.std.proofs.lemmas.Bool.{or_from, or_right}
+use Rattle.std.proofs.lemmas.Bool.{or_right}
 use Rattle.std.proofs.lemmas.List.{append-nil, map-append}
 use Rattle.std.proofs.lemmas.List.Elements.{filter_map-append}
 use Rattle.std.proofs.lemmas.List.Folds.{list_any-append}
-use Rattle.std.proofs.lemmas.Slice.Zip.{AllZip-long}
 use Rattle.ghcn_fields.specs.Faults.{HaveNoFault}
 use Rattle.ghcn_files.proofs.FaultLaws.{no_fault-more}
 use Rattle.ghcn_files.specs.declared.station.Station.{Station}
 use Rattle.ghcn_files.specs.declared.element.Keep.{Keep}
 use Rattle.ghcn_files.specs.declared.month.Month.{Month}
 use Rattle.ghcn_files.specs.declared.fault.LineWhy.{LineWhy}
-use Rattle.ghcn_files.specs.Ids.{same_id}
 use Rattle.ghcn_files.specs.Months.{read_month}
 use Rattle.ghcn_series.specs.declared.fault.DailyWhy.TheVariants.{DuplicateMonth}
 use Rattle.ghcn_series.specs.declared.fault.DataFault.TheVariants.{DailyLine}
@@ -28,6 +26,7 @@ use Rattle.ghcn_series.specs.Says.{in_64_bits}
 use Rattle.ghcn_series.specs.Steps.{JoinStations, OneHasBoth}
 use Rattle.ghcn_series.proofs.JoinedMonths.{not_among, read_joined}
 use Rattle.ghcn_series.proofs.ListFacts.{map_split}
+use Rattle.ghcn_series.proofs.ReadMonths.{as_many_gathered}
 use Rattle.ghcn_series.proofs.Places.{same_id-refl}
 use Rattle.ghcn_series.proofs.ReadLines.{months-texts}
 
@@ -44,13 +43,11 @@ no_fault-append fault ls (x ∷ xs) all none =
 
 -- nothing in another form is nothing
 nothing_mapped : {A B : Type 0} (f : A → B) (o : Option A) → option_map f o ≡ None → o ≡ None
-nothing_mapped f None e = refl
-nothing_mapped f (Some x) e = absurd cc
+nothing_mapped f o e = grind arith
 
 -- no reason if a test fails
 test_failed : {A : Type 0} (b : Bool) (x : A) → cond b (Some x) None ≡ None → b ≡ false
-test_failed true x e = absurd cc
-test_failed false x e = refl
+test_failed b x e = grind arith
 
 -- a line that isn't refused after some lines isn't after others, unless these have its month
 why_none : (stations : List Station) (before others : List FileLine) (read : Result (Option Month) LineWhy)
@@ -65,19 +62,13 @@ why_none stations before others (Ok (Some m)) keeps none =
 -- a month of a listed station that neither the first lines have nor those after them
 still_new : (listed first more : Bool) → (listed ≡ true → first ≡ false) → (listed && more) ≡ false
     → (listed && (first || more)) ≡ false
-still_new true first more apart none = or_from first more (apart refl) none
-still_new false first more apart none = refl
+still_new listed first more apart none = grind arith
 
 -- the month of a line is among those of its lines
 is_among : (before : List FileLine) (l : FileLine) (rest : List FileLine) (m : Month) → month_on l ≡ Some m
     → has_month_of (filter_map month_on (before ++ l ∷ rest)) m.id ≡ true
 is_among before l rest m is =
-    rw (
-      filter_map-append month_on before (l ∷ rest),
-      list_any-append (λ (x : Month). same_id x.id m.id) (filter_map month_on before) (filter_map month_on (l ∷ rest)),
-      is,
-      same_id-refl m.id,
-    )
+    rw (filter_map-append month_on before (l ∷ rest), list_any-append, is, same_id-refl m.id)
     (or_right (has_month_of (filter_map month_on before) m.id) true refl)
 
 -- lines without an error, and others without an error under other numbers, have none together, if no listed station has
@@ -99,33 +90,26 @@ no_fault-joined stations ls more numbered same apart is of =
     (λ m read new.
     let some : has_month_of (filter_map month_on more) m.id ≡ true =
     rw at.3 (is_among at.0 at.1 at.2 m (ap month_if_ok read)) in
-    rw (
-      filter_map-append month_on ls front,
-      ← months,
-      list_any-append (same_month m) (filter_map month_on ls) (filter_map month_on at.0),
-    )
+    rw (filter_map-append month_on ls front, ← months, list_any-append)
     (still_new (is_listed stations m.id) (list_any (same_month m) (filter_map month_on ls))
     (list_any (same_month m) (filter_map month_on at.0)) (λ listed. apart m listed some) new)) none in
-    ap (λ (b : List ℕ). daily_fault stations (ls ++ front) (record { file = l.file; line = l.line; bytes = b }))
-    (sym at.5)
-    ∙ ap (option_map (λ why. DailyLine l.file l.line why)) kept)
+    rw (ap read_month (sym at.5), kept) refl)
 
 -- ---- readers
 
 -- two readers have as many stations
 pub as_many : (first next : Reader) (stations : List Station) (keep : Keep) (ls others : List FileLine)
     → HasReadFor first stations keep ls → HasReadFor next stations keep others
-    → length next.gathered.items ≡ length first.gathered.items
+    → length next.gathered.stations ≡ length first.gathered.stations
 as_many first next stations keep ls others is of =
-    AllZip-long _ next.stations next.gathered.items of.read.months.gathered
-    ∙ ap length (of.listed ∙ sym is.listed)
-    ∙ sym (AllZip-long _ first.stations first.gathered.items is.read.months.gathered)
+    as_many_gathered _ next of.read.months ∙ ap length (of.listed ∙ sym is.listed)
+    ∙ sym (as_many_gathered _ first is.read.months)
 
 -- what two readers have read is read by one
 pub reads_joined : (first next both : Reader) → both.keep ≡ first.keep → both.stations ≡ first.stations
-    → both.spare.items ≡ first.spare.items → both.unlisted ≡ in_64_bits (first.unlisted + next.unlisted)
-    → JoinStations first.gathered.items next.gathered.items both.gathered.items → JoinsLines HasReadFor first next both
-reads_joined first next both keep stations spare unlisted joins = record {
+    → both.unlisted ≡ in_64_bits (first.unlisted + next.unlisted)
+    → JoinStations first.gathered.stations next.gathered.stations both.gathered.stations → JoinsLines HasReadFor first next both
+reads_joined first next both keep stations unlisted joins = record {
   holds = λ list asked ls more numbered is of same.
       let ms = filter_map month_on ls in
       let others = filter_map month_on more in
@@ -138,7 +122,7 @@ reads_joined first next both keep stations spare unlisted joins = record {
         kept = keep ∙ is.kept;
         read = record {
           months = rw (filter_map-append month_on ls numbered, months-texts numbered more same)
-              (read_joined first next both ms others same_keep same_list keep stations spare unlisted joins
+              (read_joined first next both ms others same_keep same_list keep stations unlisted joins
               is.read.months of.read.months);
           right = rw stations (no_fault-joined first.stations ls more numbered same
               (λ m listed some. not_among ms others first.stations m apart listed some) is.read.right
@@ -148,7 +132,7 @@ reads_joined first next both keep stations spare unlisted joins = record {
 }
 
 -- or a listed station has months in both
-pub reads-apart : (first next : Reader) → OneHasBoth first.gathered.items next.gathered.items
+pub reads-apart : (first next : Reader) → OneHasBoth first.gathered.stations next.gathered.stations
     → ReadOneStation HasReadFor first next
 reads-apart first next both = record {
   share = λ list asked ls more is of.

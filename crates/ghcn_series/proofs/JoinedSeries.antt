@@ -1,18 +1,16 @@
 -- Files that are cut into parts: the series of all of them are those of the parts, if they are apart.
-use Rattle.std.proofs.Common.{◌≡◌, ℕ, Bool, true, false, List, [], ◌∷◌, ◌++◌, map, filter, refl, sym, ap, ◌∙◌, subst}
+use Rattle.std.proofs.Common.{◌≡◌, ℕ, Bool, false, List, [], ◌∷◌, ◌++◌, map, filter, refl, sym, ap, ap₂}
 use Rattle.std.specs.Prelude.{◌&&◌}
 use Rattle.std.specs.List.{flat_map, IsDistinct}
 use Rattle.std.specs.List.Sorted.{IsPermutation}
 use Rattle.std.proofs.lemmas.Bool.{and_from, eq-eqb}
 use Rattle.std.proofs.lemmas.Cmp.{nat_eq_equiv}
-use Rattle.std.proofs.lemmas.List.{map-append}
-use Rattle.ghcn_fields.specs.Sorting.{sorted_by}
 use Rattle.ghcn_files.specs.declared.station.Station.{Station}
 use Rattle.ghcn_files.specs.declared.element.Element.{Element}
 use Rattle.ghcn_files.specs.Ids.{same_id}
 use Rattle.ghcn_files.specs.Elements.{same_element, elements, element_index}
 use Rattle.ghcn_files.proofs.IdLaws.{same_id-turned}
-use Rattle.ghcn_series.specs.Series.{DayValue, Usable, Contents, by_day}
+use Rattle.ghcn_series.specs.Series.{Usable}
 use Rattle.ghcn_series.specs.Says.{Fact, usable_of}
 use Rattle.ghcn_series.specs.Held.{same_series}
 use Rattle.ghcn_series.specs.JoinedFiles.{facts_in, all_their_series, SeriesOfParts}
@@ -28,17 +26,13 @@ use Rattle.ghcn_series.proofs.JoinedLists.{Joins, held_whole}
 pub usable_of-left : (s : Station) (e : Element) (f g : List Fact) → has_days (usable_of f s e) ≡ false
     → usable_of (f ++ g) s e ≡ usable_of g s e
 usable_of-left s e f g none =
-    ap (λ (days : List DayValue). record { id = s.id; element = e; days = days })
-    (ap (sorted_by by_day) (days_said-append f g s.id e)
-    ∙ joined-left (days_said f s.id e) (days_said g s.id e) none)
+    rw (days_said-append f g s.id e, joined-left (days_said f s.id e) (days_said g s.id e) none) refl
 
 -- and those of the first ones if later ones give it none
 pub usable_of-right : (s : Station) (e : Element) (f g : List Fact) → has_days (usable_of g s e) ≡ false
     → usable_of (f ++ g) s e ≡ usable_of f s e
 usable_of-right s e f g none =
-    ap (λ (days : List DayValue). record { id = s.id; element = e; days = days })
-    (ap (sorted_by by_day) (days_said-append f g s.id e)
-    ∙ joined-right (days_said f s.id e) (days_said g s.id e) none)
+    rw (days_said-append f g s.id e, joined-right (days_said f s.id e) (days_said g s.id e) none) refl
 
 -- ---- the series of parts
 
@@ -58,33 +52,18 @@ places ss = flat_map (λ s. map (λ e. (s, e)) elements) ss
 places_said : (facts : List Fact) (ss : List Station)
     → map (said_at facts) (places ss) ≡ flat_map (λ s. map (usable_of facts s) elements) ss
 places_said facts [] = refl
-places_said facts (s ∷ ss) =
-    map-append (said_at facts) (map (λ e. (s, e)) elements) (places ss)
-    ∙ ap (λ (l : List Usable). map (usable_of facts s) elements ++ l) (places_said facts ss)
+places_said facts (s ∷ ss) = ap (λ (l : List Usable). map (usable_of facts s) elements ++ l) (places_said facts ss)
 
--- which of two series is named first makes no difference
-same_series-turned : (a b : Usable) → same_series a b ≡ same_series b a
-same_series-turned a b =
-    ap (λ (t : Bool). t && same_element a.element b.element) (same_id-turned a.id b.id)
-    ∙ ap (λ (t : Bool). same_id b.id a.id && t) (elements_turned a.element b.element)
-  where
-    elements_turned : (e f : Element) → same_element e f ≡ same_element f e
-    elements_turned e f = nat_eq_equiv.symm (element_index e) (element_index f)
-
--- whatever the facts, the series has the same station and element
-said_alike : (x : Place) (f g : List Fact) → same_series (said_at f x) (said_at g x) ≡ true
-said_alike x f g =
-    and_from (same_id x.0.id x.0.id) (same_element x.1 x.1) (same_id-refl x.0.id)
-    (eq-eqb (element_index x.1) (element_index x.1) refl)
-
--- so series join if facts do
+-- series join if facts do: whatever the facts, the series has the same station and element
 series_join : Joins said_at has_days same_series
 series_join = record {
-  turned = same_series-turned;
+  turned = λ a b. ap₂ (λ (s t : Bool). s && t) (same_id-turned a.id b.id)
+      (nat_eq_equiv.symm (element_index a.element) (element_index b.element));
   none = λ x. refl;
   left = λ x. usable_of-left x.0 x.1;
   right = λ x. usable_of-right x.0 x.1;
-  same = said_alike;
+  same = λ x f g. and_from (same_id x.0.id x.0.id) (same_element x.1 x.1) (same_id-refl x.0.id)
+      (eq-eqb (element_index x.1) (element_index x.1) refl);
 }
 
 module _ (stations : List Station) where
@@ -101,8 +80,7 @@ module _ (stations : List Station) where
       ≡ flat_map series_said (map (facts_in stations) parts)
   all_series_held [] = refl
   all_series_held (p ∷ parts) =
-      ap (λ (l : List Usable). l ++ all_their_series (map (contents_in stations) parts)) (series_held p)
-      ∙ ap (λ (l : List Usable). series_said (facts_in stations p) ++ l) (all_series_held parts)
+      ap₂ (λ (one rest : List Usable). one ++ rest) (series_held p) (all_series_held parts)
 
   -- if no two series of all parts have the same station and element, those of all files are these
   series_together : (parts : List (List (List ℕ)))
@@ -110,17 +88,11 @@ module _ (stations : List Station) where
       → IsPermutation (all_their_series (map (contents_in stations) parts))
       (contents_in stations (flat_map (λ files. files) parts)).series
   series_together parts distinct =
-      let fs : List (List Fact) = map (facts_in stations) parts in
-      let same : all_their_series (map (contents_in stations) parts) ≡ flat_map series_said fs =
-      all_series_held parts in
-      let moved : IsPermutation (flat_map series_said fs) (series_said (flat_map (λ f. f) fs)) =
-      held_whole said_at has_days same_series series_join fs (places stations)
-      (subst (IsDistinct same_series) same distinct) in
-      let all : series_said (flat_map (λ f. f) fs) ≡ (contents_in stations (flat_map (λ files. files) parts)).series =
-      ap series_said (sym (facts_of_parts stations (λ files. files) parts))
-      ∙ sym (series_held (flat_map (λ files. files) parts)) in
-      subst (λ (l : List Usable). IsPermutation l (contents_in stations (flat_map (λ files. files) parts)).series)
-      (sym same) (subst (IsPermutation (flat_map series_said fs)) all moved)
+      let all : List (List ℕ) = flat_map (λ files. files) parts in
+      let moved = held_whole said_at has_days same_series series_join (map (facts_in stations) parts) (places stations)
+      (rw (all_series_held parts) at distinct) in
+      let facts = facts_of_parts stations (λ (files : List (List ℕ)). files) parts in
+      rw (all_series_held parts, series_held all, facts) moved
 
 -- if no station and element has a series in two parts, the series of all files are those of the parts
 pub series_of_parts : SeriesOfParts
@@ -128,7 +100,4 @@ series_of_parts stations parts ds held are all distinct =
     let of_parts : map (contents_in stations) parts ≡ ds = all_data-held stations (λ files. files) parts ds are in
     let of_all : contents_in stations (flat_map (λ files. files) parts) ≡ held =
     data-held stations (flat_map (λ files. files) parts) held all in
-    subst (λ (l : List Contents). IsPermutation (all_their_series l) held.series) of_parts
-    (subst (λ (c : Contents). IsPermutation (all_their_series (map (contents_in stations) parts)) c.series) of_all
-    (series_together stations parts (subst (λ (l : List Contents). IsDistinct same_series (all_their_series l))
-    (sym of_parts) distinct)))
+    rw (← of_parts, ← of_all) (series_together stations parts (rw of_parts distinct))

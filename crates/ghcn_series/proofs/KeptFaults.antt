@@ -1,9 +1,10 @@
 -- What a cutter knows that has taken a piece or a file's end, and what it returns when all files are ended.
-use Rattle.std.proofs.Common.{◌≡◌, ℕ, true, false, Bool, ◌+◌, ◌<◌, ◌≤◌, ◌^◌, List, [], ◌∷◌, length}
+use Rattle.std.proofs.Common.{◌≡◌, ℕ, true, false, ◌+◌, ◌<◌, ◌≤◌, ◌^◌, List, [], length}
 use Rattle.std.proofs.Common.{Option, None, Some, refl, sym, ap, ◌∙◌, subst, length-append, arith}
-use Rattle.std.specs.Prelude.{◌&&◌, nat_lt, nat_le, is_none, Result, OnOk, IfErr}
+use Rattle.std.specs.Prelude.{is_none, Result, OnOk, IfErr}
 use Rattle.std.specs.Result.{result_err}
-use Rattle.std.proofs.lemmas.Bool.{leb-true, ltb-true, ltb-false, le-leb}
+use Rattle.std.proofs.lemmas.Bool.{leb-true, ltb-true, ltb-false}
+use Rattle.std.proofs.lemmas.Bool.Decides.{nat_tests}
 use Rattle.std.proofs.lemmas.List.{append-nil, nil_from_length}
 use Rattle.std.proofs.lemmas.Result.{IfOk-weaker, IfErr-weaker}
 use Rattle.ghcn_fields.specs.Refusals.{IsRefusal}
@@ -11,7 +12,7 @@ use Rattle.ghcn_series.specs.declared.cutter.Cut.{Cut}
 use Rattle.ghcn_series.specs.declared.cutter.Cutter.{Cutter}
 use Rattle.ghcn_series.specs.declared.fault.DataFault.{DataFault}
 use Rattle.ghcn_series.specs.Counted.{HaveCounted}
-use Rattle.ghcn_series.specs.Cut.{IsCutFile, lines_to, HasReadFed, HasLineFault, HasFault, HasCounted, HasFed, HasFedSome}
+use Rattle.ghcn_series.specs.Cut.{IsCutFile, lines_to, HasReadFed, HasLineFault, HasCounted, HasFed, HasFedSome}
 use Rattle.ghcn_series.specs.Cut.{TakesPiece, EndsFile, HoldsFed, RefusesFed, CountsFew, LooksAtLines}
 use Rattle.ghcn_series.specs.Cut.{ReadsBytes, RefusesBytes, ReadsEnd, RefusesEnd}
 use Rattle.ghcn_series.specs.DailyFaults.{daily_lines, is_memory}
@@ -20,84 +21,37 @@ use Rattle.ghcn_series.specs.Gathered.{IsLineRefusal}
 use Rattle.ghcn_series.specs.LinesRead.{Reading, HasReadSome}
 use Rattle.ghcn_series.specs.Says.{in_64_bits, data_of}
 use Rattle.ghcn_series.proofs.AlikeBeginnings.{begin-some}
-use Rattle.ghcn_series.proofs.CountedLines.{both_of}
 use Rattle.ghcn_series.proofs.ReadFiles.{data_of-refused, first_refusal}
 use Rattle.ghcn_series.proofs.FedCounts.{and_current-some, counted-more, counted-end, at_file, at_place, may_be_read}
 use Rattle.ghcn_series.proofs.FedCounts.{few_before, few_at_end}
 use Rattle.ghcn_series.proofs.FedPieces.{same_read, kept_fault, without_fault, with_fault, fault-more, fault-end}
 
--- two tests of which the second holds, and not both
-not_both : (a b : Bool) → (a && b) ≡ false → b ≡ true → a ≡ false
-not_both true true e t = absurd cc
-not_both true false e t = absurd cc
-not_both false b e t = refl
-
 -- if lines are looked at, there is no error, and the files are few
 pub looking : {L : Type 0} (c : Cutter L) (files : Files) → LooksAtLines c true → HasCounted c files
     → (is_none c.fault ≡ true) × (length (files_of files) ≤ 2 ^ 20)
-looking c files looks counted =
-    let both = both_of (is_none c.fault) (nat_le (length (files_of files)) (2 ^ 20)) (sym (looks.is files counted)) in
-    (both.0, leb-true (length (files_of files)) (2 ^ 20) both.1)
+looking c files looks counted = grind (arith, nat_tests, looks.is files counted)
 
 -- if they aren't, few files have an error
 passing : {L : Type 0} (c : Cutter L) (files : Files) → LooksAtLines c false → HasCounted c files
     → length (files_of files) ≤ 2 ^ 20 → is_none c.fault ≡ false
-passing c files looks counted few =
-    not_both (is_none c.fault) (nat_le (length (files_of files)) (2 ^ 20)) (sym (looks.is files counted))
-    (le-leb (length (files_of files)) (2 ^ 20) few)
+passing c files looks counted few = grind (arith, nat_tests, looks.is files counted)
 
 -- a cutter whose current file has a byte
 abbrev pub with_byte : {L : Type 0} → Cutter L → Cutter L
-with_byte c = record {
-  alloc = c.alloc;
-  reader = c.reader;
-  counts = c.counts;
-  ended = c.ended;
-  begun = true;
-  line = c.line;
-  rest = c.rest;
-  fault = c.fault;
-}
+with_byte c = record c { begun = true }
 
 -- a cutter that keeps this error, or none
 abbrev pub keeping : {L : Type 0} → Cutter L → Option DataFault → Cutter L
-keeping c fault = record {
-  alloc = c.alloc;
-  reader = c.reader;
-  counts = c.counts;
-  ended = c.ended;
-  begun = c.begun;
-  line = c.line;
-  rest = c.rest;
-  fault = fault;
-}
-
--- a file with these bytes has one
-some_in : (files : Files) (bytes : List ℕ) → 0 < length bytes → 0 < length (more files bytes).current
-some_in files bytes some = omega (arith, some, length-append files.current bytes)
+keeping c fault = record c { fault = fault }
 
 -- a cutter that has ended that many files
 abbrev pub ending : {L : Type 0} → Cutter L → ℕ → Cutter L
-ending c ended = record {
-  alloc = c.alloc;
-  reader = c.reader;
-  counts = c.counts;
-  ended = ended;
-  begun = false;
-  line = c.line;
-  rest = c.rest;
-  fault = c.fault;
-}
+ending c ended = record c { ended = ended; begun = false }
 
 -- a cutter has ended the files that another was fed
 pub record HasEnded {L : Type 0} (has_read : Reading L) (old new : Cutter L) : Type 0 where
   pub holds : (fed : Fed) → HasFed has_read old fed
       → HasFed has_read new (with_files fed (ended_files (files_of fed.files)))
-
--- a list in which no element is counted
-none_counted : {X : Type 0} (xs : List X) → nat_lt 0 (length xs) ≡ false → xs ≡ []
-none_counted [] e = refl
-none_counted (x ∷ xs) e = absurd (omega (arith, ltb-false 0 (length (x ∷ xs)) e))
 
 -- no byte of ended files is left
 none_left : (files : List (List ℕ)) (whole rest : List ℕ) → IsCutFile (ended_files files) whole rest → whole ≡ []
@@ -109,21 +63,7 @@ pub lines-all : (files : List (List ℕ)) (whole rest : List ℕ) → IsCutFile 
     → lines_to (ended_files files) whole ≡ daily_lines files
 lines-all files whole rest cut = rw (none_left files whole rest cut) (append-nil (daily_lines files))
 
--- the error of ended files
-fault_fed : (fed : Fed) (files : List (List ℕ)) (f : DataFault) → length files ≤ 2 ^ 20
-    → HasLineFault (with_files fed (ended_files files)) f → IsRefusal is_memory f (data_of fed.stations files)
-fault_fed fed files f few is =
-    data_of-refused fed.stations files f few
-    (subst (λ ls. IsLineRefusal fed.stations ls f) (lines-all files is.whole is.rest is.cut) is.first)
-
 module _ {L : Type 0} {has_read : Reading L} where
-  -- ---- whether lines are looked at
-
-  -- what a reader has read that was fed something and looks at lines
-  read_so_far : (c : Cutter L) (fed : Fed) → is_none c.fault ≡ true → length (files_of fed.files) ≤ 2 ^ 20
-      → HasFed has_read c fed → HasReadFed has_read c fed
-  read_so_far c fed none few is = without_fault c fed none (is.fault few)
-
   -- ---- a piece
 
   -- the bytes are counted
@@ -138,14 +78,14 @@ module _ {L : Type 0} {has_read : Reading L} where
       let counted = byte_counted c fed.0 bytes some fed.1 in
       may_be_read (with_byte c) (more fed.0.files bytes)
       (looking (with_byte c) (more fed.0.files bytes) looks counted).1
-      (some_in fed.0.files bytes some) counted
+      (omega (arith, some, length-append fed.0.files.current bytes)) counted
 
   -- before a piece that is looked at, lines were read
   pub piece-some : (c : Cutter L) (bytes : List ℕ) → 0 < length bytes → LooksAtLines (with_byte c) true
       → HasFedSome has_read c → HasReadSome has_read c.reader
   piece-some c bytes some looks fed =
       let at = looking (with_byte c) (more fed.0.files bytes) looks (byte_counted c fed.0 bytes some fed.1) in
-      let read = read_so_far c fed.0 at.0 (few_before fed.0.files bytes at.1) fed.1 in
+      let read = without_fault c fed.0 at.0 (fed.1.fault (few_before fed.0.files bytes at.1)) in
       (fed.0.stations, (fed.0.keep, (lines_to fed.0.files read.whole, read.read)))
 
   -- a piece that is read
@@ -165,7 +105,7 @@ module _ {L : Type 0} {has_read : Reading L} where
               let at : old.ended ≡ length fed.files.ended = at_file (with_byte old) files few counted in
               let before : HasReadFed has_read (with_byte old) fed =
               same_read old (with_byte old) fed refl refl refl refl
-              (read_so_far old fed none (few_before fed.files bytes few) is) in
+              (without_fault old fed none (is.fault (few_before fed.files bytes few))) in
               rw kept (kept_fault has_read after (keeping after fault) (with_files fed files) result refl refl refl refl
               (IfOk-weaker result _ _ (λ _ step. step.holds fed at before) reads)
               (IfErr-weaker result _ _ (λ f step. step.found fed at before) refuses));
@@ -188,10 +128,6 @@ module _ {L : Type 0} {has_read : Reading L} where
         };
   }
 
-  -- a piece without a byte
-  pub takes-nothing : (c : Cutter L) (bytes : List ℕ) → bytes ≡ [] → TakesPiece has_read c c bytes
-  takes-nothing c bytes none = record { holds = λ fed is. rw (none, append-nil fed.files.current) is }
-
   -- what was fed goes on with a piece
   pub going-piece : (old new : Cutter L) (bytes : List ℕ) → TakesPiece has_read old new bytes
       → HasFedSome has_read old → HasFedSome has_read new
@@ -204,15 +140,10 @@ module _ {L : Type 0} {has_read : Reading L} where
       → c.ended < 2 ^ 20
   end-few c looks fed some =
       let at = looking c fed.0.files looks fed.1.counted in
-      let read = read_so_far c fed.0 at.0 at.1 fed.1 in
+      let read = without_fault c fed.0 at.0 (fed.1.fault at.1) in
+      let some_rest = begin-some read.rest c.rest.items read.kept some in
       may_be_read c fed.0.files at.1
-      (omega (
-        arith,
-        begin-some read.rest c.rest.items read.kept some,
-        ap length read.cut.parts,
-        length-append read.whole read.rest,
-      ))
-      fed.1.counted
+      (omega (arith, ap length read.cut.parts, length-append read.whole read.rest)) fed.1.counted
 
   -- the place of a file whose end is looked at is one of the first
   pub end-place : (c : Cutter L) → LooksAtLines c true → HasFedSome has_read c → c.ended ≤ 2 ^ 20
@@ -223,7 +154,7 @@ module _ {L : Type 0} {has_read : Reading L} where
   pub end-some : (c : Cutter L) → LooksAtLines c true → HasFedSome has_read c → HasReadSome has_read c.reader
   end-some c looks fed =
       let at = looking c fed.0.files looks fed.1.counted in
-      let read = read_so_far c fed.0 at.0 at.1 fed.1 in
+      let read = without_fault c fed.0 at.0 (fed.1.fault at.1) in
       (fed.0.stations, (fed.0.keep, (lines_to fed.0.files read.whole, read.read)))
 
   -- a file that is read to its end
@@ -240,7 +171,7 @@ module _ {L : Type 0} {has_read : Reading L} where
           fault = λ few.
               let few_now = few_at_end fed.files few in
               let at : old.ended ≡ length fed.files.ended = at_file old fed.files few_now is.counted in
-              let before : HasReadFed has_read old fed = read_so_far old fed none few_now is in
+              let before : HasReadFed has_read old fed = without_fault old fed none (is.fault few_now) in
               rw kept (kept_fault has_read after new (with_files fed (with_end fed.files)) result refl refl refl refl
               (IfOk-weaker result _ _ (λ _ step. step.holds fed at before) reads)
               (IfErr-weaker result _ _ (λ f step. step.found fed at before) refuses));
@@ -279,11 +210,11 @@ module _ {L : Type 0} {has_read : Reading L} where
   pub ended-unbegun : (c : Cutter L) → c.begun ≡ false → HasEnded has_read c c
   ended-unbegun c begun = record {
     holds = λ fed is.
-        let none : fed.files.current ≡ [] = none_counted fed.files.current (sym is.counted.begun ∙ begun) in
-        let files : fed.files ≡ ended_files fed.files.ended =
-        ap (λ (c : List ℕ). record { ended = fed.files.ended; current = c }) none in
-        subst (λ (fs : Files). HasFed has_read c (with_files fed fs))
-        (files ∙ ap (λ (fs : Files). ended_files (files_of fs)) (sym files)) is;
+        let none : fed.files.current ≡ [] = nil_from_length fed.files.current
+        (omega (arith, ltb-false 0 (length fed.files.current) (sym is.counted.begun ∙ begun))) in
+        let P : List ℕ → Type 0 = λ current.
+        HasFed has_read c (with_files fed (more (ended_files fed.files.ended) current)) in
+        rw none (subst P none is);
   }
 
   -- all that was fed is read
@@ -316,16 +247,19 @@ module _ {L : Type 0} {has_read : Reading L} where
   pub refuses_kept : (old c : Cutter L) (f : DataFault) → HasEnded has_read old c → CountsFew c true
       → c.fault ≡ Some f → RefusesFed has_read old f
   refuses_kept old c f ended counts kept =
-      let few : (fed : Fed) → HasFed has_read old fed → length (files_of fed.files) ≤ 2 ^ 20 = λ fed is.
-      leb-true (length (files_of fed.files)) (2 ^ 20)
-      (sym (counts.is (ended_files (files_of fed.files)) (ended.holds fed is).counted)) in
-      let refuses : (fed : Fed) → HasFed has_read old fed
-      → IsRefusal is_memory f (data_of fed.stations (files_of fed.files)) =
+      let refuses : (fed : Fed) → HasFed has_read old fed → (length (files_of fed.files) ≤ 2 ^ 20)
+      × IsRefusal is_memory f (data_of fed.stations (files_of fed.files)) =
       λ fed is.
-      let after = with_files fed (ended_files (files_of fed.files)) in
-      fault_fed fed (files_of fed.files) f (few fed is)
-      (subst (λ o. HasFault has_read c after o) kept ((ended.holds fed is).fault (few fed is))) in
+      let files = files_of fed.files in
+      let now = ended.holds fed is in
+      let few : length files ≤ 2 ^ 20 =
+      leb-true (length files) (2 ^ 20) (sym (counts.is (ended_files files) now.counted)) in
+      let has : HasLineFault (with_files fed (ended_files files)) f = rw kept at (now.fault few) in (
+        few,
+        data_of-refused fed.stations files f few
+            (subst (λ ls. IsLineRefusal fed.stations ls f) (lines-all files has.whole has.rest has.cut) has.first),
+      ) in
       record {
-        is = refuses;
-        first = λ fed is. first_refusal fed.stations (files_of fed.files) f (few fed is) (refuses fed is);
+        is = λ fed is. (refuses fed is).1;
+        first = λ fed is. first_refusal fed.stations (files_of fed.files) f (refuses fed is).0 (refuses fed is).1;
       }

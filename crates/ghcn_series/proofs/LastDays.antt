@@ -1,10 +1,11 @@
 -- The last day of a word, of a block and of columns.
 use Rattle.std.proofs.Common.{◌≡◌, ℕ, zero, suc, ◌+◌, ◌-◌, ◌*◌, ◌<◌, ◌≤◌, ◌^◌, List, [], ◌∷◌, ◌++◌, length, get_or}
-use Rattle.std.proofs.Common.{Option, Some, None, inl, inr, refl, sym, ap, ◌∙◌, arith, ℤ, pos, ◌+ℤ◌}
+use Rattle.std.proofs.Common.{drop, Option, Some, None, inl, inr, refl, sym, ap, ◌∙◌, arith, ℤ, pos, ◌+ℤ◌}
 use Rattle.std.specs.Prelude.{slice_get}
 use Rattle.std.specs.Int.{bit_at}
 use Rattle.std.specs.List.{cons_option, filter_map, range_with_len}
 use Rattle.std.specs.Option.{option_map}
+use Rattle.std.proofs.Math.Nat.{pow-succ'}
 use Rattle.std.proofs.lemmas.Bool.{cases_lt}
 use Rattle.std.proofs.lemmas.List.{append-nil}
 use Rattle.std.proofs.lemmas.Option.{slice_get_within, get_or_from_slice_get}
@@ -12,6 +13,7 @@ use Rattle.std.proofs.lemmas.Nat.Bits.{bit_at_cat_high, bit_at_above}
 use Rattle.ghcn_series.specs.Series.{DayValue}
 use Rattle.ghcn_series.specs.Packed.{Block, block_start, day_at, block_days, days_from, days_of_blocks, blocks_of}
 use Rattle.ghcn_series.specs.Packed.{AreBlocks, AreCalendarDays, IsLastOf, IsPacked}
+use Rattle.ghcn_series.proofs.Lookups.{blocks-behind, blocks-end}
 use Rattle.ghcn_series.proofs.FirstDays.{none-set}
 use Rattle.ghcn_series.proofs.PartsAdded.{packed-at}
 
@@ -26,11 +28,7 @@ pub last_of-at : (days : List DayValue) → last_of days ≡ option_map (λ x. x
 last_of-at [] = refl
 last_of-at (x ∷ []) = refl
 last_of-at (x ∷ y ∷ ys) =
-    last_of-at (y ∷ ys) ∙ ap (λ (k : ℕ). option_map (λ (z : DayValue). z.0) (slice_get (x ∷ y ∷ ys) k))
-    (long (length ys))
-  where
-    long : (n : ℕ) → suc (suc n - 1) ≡ suc (suc n) - 1
-    long n = omega arith
+    let same : suc (suc (length ys)) - 1 ≡ suc (suc (length ys) - 1) = omega arith in rw same (last_of-at (y ∷ ys))
 
 -- the last of some days and others is that of the others
 pub last_of-append : (xs ys : List DayValue) (d : ℤ) → last_of ys ≡ Some d → last_of (xs ++ ys) ≡ Some d
@@ -65,22 +63,22 @@ pub last-of_block : (b : Block) (day : Option ℤ) → IsLastOf b.0 b.1.0 day �
 unfolding days_from
 last-of_block b day is = last-places b is.place 0 32 (omega arith) is.below is.set is.highest ∙ sym is.is
 
+-- the last day of some blocks is that of those after the first ones
+last-behind : (bs : List Block) (i : ℕ) (d : ℤ) → last_of (days_of_blocks (drop i bs)) ≡ Some d
+    → last_of (days_of_blocks bs) ≡ Some d
+last-behind bs zero d e = e
+last-behind [] (suc i) d e = e
+last-behind (b ∷ bs) (suc i) d e = last_of-append (block_days b) (days_of_blocks bs) d (last-behind bs i d e)
+
 -- the last day of columns is that of their last block
-pub last-of_columns : (ns : List ℤ) (ws : List ℕ) (vs : List (List ℤ)) (i : ℕ) (day : Option ℤ) → length ws ≡ length ns
-    → length vs ≡ length ns → i + 1 ≡ length ns
-    → IsLastOf (get_or ns i (pos 0)) (get_or ws i 0) day → last_of (days_of_blocks (blocks_of ns ws vs)) ≡ day
-last-of_columns [] ws vs i day lw lv at is = absurd (omega arith)
-last-of_columns (n ∷ ns) [] vs i day lw lv at is = absurd (omega arith)
-last-of_columns (n ∷ ns) (w ∷ ws) [] i day lw lv at is = absurd (omega arith)
-last-of_columns (n ∷ []) (w ∷ x ∷ ws) (v ∷ vs) zero day lw lv at is = absurd (omega arith)
-last-of_columns (n ∷ m ∷ ns) (w ∷ ws) (v ∷ vs) zero day lw lv at is = absurd (omega arith)
-last-of_columns (n ∷ []) (w ∷ []) (v ∷ vs) zero day lw lv at is =
-    ap last_of (append-nil (block_days (n, (w, v)))) ∙ last-of_block (n, (w, v)) (Some (block_start n +ℤ pos is.place))
-    (record { place = is.place; below = is.below; set = is.set; highest = is.highest; is = refl }) ∙ sym is.is
-last-of_columns (n ∷ ns) (w ∷ ws) (v ∷ vs) (suc i) day lw lv at is =
-    last_of-append (block_days (n, (w, v))) (days_of_blocks (blocks_of ns ws vs))
-    (block_start (get_or ns i (pos 0)) +ℤ pos is.place)
-    (last-of_columns ns ws vs i day (omega arith) (omega arith) (omega arith) is ∙ is.is) ∙ sym is.is
+pub last-of_columns : (ns : List ℤ) (ws : List ℕ) (vs : List (List ℤ)) (i : ℕ) (day : Option ℤ) → AreBlocks ns ws vs
+    → i + 1 ≡ length ns → IsLastOf (get_or ns i (pos 0)) (get_or ws i 0) day
+    → last_of (days_of_blocks (blocks_of ns ws vs)) ≡ day
+last-of_columns ns ws vs i day bs at is =
+    let b : Block = (get_or ns i (pos 0), (get_or ws i 0, get_or vs i [])) in
+    last-behind (blocks_of ns ws vs) i (block_start b.0 +ℤ pos is.place)
+    (rw (blocks-behind ns ws vs i bs (omega arith), blocks-end ns ws vs (i + 1) bs (omega arith))
+    (ap last_of (append-nil (block_days b)) ∙ last-of_block b day is ∙ is.is)) ∙ sym is.is
 
 -- the highest bit of a number
 pub highest-bit : (w t : ℕ) → 2 ^ t ≤ w → w < 2 * 2 ^ t → (bit_at w t ≡ 1) × ((i : ℕ) → t < i → bit_at w i ≡ 0)
@@ -89,11 +87,8 @@ highest-bit w t low high =
     let parts : 1 * 2 ^ t + rest ≡ w = omega arith in (
       ap (λ (k : ℕ). bit_at k t) (sym parts) ∙ bit_at_cat_high 1 t rest t (omega arith) (omega arith)
           ∙ ap (bit_at 1) {x = t - t} {y = 0} (omega arith),
-      λ i lt. bit_at_above w (suc t) i (omega (arith, double t)) (omega arith),
+      λ i lt. bit_at_above w (suc t) i (omega (arith, pow-succ' 2 t)) (omega arith),
     )
-  where
-    double : (k : ℕ) → 2 ^ suc k ≡ 2 * 2 ^ k
-    double k = search arith
 
 -- the last block of columns, and its days
 pub record IsLastBlock (ns : List ℤ) (ws : List ℕ) (n : ℤ) (w : ℕ) : Type 0 where

@@ -1,9 +1,11 @@
 -- Facts of all elements of a list.
 use Rattle.std.proofs.Common.{◌≡◌, ℕ, zero, suc, ◌<◌, List, [], ◌∷◌, ◌++◌, length, Some, subst, Bool, true, false}
-use Rattle.std.proofs.Common.{cond, filter, map, refl, ap}
-use Rattle.std.proofs.Common.{get_or, arith, sym}
+use Rattle.std.proofs.Common.{filter, map, refl, ap, get_or}
 use Rattle.std.specs.List.{AllByRecursion, AllZip, slice_get, IsDistinct}
 use Rattle.std.proofs.Math.ListN.{set}
+use Rattle.std.proofs.lemmas.Bool.{cond_both}
+use Rattle.std.proofs.lemmas.List.Elements.{All-from_recursion, All-get_or}
+use Rattle.std.proofs.lemmas.Option.{slice_get_within, get_or_from_slice_get}
 pub use Rattle.ghcn_files.proofs.Among.{each-weaker}
 
 module _ {X : Type 0} where
@@ -23,64 +25,54 @@ module _ {X : Type 0} where
     both_distinct eq xs ys p.1 q all.1,
   )
 
+  -- what follows for those that pass a test is true of all of them
+  pub passed : (P Q : X → Type 0) (p : X → Bool) (xs : List X) → ((x : X) → P x → p x ≡ true → Q x)
+      → AllByRecursion P xs → AllByRecursion Q (filter p xs)
+  passed P Q p [] follows all = tt
+  passed P Q p (x ∷ xs) follows all =
+      cond_both (p x) (x ∷ filter p xs) (filter p xs) (AllByRecursion Q)
+      (λ is. (follows x all.0 is, passed P Q p xs follows all.1)) (λ is. passed P Q p xs follows all.1)
+
   -- what is true of all is true of those that pass a test
   pub all-filter : (P : X → Type 0) (p : X → Bool) (xs : List X) → AllByRecursion P xs
       → AllByRecursion P (filter p xs)
-  all-filter P p [] all = tt
-  all-filter P p (x ∷ xs) all = elim (p x) as (λ b. AllByRecursion P (cond b (x ∷ filter p xs) (filter p xs))) [
-    | true ↦ (all.0, all-filter P p xs all.1)
-    | false ↦ all-filter P p xs all.1
-  ]
+  all-filter P p xs all = passed P P p xs (λ x holds is. holds) all
 
   -- distinct elements stay distinct
   pub distinct_filter : (eq : X → X → Bool) (p : X → Bool) (xs : List X) → IsDistinct eq xs
       → IsDistinct eq (filter p xs)
   unfolding IsDistinct
   distinct_filter eq p [] apart = tt
-  distinct_filter eq p (x ∷ xs) apart = elim (p x) as (λ b. IsDistinct eq (cond b (x ∷ filter p xs) (filter p xs))) [
-    | true ↦ (all-filter (λ y. eq x y ≡ false) p xs apart.0, distinct_filter eq p xs apart.1)
-    | false ↦ distinct_filter eq p xs apart.1
-  ]
+  distinct_filter eq p (x ∷ xs) apart =
+      cond_both (p x) (x ∷ filter p xs) (filter p xs) (IsDistinct eq)
+      (λ is. (all-filter (λ y. eq x y ≡ false) p xs apart.0, distinct_filter eq p xs apart.1))
+      (λ is. distinct_filter eq p xs apart.1)
 
 -- what is true of all is true at each place
 pub all-at : {X : Type 0} (P : X → Type 0) (xs : List X) (i : ℕ) (d : X) → AllByRecursion P xs → i < length xs
     → P (get_or xs i d)
-all-at P [] i d all lt = absurd (omega arith)
-all-at P (x ∷ xs) zero d all lt = all.0
-all-at P (x ∷ xs) (suc i) d all lt = all-at P xs i d all.1 (omega arith)
+all-at P xs i d all lt = All-get_or P xs i d lt (All-from_recursion P xs all)
 
 -- what is true of all is true of what is found at a place
 pub from_all : {X : Type 0} (P : X → Type 0) (xs : List X) (k : ℕ) (x : X) → AllByRecursion P xs
     → slice_get xs k ≡ Some x → P x
-from_all P [] k x all at = absurd cc
-from_all P (y ∷ ys) zero x all at = let same : y ≡ x = cc in subst P same all.0
-from_all P (y ∷ ys) (suc k) x all at = from_all P ys k x all.1 at
+from_all P xs k x all at =
+    subst P (get_or_from_slice_get xs k x x at) (all-at P xs k x all (slice_get_within xs k x at))
 
 -- an item takes the place of one that fitted, in the first of two lists that fit place by place
 pub set_first : {A B : Type 0} (R : A → B → Type 0) (xs : List A) (ys : List B) (k : ℕ) (x new : A) → AllZip R xs ys
     → x ≡ get_or xs k x → ((y : B) → R x y → R new y) → AllZip R (set xs k new) ys
-set_first R [] [] k x new all here fits = tt
-set_first R [] (y ∷ ys) k x new all here fits = absurd all
+set_first R [] ys k x new all here fits = all
 set_first R (w ∷ ws) [] k x new all here fits = absurd all
-set_first R (w ∷ ws) (y ∷ ys) zero x new all here fits = (fits y (subst (λ v. R v y) (sym here) all.0), all.1)
+set_first R (w ∷ ws) (y ∷ ys) zero x new all here fits = (fits y (rw here all.0), all.1)
 set_first R (w ∷ ws) (y ∷ ys) (suc k) x new all here fits = (all.0, set_first R ws ys k x new all.1 here fits)
-
--- and in the second
-pub set_second : {A B : Type 0} (R : A → B → Type 0) (xs : List A) (ys : List B) (k : ℕ) (y new : B) → AllZip R xs ys
-    → y ≡ get_or ys k y → ((x : A) → R x y → R x new) → AllZip R xs (set ys k new)
-set_second R [] [] k y new all here fits = tt
-set_second R [] (z ∷ zs) k y new all here fits = absurd all
-set_second R (x ∷ xs) [] k y new all here fits = absurd all
-set_second R (x ∷ xs) (z ∷ zs) zero y new all here fits = (fits x (subst (R x) (sym here) all.0), all.1)
-set_second R (x ∷ xs) (z ∷ zs) (suc k) y new all here fits = (all.0, set_second R xs zs k y new all.1 here fits)
 
 -- what follows for two items follows for all that fit place by place
 pub zip-weaker : {A B : Type 0} (R S : A → B → Type 0) (xs : List A) (ys : List B) → ((x : A) (y : B) → R x y → S x y)
     → AllZip R xs ys → AllZip S xs ys
 zip-weaker R S [] [] fits all = tt
-zip-weaker R S [] (y ∷ ys) fits all = absurd all
-zip-weaker R S (x ∷ xs) [] fits all = absurd all
 zip-weaker R S (x ∷ xs) (y ∷ ys) fits all = (fits x y all.0, zip-weaker R S xs ys fits all.1)
+zip-weaker R S _ _ fits all = absurd all
 
 -- a list whose images are those before one, this one, and those after it is split alike
 pub map_split : {A B : Type 0} (f : A → B) (xs : List A) (before : List B) (b : B) (after : List B)
@@ -90,13 +82,6 @@ map_split f [] [] b after e = absurd cc
 map_split f [] (y ∷ ys) b after e = absurd cc
 map_split f (x ∷ xs) [] b after e = ([], x, xs, refl, refl, cc)
 map_split f (x ∷ xs) (y ∷ ys) b after e =
-    let rest : map f xs ≡ ys ++ b ∷ after = cc in
-    let more = map_split f xs ys b after rest in
-    let same : f x ≡ y = cc in (
-      x ∷ more.0,
-      more.1,
-      more.2,
-      ap (λ (l : List _). x ∷ l) more.3,
-      rw (same, more.4) refl,
-      more.5,
-    )
+    let more = map_split f xs ys b after (cc) in
+    let split = ap (λ (l : List _). x ∷ l) {y = more.0 ++ more.1 ∷ more.2} more.3 in
+    let same : f x ≡ y = cc in (x ∷ more.0, more.1, more.2, split, rw (same, more.4) refl, more.5)

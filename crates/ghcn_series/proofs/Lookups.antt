@@ -40,15 +40,13 @@ block-of_place b k lt =
 -- a day that isn't the first of some days is looked up after it
 pub value_on-other : (t : Bool) (x : DayValue) (xs : List DayValue) (day : ℤ) → int_eq x.0 day ≡ false
     → value_on (cons_option (if_so t x) xs) day ≡ value_on xs day
-value_on-other true x xs day e = ap (λ (b : Bool). option_map (λ (y : DayValue). y.1)
-    (cond b (Some x) (find (λ y. int_eq y.0 day) xs))) e
+value_on-other true x xs day e = rw e
 value_on-other false x xs day e = refl
 
 -- a day that is at most the first of some days
 pub value_on-same : (t : Bool) (x : DayValue) (xs : List DayValue) (day : ℤ) → int_eq x.0 day ≡ true
     → value_on xs day ≡ None → value_on (cons_option (if_so t x) xs) day ≡ if_so t x.1
-value_on-same true x xs day e none = ap (λ (b : Bool). option_map (λ (y : DayValue). y.1)
-    (cond b (Some x) (find (λ y. int_eq y.0 day) xs))) e
+value_on-same true x xs day e none = rw e
 value_on-same false x xs day e none = none
 
 module _ (first : ℤ) (w : ℕ) (vs : List ℤ) where
@@ -72,8 +70,7 @@ module _ (first : ℤ) (w : ℕ) (vs : List ℤ) where
       let xs : List DayValue = filter_map (day_from first w vs) (range_with_len (s + 1) n) in
       elim (cases_lt s j) [
         | inl before ↦
-            let apart : x.0 ≡ day → ⊥ = λ e. omega (arith, ints) in
-            value_on-other (bit_at w s == 1) x xs day (int_eq-no x.0 day apart)
+            value_on-other (bit_at w s == 1) x xs day (int_eq-no x.0 day (λ e. omega (arith, ints)))
             ∙ found_at j (s + 1) n (omega arith) (omega arith)
         | inr here ↦
             let same : s ≡ j = omega arith in
@@ -143,21 +140,17 @@ days-at [] i number j below lt is alone = absurd (omega arith)
 days-at (b ∷ bs) zero number j below lt is alone =
     let day : ℤ = block_start number +ℤ pos j in
     let of : block_of day ≡ number = block-of_place number j below in
-    let here : value_on (block_days b) day ≡ value_at b.1.0 b.1.1 j = subst
-    (λ (n : ℤ). value_on (block_days b) (block_start n +ℤ pos j) ≡ value_at b.1.0 b.1.1 j) is
+    let here = subst (λ (n : ℤ). value_on (block_days b) (block_start n +ℤ pos j) ≡ value_at b.1.0 b.1.1 j) is
     (block-value b j below) in
     let behind : value_on (days_of_blocks bs) day ≡ None = days-without bs day
-    (λ k less e. let same : suc k ≡ zero = alone (suc k) (omega arith) (e ∙ of) in absurd (omega arith)) in
+    (λ k less e. omega (arith, alone (suc k) (omega arith) (e ∙ of))) in
     rw (value_on-append (block_days b) (days_of_blocks bs) day, behind, or_none (value_on (block_days b) day)) here
 days-at (b ∷ bs) (suc i) number j below lt is alone =
     let day : ℤ = block_start number +ℤ pos j in
     let of : block_of day ≡ number = block-of_place number j below in
-    let other : b.0 ≡ block_of day → ⊥ = λ e. let same : zero ≡ suc i = alone zero (omega arith) (e ∙ of) in absurd
-    (omega arith) in
-    value_on-append (block_days b) (days_of_blocks bs) day
-    ∙ ap (λ (o : Option ℤ). option_or o (value_on (days_of_blocks bs) day)) (block-other b day other)
-    ∙ days-at bs i number j below (omega arith) is (λ k less e. let same : suc k ≡ suc i = alone (suc k) (omega arith)
-    e in omega arith)
+    let other : b.0 ≡ block_of day → ⊥ = λ e. omega (arith, alone zero (omega arith) (e ∙ of)) in
+    rw (value_on-append (block_days b) (days_of_blocks bs) day, block-other b day other)
+    (days-at bs i number j below (omega arith) is (λ k less e. omega (arith, alone (suc k) (omega arith) e)))
 
 -- the block at a place of three columns of one length
 pub blocks-at : (numbers : List ℤ) (words : List ℕ) (values : List (List ℤ)) (i : ℕ) → length words ≡ length numbers
@@ -175,23 +168,18 @@ pub blocks-length : (numbers : List ℤ) (words : List ℕ) (values : List (List
     → length (blocks_of numbers words values) ≡ length numbers
 blocks-length numbers words values w v = omega (arith, length-zip numbers (zip words values), length-zip words values)
 
--- the place of a day in its block
-pub place_is : (day : ℤ) → block_start (block_of day) +ℤ place_in_block day ≡ day
-place_is (pos a) = omega (arith, ints)
-place_is (negsuc a) = omega (arith, ints)
-
--- a day's place in its block is below 32
-pub place-below : (day : ℤ) → (pos 0 ≤ℤ place_in_block day) × (place_in_block day <ℤ pos 32)
-place-below (pos a) = (omega (arith, ints), omega (arith, ints))
-place-below (negsuc a) = (omega (arith, ints), omega (arith, ints))
+-- the place of a day in its block, which is below 32
+place_is : (day : ℤ) → (block_start (block_of day) +ℤ place_in_block day ≡ day)
+    × (pos 0 ≤ℤ place_in_block day) × (place_in_block day <ℤ pos 32)
+place_is (pos a) = (omega (arith, ints), omega (arith, ints), omega (arith, ints))
+place_is (negsuc a) = (omega (arith, ints), omega (arith, ints), omega (arith, ints))
 
 -- what is true at each place of a day's block is true of the day
 pub at_day : (P : ℤ → Type 0) (day : ℤ) → ((j : ℕ) → j < 32 → P (block_start (block_of day) +ℤ pos j)) → P day
 at_day P day h =
-    let range = place-below day in
     let is = place_is day in
-    subst P {x = block_start (block_of day) +ℤ pos (unsigned_abs (place_in_block day))} (omega (arith, ints))
-    (h (unsigned_abs (place_in_block day)) (omega (arith, ints)))
+    subst P {x = block_start (block_of day) +ℤ pos (unsigned_abs (place_in_block day))}
+    (omega (arith, ints, is.0, is.1, is.2)) (h (unsigned_abs (place_in_block day)) (omega (arith, ints, is.1, is.2)))
 
 -- the blocks after that many are the next one and those after it
 pub blocks-behind : (ns : List ℤ) (ws : List ℕ) (vs : List (List ℤ)) (i : ℕ) → AreBlocks ns ws vs → i < length ns

@@ -1,9 +1,9 @@
 -- The days of a month by their places, and what of them counts.
-use Rattle.std.proofs.Common.{◌≡◌, ℕ, ◌+◌, ◌<◌, ◌≤◌, Bool, true, false, cond, Some, None, refl, sym, ap, ◌∙◌, arith, ℤ}
-use Rattle.std.proofs.Common.{pos}
+use Rattle.std.proofs.Common.{◌≡◌, ℕ, ◌+◌, ◌<◌, ◌≤◌, Bool, true, cond, Some, None, sym, ap, ◌∙◌, arith, ℤ, pos}
 use Rattle.std.specs.Prelude.{◌+ℤ◌}
 use Rattle.std.proofs.lemmas.Bool.Decides.{nat_tests}
 use Rattle.std.proofs.lemmas.Int.{ints}
+use Rattle.std.proofs.lemmas.Option.{cond_some}
 use Rattle.jiff_core.specs.Calendar.{days_in_month, days_from_civil, IsCivilDate}
 use Rattle.jiff_core.proofs.SignedLemmas.{signed_arith}
 use Rattle.jiff_core.proofs.CalendarLemmas.{days_from_civil-day_count, day_count-day}
@@ -46,11 +46,7 @@ to_date y m d is = grind (arith, nat_tests, is.year, is.month, is.day)
 pub has_number : (y m d : ℕ) (n : ℤ) → day_number y m d ≡ Some n
     → IsOfCalendar y m d × (n ≡ days_from_civil (pos y) m d)
 has_number y m d n e =
-    elim (is_date y m d) as (λ b. is_date y m d ≡ b → cond b (Some (days_from_civil (pos y) m d)) None ≡ Some n
-    → IsOfCalendar y m d × (n ≡ days_from_civil (pos y) m d)) [
-      | true ↦ λ is some. (from_date y m d is, cc)
-      | false ↦ λ is none. absurd cc
-    ] refl e
+    let is = cond_some (is_date y m d) (days_from_civil (pos y) m d) n e in (from_date y m d is.0, sym is.1)
 
 -- a day of the calendar has its number
 pub day_number-is : (y m d : ℕ) → IsOfCalendar y m d → day_number y m d ≡ Some (days_from_civil (pos y) m d)
@@ -61,11 +57,13 @@ pub day_number-after : (y m i : ℕ) (first : ℤ) → day_number y m 1 ≡ Some
     → (day_number y m (i + 1) ≡ Some (first +ℤ pos i)) × (day_if (first +ℤ pos i) ≡ Some (first +ℤ pos i))
 day_number-after y m i first is lt =
     let has = has_number y m 1 first is in
-    let of : IsOfCalendar y m (i + 1) = record
-    { year = has.0.year; month = has.0.month; day = (omega arith, omega arith) } in
+    let of : IsOfCalendar y m (i + 1) = record {
+      year = has.0.year;
+      month = has.0.month;
+      day = (omega arith, omega arith);
+    } in
     let day = is_day-from_civil y m (i + 1) (civil_of y m (i + 1) of) of.year.0 in
-    let same : days_from_civil (pos y) m (i + 1) ≡ first +ℤ pos i = later_day (pos y) m i
-    ∙ ap (λ (z : ℤ). z +ℤ pos i) (sym has.1) in (
+    let same : days_from_civil (pos y) m (i + 1) ≡ first +ℤ pos i = rw has.1 (later_day (pos y) m i) in (
       day_number-is y m (i + 1) of ∙ ap (λ (z : ℤ). Some z) same,
       ap (λ (b : Bool). cond b (Some (first +ℤ pos i)) None) (ap is_day (sym same) ∙ day),
     )

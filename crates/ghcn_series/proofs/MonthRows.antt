@@ -2,7 +2,7 @@
 use Rattle.std.proofs.Common.{◌≡◌, ℕ, zero, suc, ◌+◌, ◌<◌, ◌≤◌, Bool, true, false, cond, List, [], ◌∷◌, get_or}
 use Rattle.std.proofs.Common.{Option, Some, None, inl, inr, refl, sym, ap, subst, ◌∙◌, arith, ℤ, pos, ◌+ℤ◌, ◌-ℤ◌, ◌<ℤ◌}
 use Rattle.std.proofs.Common.{◌≤ℤ◌}
-use Rattle.std.specs.Prelude.{◌||◌, unsigned_abs, int_le}
+use Rattle.std.specs.Prelude.{unsigned_abs}
 use Rattle.std.specs.Int.{bit_at}
 use Rattle.std.specs.List.{cons_option, filter_map, enumerate_from}
 use Rattle.std.specs.Option.{option_map, option_and_then}
@@ -15,7 +15,6 @@ use Rattle.ghcn_fields.specs.Days.{day_number, is_day}
 use Rattle.ghcn_files.specs.declared.month.Month.{Month}
 use Rattle.ghcn_files.specs.declared.month.Reading.{Reading}
 use Rattle.ghcn_files.specs.declared.row.MonthRow.{MonthRow}
-use Rattle.ghcn_files.specs.Elements.{may_be_negative}
 use Rattle.ghcn_files.specs.Months.{IsMonth}
 use Rattle.ghcn_files.specs.Rows.{value_at, if_possible, no_reading, day_value, AreDays, IsRowOf}
 use Rattle.ghcn_series.specs.Series.{DayValue, value_on}
@@ -32,15 +31,11 @@ use Rattle.ghcn_series.proofs.ReadySeries.{is_day-numbered}
 
 -- ---- a row with its days or without
 
--- it has the month's ID
-pub for-id : (kept : Bool) (m : Month) (row : MonthRow) → IsRowFor kept m row → row.id ≡ m.id
-for-id kept m row (inl of) = of.id
-for-id kept m row (inr of) = of.id
-
--- and its element
-pub for-element : (kept : Bool) (m : Month) (row : MonthRow) → IsRowFor kept m row → row.element ≡ m.element
-for-element kept m row (inl of) = of.element
-for-element kept m row (inr of) = of.element
+-- it has the month's ID and element
+pub for-own : (kept : Bool) (m : Month) (row : MonthRow) → IsRowFor kept m row
+    → (row.id ≡ m.id) × (row.element ≡ m.element)
+for-own kept m row (inl of) = (of.id, of.element)
+for-own kept m row (inr of) = (of.id, of.element)
 
 -- and its days, if they are kept
 pub for-kept : (kept : Bool) (m : Month) (row : MonthRow) → kept ≡ true → IsRowFor kept m row → IsRowOf true m row
@@ -53,13 +48,7 @@ for-kept kept m row is (inr of) = rw is at of
 counted_is : (m : Month) (flagged : Bool) (v : Option ℤ) (n : ℤ)
     → option_map (λ (x : DayValue). x.1) (option_and_then counted_day (fact_if m flagged (Some n) v))
     ≡ cond flagged None (option_and_then (if_possible m.element) v)
-counted_is m true v n = refl
-counted_is m false None n = refl
-counted_is m false (Some v) n = elim (may_be_negative m.element || int_le (pos 0) v)
-    as (λ b. option_map (λ (x : DayValue). x.1) (cond b (Some (n, v)) None) ≡ cond b (Some v) None) [
-      | true ↦ refl
-      | false ↦ refl
-    ]
+counted_is m flagged v n = grind arith
 
 -- a day that the calendar lacks doesn't count
 missing_is : (m : Month) (flagged : Bool) (v : Option ℤ)
@@ -67,13 +56,10 @@ missing_is : (m : Month) (flagged : Bool) (v : Option ℤ)
 missing_is m true v = refl
 missing_is m false v = refl
 
--- a month has no number for a day after its last
-no_number : (y m d : ℕ) → (d ≤ days_in_month (pos y) m → ⊥) → day_number y m d ≡ None
-no_number y m d past =
-    elim (day_number y m d) as (λ o. day_number y m d ≡ o → o ≡ None) [
-      | None ↦ λ is. refl
-      | Some n ↦ λ is. absurd (past (has_number y m d n is).0.day.1)
-    ] refl
+-- what can't be anything is nothing
+none_if : {X : Type 0} (o : Option X) → ((x : X) → o ≡ Some x → ⊥) → o ≡ None
+none_if None never = refl
+none_if (Some x) never = absurd (never x refl)
 
 -- the usable value of a day is that of its month's row
 pub usable_is : (m : Month) (j : ℕ) → IsMonth m → usable_value m j ≡ day_value m j
@@ -87,8 +73,9 @@ usable_is m j right =
           rw (day_number-is m.year m.month (j + 1) is, lt-ltb j days lt)
           (counted_is m r.flagged r.value (days_from_civil (pos m.year) m.month (j + 1)))
       | inr past ↦
-          rw (no_number m.year m.month (j + 1) (λ le. omega (arith, past, le)), le-ltb j days past)
-          (missing_is m r.flagged r.value)
+          let none = none_if (day_number m.year m.month (j + 1))
+          (λ n is. omega (arith, past, (has_number m.year m.month (j + 1) n is).0.day)) in
+          rw (none, le-ltb j days past) (missing_is m r.flagged r.value)
     ]
 
 -- a reading of nothing isn't usable
@@ -107,17 +94,25 @@ module _ (m : Month) (first : ℤ) (begins : day_number m.year m.month 1 ≡ Som
       let after = day_number-after m.year m.month k first begins (omega (arith, has.0.day)) in
       same_Some x.0 (first +ℤ pos k) (sym day ∙ after.0)
 
+  -- a day that isn't that of a place is looked up after it
+  after_place : (r : Reading) (rs : List Reading) (s : ℕ) (d : ℤ) → (first +ℤ pos s ≡ d → ⊥)
+      → value_on (filter_map (usable_day m) (enumerate_from (s + 1) (r ∷ rs))) d
+      ≡ value_on (filter_map (usable_day m) (enumerate_from (s + 1 + 1) rs)) d
+  after_place r rs s d other =
+      let rest : List DayValue = filter_map (usable_day m) (enumerate_from (s + 1 + 1) rs) in
+      elim (usable_day m (s + 1, r)) as
+      (λ o. usable_day m (s + 1, r) ≡ o → value_on (cons_option o rest) d ≡ value_on rest d) [
+        | None ↦ λ is. refl
+        | Some x ↦ λ is. behind x rest d (λ e. other (sym (day-at s r x is) ∙ e))
+      ] refl
+
   -- a day at none of some places isn't usable
   elsewhere : (rs : List Reading) (s : ℕ) (d : ℤ) → ((k : ℕ) → s ≤ k → first +ℤ pos k ≡ d → ⊥)
       → value_on (filter_map (usable_day m) (enumerate_from (s + 1) rs)) d ≡ None
   elsewhere [] s d other = refl
   elsewhere (r ∷ rs) s d other =
-      let rest : List DayValue = filter_map (usable_day m) (enumerate_from (s + 1 + 1) rs) in
-      let none : value_on rest d ≡ None = elsewhere rs (s + 1) d (λ k le. other k (omega (arith, le))) in
-      elim (usable_day m (s + 1, r)) as (λ o. usable_day m (s + 1, r) ≡ o → value_on (cons_option o rest) d ≡ None) [
-        | None ↦ λ is. none
-        | Some x ↦ λ is. behind x rest d (λ e. other s (omega arith) (sym (day-at s r x is) ∙ e)) ∙ none
-      ] refl
+      after_place r rs s d (other s (omega arith))
+      ∙ elsewhere rs (s + 1) d (λ k le. other k (omega (arith, le)))
 
   -- the day at a place has its value
   found : (rs : List Reading) (s j k : ℕ) → s + j ≡ k
@@ -126,47 +121,33 @@ module _ (m : Month) (first : ℤ) (begins : day_number m.year m.month 1 ≡ Som
   found [] s j k at = sym (ap (option_map (λ (x : DayValue). x.1)) (unread m (k + 1)))
   found (r ∷ rs) s zero k at =
       let rest : List DayValue = filter_map (usable_day m) (enumerate_from (s + 1 + 1) rs) in
-      let same : s ≡ k = omega (arith, at) in
-      subst (λ (i : ℕ). value_on (filter_map (usable_day m) (enumerate_from (s + 1) (r ∷ rs))) (first +ℤ pos i)
-      ≡ option_map (λ (x : DayValue). x.1) (usable_day m (i + 1, r))) same
+      let same : k ≡ s = omega (arith, at) in
+      rw same
       (elim (usable_day m (s + 1, r)) as (λ o. usable_day m (s + 1, r) ≡ o
       → value_on (cons_option o rest) (first +ℤ pos s) ≡ option_map (λ (x : DayValue). x.1) o) [
         | None ↦ λ is. elsewhere rs (s + 1) (first +ℤ pos s) (λ i le e. omega (arith, ints, le, e))
         | Some x ↦ λ is. ap (value_on (x ∷ rest)) (sym (day-at s r x is)) ∙ front x rest
       ] refl)
   found (r ∷ rs) s (suc j) k at =
-      let rest : List DayValue = filter_map (usable_day m) (enumerate_from (s + 1 + 1) rs) in
-      let later = found rs (s + 1) j k (omega (arith, at)) in
-      elim (usable_day m (s + 1, r)) as (λ o. usable_day m (s + 1, r) ≡ o
-      → value_on (cons_option o rest) (first +ℤ pos k) ≡ option_map (λ (x : DayValue). x.1)
-      (usable_day m (k + 1, get_or rs j no_reading))) [
-        | None ↦ λ is. later
-        | Some x ↦ λ is. behind x rest (first +ℤ pos k) (λ e. omega (arith, ints, at, sym (day-at s r x is) ∙ e))
-            ∙ later
-      ] refl
+      after_place r rs s (first +ℤ pos k) (λ e. omega (arith, ints, at, e)) ∙ found rs (s + 1) j k (omega (arith, at))
 
   -- no month has a day past its 31st
   past-none : (k : ℕ) (r : Reading) → 31 ≤ k → usable_day m (k + 1, r) ≡ None
   past-none k r past =
-      elim (usable_day m (k + 1, r)) as (λ o. usable_day m (k + 1, r) ≡ o → o ≡ None) [
-        | None ↦ λ is. refl
-        | Some x ↦ λ is.
-            let has = has_number m.year m.month (k + 1) x.0 (is_day_of m (k + 1) r x is) in
-            absurd (omega (arith, past, has.0.day, days_in_month_bounds (pos m.year) m.month))
-      ] refl
+      none_if (usable_day m (k + 1, r)) (λ x is.
+      let has = has_number m.year m.month (k + 1) x.0 (is_day_of m (k + 1) r x is) in
+      omega (arith, past, has.0.day, days_in_month_bounds (pos m.year) m.month))
 
   module _ (w : ℕ) (vs : List ℤ) (right : IsMonth m) (row : AreDays (day_value m) w vs) where
-    -- a row's bit past the 31st day isn't set
-    past-bit : bit_at w 31 ≡ 0
-    past-bit = let small = row.fits in omega (arith, small)
-
     -- the row has the usable value of each day
     row-holds : (k : ℕ) → k < 32 → value_at w vs k ≡ usable_value m k
     row-holds k lt = elim (cases_lt k 31) [
       | inl less ↦ row.holds k less ∙ sym (usable_is m k right)
       | inr last ↦
           let same : k ≡ 31 = omega (arith, lt, last) in
-          rw (past-none k (get_or m.days k no_reading) last, same, past-bit) refl
+          let small = row.fits in
+          let unset : bit_at w 31 ≡ 0 = omega (arith, small) in
+          rw (past-none k (get_or m.days k no_reading) last, same, unset) refl
     ]
 
     -- on each day from the first one on, the row has the values of the month's usable days

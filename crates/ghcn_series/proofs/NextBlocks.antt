@@ -1,10 +1,8 @@
 -- The next block of rising days is the least one from there on that has one of them.
-use Rattle.std.proofs.Common.{◌≡◌, inl, inr, true, false, cond, List, [], ◌∷◌, Option, None, Some, refl, arith}
+use Rattle.std.proofs.Common.{◌≡◌, inl, inr, true, false, List, [], ◌∷◌, Option, None, Some, refl, arith}
 use Rattle.std.proofs.Common.{sym, subst, ℤ, ◌<ℤ◌, ◌≤ℤ◌}
 use Rattle.std.specs.Prelude.{int_le, int_lt}
-use Rattle.std.specs.List.{find}
-use Rattle.std.specs.Option.{option_map}
-use Rattle.std.proofs.lemmas.Bool.{and_parts}
+use Rattle.std.proofs.lemmas.Bool.{and_parts, cases_Bool}
 use Rattle.std.proofs.lemmas.Int.{ints}
 use Rattle.ghcn_fields.specs.Days.{block_of}
 use Rattle.ghcn_series.specs.Packed.{AreRising, IsLeastBlock, IsNextBlock, next_block}
@@ -60,12 +58,10 @@ module _ (b : ℤ) where
   next-least [] None rise is = tt
   next-least [] (Some k) rise is = absurd cc
   next-least (x ∷ xs) o rise is =
-      elim (int_le b (block_of x.0)) as (λ t. int_le b (block_of x.0) ≡ t
-      → option_map (λ (y : DayValue). block_of y.0) (cond t (Some x) (find (λ y. int_le b (block_of y.0)) xs)) ≡ o
-      → IsNextBlock (x ∷ xs) b o) [
-        | true ↦ λ le is. subst (IsNextBlock (x ∷ xs) b) is (at_first x xs rise le)
-        | false ↦ λ gt is. behind x xs o gt (next-least xs o rise.1 is)
-      ] refl is
+      elim (cases_Bool (int_le b (block_of x.0))) [
+        | inl le ↦ subst (IsNextBlock (x ∷ xs) b) (rw le at is) (at_first x xs rise le)
+        | inr gt ↦ behind x xs o gt (next-least xs o rise.1 (rw gt at is))
+      ]
 
 -- so it is with the days of a series
 pub next-is : (days : List DayValue) (b : ℤ) (o : Option ℤ) → is_by_day days ≡ true → o ≡ next_block days b

@@ -1,58 +1,31 @@
 -- The first block from a number on.
-use Rattle.std.proofs.Common.{◌≡◌, ℕ, zero, suc, ◌+◌, ◌<◌, ◌≤◌, ◌^◌, Bool, true, false, cond, List, [], ◌∷◌, ◌++◌, map}
-use Rattle.std.proofs.Common.{length, get_or, Some, refl, sym, ap, ◌∙◌, arith, ℤ, pos, ◌+ℤ◌}
+use Rattle.std.proofs.Common.{◌≡◌, ℕ, zero, suc, ◌<◌, ◌^◌, Bool, true, false, List, [], ◌∷◌, ◌++◌, map, length}
+use Rattle.std.proofs.Common.{inl, inr, Some, refl, sym, ap, ◌∙◌, arith, ℤ, pos, length-append}
 use Rattle.std.specs.Prelude.{◌==◌, int_le, int_lt, slice_get}
-use Rattle.std.specs.Int.{bit_at, trailing_zeros}
-use Rattle.std.specs.List.{find, cons_option, filter_map, range_with_len, AllByRecursion}
+use Rattle.std.specs.List.{find, AllByRecursion}
 use Rattle.std.specs.List.Sorted.{IsPartitionPoint}
 use Rattle.std.specs.Option.{option_map}
-use Rattle.std.proofs.Common.{w32}
-use Rattle.std.proofs.Common.{length-append}
+use Rattle.std.proofs.lemmas.Bool.{cases_Bool}
 use Rattle.std.proofs.lemmas.Bool.Decides.{nat_tests}
 use Rattle.std.proofs.lemmas.Int.{ints}
-use Rattle.std.proofs.lemmas.Nat.Bits.{bit_at-trailing_zeros}
 use Rattle.ghcn_fields.specs.Days.{block_of}
-use Rattle.ghcn_series.specs.Series.{DayValue, value_on}
-use Rattle.ghcn_series.specs.Packed.{Block, block_start, if_so, day_at, block_days, days_from, days_of_blocks, blocks_of}
-use Rattle.ghcn_series.specs.Packed.{AreBlocks, IsPacked, next_block}
-use Rattle.ghcn_series.proofs.Lookups.{block-of_place, block-value}
+use Rattle.ghcn_series.specs.Series.{DayValue}
+use Rattle.ghcn_series.specs.Packed.{Block, block_days, days_of_blocks, blocks_of, AreBlocks, IsPacked, next_block}
+use Rattle.ghcn_series.proofs.Lookups.{block-of_place}
+use Rattle.ghcn_series.proofs.FirstDays.{block-first, fewer}
+use Rattle.ghcn_series.proofs.PartDays.{each-day}
 
 -- the days lie in this block
 abbrev pub AreOf : ℤ → List DayValue → Type 0
 AreOf n days = AllByRecursion (λ x. block_of x.0 ≡ n) days
 
--- a day of a block may come in front of others of it
-cons-of : (n : ℤ) (t : Bool) (x : DayValue) (xs : List DayValue) → block_of x.0 ≡ n → AreOf n xs
-    → AreOf n (cons_option (if_so t x) xs)
-cons-of n true x xs e all = (e, all)
-cons-of n false x xs e all = all
-
--- the days at a block's places are its own
-places-of : (b : Block) (s n : ℕ) → s + n ≤ 32 → AreOf b.0 (filter_map (day_at b) (range_with_len s n))
-places-of b s zero le = tt
-places-of b s (suc n) le =
-    cons-of b.0 (bit_at b.1.0 s == 1) (block_start b.0 +ℤ pos s, get_or b.1.1 s (pos 0))
-    (filter_map (day_at b) (range_with_len (s + 1) n))
-    (block-of_place b.0 s (omega arith)) (places-of b (s + 1) n (omega arith))
-
 -- the days of a block lie in it
 pub block-own : (b : Block) → AreOf b.0 (block_days b)
-unfolding days_from
-block-own b = places-of b 0 32 (omega arith)
-
--- days of which one has a value aren't none
-some-nonempty : (days : List DayValue) (day v : ℤ) → value_on days day ≡ Some v → 0 < length days
-some-nonempty [] day v e = absurd cc
-some-nonempty (x ∷ xs) day v e = omega arith
+block-own b = each-day (λ (d : ℤ). block_of d ≡ b.0) b.0 b.1.1 b.1.0 (λ j lt set. block-of_place b.0 j lt)
 
 -- a block with a bit set has a day
 pub block-nonempty : (b : Block) → 0 < b.1.0 → b.1.0 < 2 ^ 32 → 0 < length (block_days b)
-block-nonempty b some fits =
-    let lowest = bit_at-trailing_zeros w32 b.1.0 some fits in
-    let j : ℕ = trailing_zeros w32 b.1.0 in
-    let v : ℤ = get_or b.1.1 j (pos 0) in
-    some-nonempty (block_days b) (block_start b.0 +ℤ pos j) v
-    (block-value b j lowest.0 ∙ ap (λ (k : ℕ). if_so (k == 1) v) lowest.1)
+block-nonempty b some fits = omega (arith, fewer (block_days b) _ _ (block-first b.0 b.1.1 b.1.0 some fits))
 
 -- a number above 0 isn't 0
 not_zero : (k : ℕ) → 0 < k → (k == 0) ≡ false
@@ -93,13 +66,12 @@ pub next-of_numbers : (b : ℤ) (bs : List Block) → AllByRecursion IsPacked bs
     ≡ find (int_le b) (map (λ x. x.0) bs)
 next-of_numbers b [] all = refl
 next-of_numbers b (x ∷ xs) all =
-    elim (int_le b x.0) as (λ t. int_le b x.0 ≡ t → next_block (block_days x ++ days_of_blocks xs) b
-    ≡ cond t (Some x.0) (find (int_le b) (map (λ y. y.0) xs))) [
-      | true ↦ λ hit. first-reached b x.0 (block_days x) (days_of_blocks xs) (block-own x)
-          (block-nonempty x all.0.present all.0.fits) hit
-      | false ↦ λ missed. ap (option_map (λ (y : DayValue). block_of y.0))
-          (none-reached b x.0 (block_days x) (days_of_blocks xs) (block-own x) missed) ∙ next-of_numbers b xs all.1
-    ] refl
+    elim (cases_Bool (int_le b x.0)) [
+      | inl hit ↦ rw hit (first-reached b x.0 (block_days x) (days_of_blocks xs) (block-own x)
+          (block-nonempty x all.0.present all.0.fits) hit)
+      | inr missed ↦ rw missed (ap (option_map (λ (y : DayValue). block_of y.0))
+          (none-reached b x.0 (block_days x) (days_of_blocks xs) (block-own x) missed) ∙ next-of_numbers b xs all.1)
+    ]
 
 -- a partition point is the place of the first number that is found
 pub found-at_partition : (b : ℤ) (ns : List ℤ) (i : ℕ)
@@ -112,9 +84,7 @@ found-at_partition b (n ∷ ns) zero parted =
 found-at_partition b (n ∷ ns) (suc i) parted =
     let below : int_lt n b ≡ true = parted.0 0 (pos 0) (omega arith) (omega arith) in
     let missed : int_le b n ≡ false = grind (arith, ints) in
-    found-at_partition b ns i (
+    rw missed (found-at_partition b ns i (
       λ k d le lt. parted.0 (suc k) d (omega arith) (omega arith),
-      λ k d le lt. parted.1
-          (suc k) d (omega arith) (omega arith),
-    )
-    ∙ sym (ap (λ (t : Bool). cond t (Some n) (find (int_le b) ns)) missed)
+      λ k d le lt. parted.1 (suc k) d (omega arith) (omega arith),
+    ))

@@ -1,14 +1,11 @@
 -- The days of a block up to a place, and those after it.
-use Rattle.std.proofs.Common.{◌≡◌, ℕ, zero, suc, ◌+◌, ◌-◌, ◌<◌, ◌≤◌, ◌^◌, min, List, [], ◌∷◌}
-use Rattle.std.proofs.Common.{◌++◌, length, get_or, Some, refl, sym, ap, ap₂, ◌∙◌, arith, ℤ, pos, ◌+ℤ◌}
-use Rattle.std.proofs.Common.{inl, inr, ◌<ℤ◌, append-nil, w32}
+use Rattle.std.proofs.Common.{◌≡◌, ℕ, zero, suc, ◌+◌, ◌-◌, ◌<◌, ◌≤◌, ◌^◌, List, [], ◌∷◌, ◌++◌, length, get_or, Option}
+use Rattle.std.proofs.Common.{Some, None, refl, sym, ap, ◌∙◌, arith, ℤ, pos, ◌+ℤ◌, inl, inr, ◌<ℤ◌}
 use Rattle.std.specs.Prelude.{◌==◌, bit_and, slice_get}
-use Rattle.std.specs.Int.{bit_at, trailing_zeros}
+use Rattle.std.specs.Int.{bit_at}
 use Rattle.std.specs.List.{filter_map, range_with_len, cons_option, AllByRecursion}
-use Rattle.std.specs.Option.{option_map}
 use Rattle.std.proofs.lemmas.Bool.{cases_lt}
 use Rattle.std.proofs.lemmas.Int.{ints}
-use Rattle.std.proofs.lemmas.List.Elements.{filter_map-append}
 use Rattle.std.proofs.lemmas.Nat.{pow_pos}
 use Rattle.std.proofs.lemmas.Nat.Bits.{bit_at_and, bit_at-lt, bit_at_ones, bit_at_ones_above, bit_at_mask_inside}
 use Rattle.std.proofs.lemmas.Nat.Bits.{bit_at_mask_below}
@@ -16,56 +13,30 @@ use Rattle.ghcn_series.specs.Series.{DayValue}
 use Rattle.ghcn_series.specs.Packed.{block_start, day_at, if_so, block_days, days_from, AreCalendarDays, BeginsBy}
 use Rattle.ghcn_series.proofs.FirstDays.{same-bits, none-set, block-first}
 
--- that many places, and those after them
-places-cut : (s k m : ℕ) → range_with_len s (k + m) ≡ range_with_len s k ++ range_with_len (s + k) m
-places-cut s zero m =
-    let none : 0 + m ≡ m = omega arith in
-    let same : s ≡ s + 0 = omega arith in
-    ap (range_with_len s) none ∙ ap (λ t. range_with_len t m) same
-places-cut s (suc k) m =
-    let more : suc k + m ≡ suc (k + m) = omega arith in
-    let same : s + 1 + k ≡ s + suc k = omega arith in
-    ap (range_with_len s) more
-    ∙ ap (λ ps. s ∷ ps) (places-cut (s + 1) k m ∙ ap (λ t. range_with_len (s + 1) k ++ range_with_len t m) same)
-
--- the lesser of two bits is one of them if the other is 1, and 0 if the other is 0
-least-one : (a b : ℕ) → a < 2 → b ≡ 1 → min a b ≡ a
-least-one a b less e = omega (arith, e)
-
--- the least of a number and nothing is nothing
-least-none : (a b : ℕ) → b ≡ 0 → min a b ≡ 0
-least-none a b e = omega (arith, e)
-
--- of two bits whose lesser is 1 the first is
-pub first-set : (a b : ℕ) → a < 2 → min a b ≡ 1 → a ≡ 1
-first-set a b less e = omega (arith, e)
+-- a day in front of days and of others
+cons-append : (o : Option DayValue) (xs ys : List DayValue) → cons_option o (xs ++ ys) ≡ cons_option o xs ++ ys
+cons-append None xs ys = refl
+cons-append (Some x) xs ys = refl
 
 -- the days that some of a word's bits leave are in the calendar
 pub some-bits : (n : ℤ) (w mask : ℕ) → AreCalendarDays n w → AreCalendarDays n (bit_and w mask)
 some-bits n w mask are = record {
-  days = λ j lt set.
-      are.days j lt (first-set (bit_at w j) (bit_at mask j) (bit_at-lt w j) (sym (bit_at_and w mask j) ∙ set));
+  days = λ j lt set. are.days j lt (omega (arith, bit_at_and w mask j, bit_at-lt w j, set));
 }
 
 -- a bit of both of two words is one of the second
 of-mask : (w mask j : ℕ) → bit_at (bit_and w mask) j ≡ 1 → bit_at mask j ≡ 0 → ⊥
-of-mask w mask j set none =
-    let least : min (bit_at w j) (bit_at mask j) ≡ 1 = sym (bit_at_and w mask j) ∙ set in
-    omega (arith, least, none)
+of-mask w mask j set none = omega (arith, bit_at_and w mask j, set, none)
 
 -- a bit of the first k places is at one of them
 pub first-bit : (w k j : ℕ) → bit_at (bit_and w (2 ^ k - 1)) j ≡ 1 → j < k
-first-bit w k j set = elim (cases_lt j k) [
-  | inl lt ↦ lt
-  | inr more ↦ absurd (of-mask w (2 ^ k - 1) j set (bit_at_ones_above k j more))
-]
+first-bit w k j set =
+    let out : k ≤ j → ⊥ = λ more. of-mask w (2 ^ k - 1) j set (bit_at_ones_above k j more) in omega (arith, out)
 
 -- and one after them isn't
 pub later-bit : (w k j : ℕ) → bit_at (bit_and w (2 ^ 32 - 2 ^ k)) j ≡ 1 → k ≤ j
-later-bit w k j set = elim (cases_lt j k) [
-  | inl lt ↦ absurd (of-mask w (2 ^ 32 - 2 ^ k) j set (bit_at_mask_below k 32 j lt))
-  | inr more ↦ more
-]
+later-bit w k j set =
+    let out : j < k → ⊥ = λ lt. of-mask w (2 ^ 32 - 2 ^ k) j set (bit_at_mask_below k 32 j lt) in omega (arith, out)
 
 -- the bits after the first k are those that aren't among the first
 pub ones-left : (k : ℕ) → 4294967295 - (2 ^ k - 1) ≡ 2 ^ 32 - 2 ^ k
@@ -82,58 +53,41 @@ module _ (n : ℤ) (vs : List ℤ) (w k : ℕ) (le : k ≤ 32) where
 
   -- the first places have their bits of the word
   pub first-in : (j : ℕ) → j < k → bit_at first_bits j ≡ bit_at w j
-  first-in j lt = bit_at_and w (2 ^ k - 1) j
-      ∙ least-one (bit_at w j) (bit_at (2 ^ k - 1) j) (bit_at-lt w j) (bit_at_ones k j lt)
+  first-in j lt = omega (arith, bit_at_and w (2 ^ k - 1) j, bit_at_ones k j lt, bit_at-lt w j)
 
   -- and no others
   pub first-out : (j : ℕ) → k ≤ j → bit_at first_bits j ≡ 0
-  first-out j more = bit_at_and w (2 ^ k - 1) j
-      ∙ least-none (bit_at w j) (bit_at (2 ^ k - 1) j) (bit_at_ones_above k j more)
+  first-out j more = omega (arith, bit_at_and w (2 ^ k - 1) j, bit_at_ones_above k j more)
 
   -- so it is with the places after them
-  later-in : (j : ℕ) → k ≤ j → j < 32 → bit_at later_bits j ≡ bit_at w j
-  later-in j more lt = bit_at_and w (2 ^ 32 - 2 ^ k) j
-      ∙ least-one (bit_at w j) (bit_at (2 ^ 32 - 2 ^ k) j) (bit_at-lt w j) (bit_at_mask_inside k 32 j more lt)
+  pub later-in : (j : ℕ) → k ≤ j → j < 32 → bit_at later_bits j ≡ bit_at w j
+  later-in j more lt =
+      omega (arith, bit_at_and w (2 ^ 32 - 2 ^ k) j, bit_at_mask_inside k 32 j more lt, bit_at-lt w j)
 
   -- which have no others either
-  later-out : (j : ℕ) → j < k → bit_at later_bits j ≡ 0
-  later-out j lt = bit_at_and w (2 ^ 32 - 2 ^ k) j
-      ∙ least-none (bit_at w j) (bit_at (2 ^ 32 - 2 ^ k) j) (bit_at_mask_below k 32 j lt)
+  pub later-out : (j : ℕ) → j < k → bit_at later_bits j ≡ 0
+  later-out j lt = omega (arith, bit_at_and w (2 ^ 32 - 2 ^ k) j, bit_at_mask_below k 32 j lt)
 
   -- the days at some places of a word
   abbrev at : ℕ → ℕ → ℕ → List DayValue
   at v s m = filter_map (day_at (n, (v, vs))) (range_with_len s m)
 
-  -- a block's days, cut after k places
-  cut-days : (v : ℕ) → block_days (n, (v, vs)) ≡ at v 0 k ++ at v k (32 - k)
-  unfolding days_from
-  cut-days v =
-      let all : 32 ≡ k + (32 - k) = omega arith in
-      let behind : 0 + k ≡ k = omega arith in
-      ap (λ m. filter_map (day_at (n, (v, vs))) (range_with_len 0 m)) all
-      ∙ ap (filter_map (day_at (n, (v, vs)))) (places-cut 0 k (32 - k)
-      ∙ ap (λ s. range_with_len 0 k ++ range_with_len s (32 - k)) behind)
-      ∙ filter_map-append (day_at (n, (v, vs))) (range_with_len 0 k) (range_with_len k (32 - k))
-
-  -- the first bits have the days of the first places, and the others those after them
-  first-days : block_days (n, (first_bits, vs)) ≡ at w 0 k
-  first-days =
-      cut-days first_bits
-      ∙ ap₂ (λ (a b : List DayValue). a ++ b)
-      (same-bits n vs first_bits w 0 k (λ i more lt. first-in i (omega arith)))
-      (none-set n vs first_bits k (32 - k) (λ i more lt. first-out i more))
-      ∙ append-nil (at w 0 k)
-
-  -- the days of these places are the word's
-  later-days : block_days (n, (later_bits, vs)) ≡ at w k (32 - k)
-  later-days =
-      cut-days later_bits
-      ∙ ap₂ (λ (a b : List DayValue). a ++ b) (none-set n vs later_bits 0 k (λ i more lt. later-out i (omega arith)))
-      (same-bits n vs later_bits w k (32 - k) (λ i more lt. later-in i more (omega arith)))
+  -- the days at some places are those of the first bits, and those of the others
+  cut-days : (s m : ℕ) → s + m ≤ 32 → at w s m ≡ at first_bits s m ++ at later_bits s m
+  cut-days s zero few = refl
+  cut-days s (suc m) few = elim (cases_lt s k) [
+    | inl lt ↦ rw (first-in s lt, later-out s lt, cut-days (s + 1) m (omega arith))
+        (cons-append (day_at (n, (w, vs)) s) (at first_bits (s + 1) m) (at later_bits (s + 1) m))
+    | inr ge ↦
+        let none : at first_bits s (suc m) ≡ [] =
+        none-set n vs first_bits s (suc m) (λ i more under. first-out i (omega arith)) in
+        rw none (same-bits n vs w later_bits s (suc m) (λ i more under. sym (later-in i (omega arith) (omega arith))))
+  ]
 
   -- a block's days are those of both parts of its word
   pub both-parts : block_days (n, (w, vs)) ≡ block_days (n, (first_bits, vs)) ++ block_days (n, (later_bits, vs))
-  both-parts = cut-days w ∙ ap₂ (λ (a b : List DayValue). a ++ b) (sym first-days) (sym later-days)
+  unfolding days_from
+  both-parts = cut-days 0 32 (omega arith)
 
 -- what holds of the days of all bits holds of each day
 cons-each : (P : ℤ → Type 0) (bit : ℕ) (x : DayValue) (xs : List DayValue) → bit < 2 → (bit ≡ 1 → P x.0)
@@ -143,7 +97,7 @@ cons-each P (suc zero) x xs less holds rest = (holds refl, rest)
 cons-each P (suc (suc b)) x xs less holds rest = absurd (omega (arith, less))
 
 -- what is true of the days of some places is true of each day there
-each-place : (P : ℤ → Type 0) (n : ℤ) (vs : List ℤ) (w s m : ℕ)
+pub each-place : (P : ℤ → Type 0) (n : ℤ) (vs : List ℤ) (w s m : ℕ)
     → ((j : ℕ) → s ≤ j → j < s + m → bit_at w j ≡ 1 → P (block_start n +ℤ pos j))
     → AllByRecursion (λ x. P x.0) (filter_map (day_at (n, (w, vs))) (range_with_len s m))
 each-place P n vs w s zero holds = tt
@@ -163,18 +117,7 @@ each-day P n vs w holds = each-place P n vs w 0 32 (λ j more lt. holds j (omega
 pub no-day : (n : ℤ) (vs : List ℤ) (w : ℕ) → w < 2 ^ 32 → block_days (n, (w, vs)) ≡ [] → w ≡ 0
 no-day n vs zero fits none = refl
 no-day n vs (suc w) fits none =
-    let some : 0 < suc w = omega arith in
-    let long : length (block_days (n, (suc w, vs))) ≡ _ =
-    ap (λ (days : List DayValue). length days) (block-first n vs (suc w) some fits) in
-    let empty : length (block_days (n, (suc w, vs))) ≡ 0 = ap (λ (days : List DayValue). length days) none in
-    absurd (omega (arith, long, empty))
-
--- the first day is that of the lowest bit
-pub first-at : (n : ℤ) (vs : List ℤ) (w : ℕ) → 0 < w → w < 2 ^ 32
-    → option_map (λ (x : DayValue). x.0) (slice_get (block_days (n, (w, vs))) 0)
-    ≡ Some (block_start n +ℤ pos (trailing_zeros w32 w))
-first-at n vs w some fits =
-    ap (λ (days : List DayValue). option_map (λ (x : DayValue). x.0) (slice_get days 0)) (block-first n vs w some fits)
+    let first = block-first n vs (suc w) (omega arith) fits in absurd (cc (sym first ∙ none))
 
 -- the first of the days of two parts, of which the first has one
 pub first-of_parts : (cur rest : List DayValue) → 0 < length cur → slice_get (cur ++ rest) 0 ≡ slice_get cur 0

@@ -1,7 +1,6 @@
 -- Parts that are joined or pushed.
-use Rattle.std.proofs.Common.{◌≡◌, ℕ, ◌+◌, ◌-◌, ◌<◌, true, List, [], ◌∷◌, ◌++◌, length, get_or}
-use Rattle.std.proofs.Common.{set, Some, None, IsSome, inl, inr, refl, sym, ap, subst, ◌∙◌, arith, ℤ, pos, ◌+ℤ◌}
-use Rattle.std.proofs.Common.{◌<ℤ◌}
+use Rattle.std.proofs.Common.{◌≡◌, ℕ, ◌+◌, ◌-◌, ◌<◌, true, List, [], ◌∷◌, ◌++◌, length, get_or, set, Some, None, IsSome}
+use Rattle.std.proofs.Common.{inl, inr, refl, sym, ap, subst, ◌∙◌, arith, ℤ, pos, ◌+ℤ◌, ◌<ℤ◌}
 use Rattle.std.specs.Prelude.{◌==◌, ◌||◌, bit_or, int_lt}
 use Rattle.std.specs.List.{AllByRecursion}
 use Rattle.std.specs.Option.{option_or}
@@ -38,7 +37,7 @@ below_last ns n rise i lt after =
     let last : get_or ns (length ns - 1) (pos 0) <ℤ n = last_less (length ns) _ n after (omega arith) in
     elim (cases_lt i (length ns - 1)) [
       | inl before ↦ let less = rise.less i (length ns - 1) before (omega arith) in omega (arith, ints)
-      | inr end ↦ let here : length ns - 1 ≡ i = omega arith in subst (λ (k : ℕ). get_or ns k (pos 0) <ℤ n) here last
+      | inr end ↦ let here : length ns - 1 ≡ i = omega arith in rw here at last
     ]
 
 module _ (ns : List ℤ) (ws : List ℕ) (vs : List (List ℤ)) (bs : AreBlocks ns ws vs) where
@@ -64,9 +63,8 @@ module _ (ns : List ℤ) (ws : List ℕ) (vs : List (List ℤ)) (bs : AreBlocks 
       (block_days (n, (w, v)))
       (days_of_blocks (blocks_of (ns ++ n ∷ []) (ws ++ w ∷ []) (vs ++ v ∷ [])))
   push-days n w v d =
-      ap (λ (l : List Block). value_on (days_of_blocks l) d)
-      (pushed-blocks ns ws vs n w v bs.enough_words bs.enough_values)
-      ∙ days-pushed (blocks_of ns ws vs) (n, (w, v)) d
+      rw (pushed-blocks ns ws vs n w v bs.enough_words bs.enough_values)
+      (days-pushed (blocks_of ns ws vs) (n, (w, v)) d)
 
 -- days of the last part's block that the parts don't have, and their values joined to those of the part
 pub record IsJoin (ns : List ℤ) (ws : List ℕ) (vs : List (List ℤ)) (i p : ℕ) (u r : List ℤ) : Type 0 where
@@ -129,20 +127,14 @@ pub push-rise : (ns : List ℤ) (n : ℤ) → Rise ns → (length ns == 0 || int
 push-rise ns n rise after = record {
   less = λ i j lt in_range.
       let long : length (ns ++ n ∷ []) ≡ length ns + 1 = grind (arith, common_steps) in
-      let old_i : get_or (ns ++ n ∷ []) i (pos 0) ≡ get_or ns i (pos 0) = get_or_append_left ns (n ∷ []) (pos 0) i
-      (omega arith) in
+      let old_i = get_or_append_left ns (n ∷ []) (pos 0) i (omega arith) in
       elim (cases_lt j (length ns)) [
-        | inl before ↦
-            let old_j : get_or (ns ++ n ∷ []) j (pos 0) ≡ get_or ns j (pos 0) = get_or_append_left ns (n ∷ [])
-            (pos 0) j before in
-            rw (old_i, old_j) (rise.less i j lt before)
+        | inl before ↦ rw (old_i, get_or_append_left ns (n ∷ []) (pos 0) j before) (rise.less i j lt before)
         | inr end ↦
-            let new_j : get_or (ns ++ n ∷ []) j (pos 0) ≡ n = get_or_push ns n (pos 0) j (omega arith) in
-            rw (old_i, new_j) (below_last ns n rise i (omega arith) after)
+            rw (old_i, get_or_push ns n (pos 0) j (omega arith)) (below_last ns n rise i (omega arith) after)
       ];
 }
 
 -- nothing is added
 pub add-none : (old : List DayValue) (n : ℤ) (w : ℕ) (v : List ℤ) → w ≡ 0 → AreJoined old (block_days (n, (w, v))) old
-add-none old n w v e d = sym (ap (λ (l : List DayValue). option_or (value_on old d) (value_on l d))
-    (block-empty n v w e) ∙ or_none (value_on old d))
+add-none old n w v e d = rw (block-empty n v w e) (sym (or_none (value_on old d)))

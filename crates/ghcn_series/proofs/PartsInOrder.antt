@@ -1,15 +1,16 @@
 -- Parts added again in the order of their numbers: they have the same days, which then rise.
-use Rattle.std.proofs.Common.{◌≡◌, ℕ, ◌+◌, ◌-◌, ◌<◌, ◌^◌, false, cond, List, [], ◌∷◌, length, get_or, drop}
-use Rattle.std.proofs.Common.{map, Option, Some, None, IsSome, inl, inr, refl, sym, ap, subst, ◌∙◌, arith, ℤ, pos}
-use Rattle.std.proofs.Common.{◌+ℤ◌, ◌≤ℤ◌, w32}
+use Rattle.std.proofs.Common.{◌≡◌, ℕ, ◌+◌, ◌-◌, ◌<◌, ◌^◌, false, List, [], ◌∷◌, length, get_or, drop, map, Option}
+use Rattle.std.proofs.Common.{Some, None, IsSome, ◌⊎◌, inl, inr, refl, sym, ap, subst, ◌∙◌, arith, ℤ, pos, ◌+ℤ◌, w32}
+use Rattle.std.proofs.Common.{◌≤ℤ◌}
 use Rattle.std.specs.Prelude.{◌==◌}
 use Rattle.std.specs.Int.{trailing_zeros}
 use Rattle.std.specs.List.{sum_by, range_with_len}
 use Rattle.std.specs.List.Sorted.{IsPermutation, IsSorted}
 use Rattle.std.specs.Option.{option_or}
-use Rattle.std.specs.Ordering.{int_eq, int_cmp, nat_cmp, is_lt, ordering_then}
+use Rattle.std.specs.Ordering.{int_cmp, nat_cmp, is_lt, ordering_then}
 use Rattle.std.specs.declared.cmp.Ordering.{Ordering}
 use Rattle.std.specs.declared.cmp.Ordering.TheVariants.{Less, Equal, Greater}
+use Rattle.std.proofs.lemmas.Bool.{false≢true}
 use Rattle.std.proofs.lemmas.Cmp.{int_ranked}
 use Rattle.std.proofs.lemmas.Int.{ints}
 use Rattle.std.proofs.lemmas.List.{get_or-map, length-map, drop_all}
@@ -18,23 +19,29 @@ use Rattle.std.proofs.lemmas.List.Sorted.{IsPermutation-map, All-permutation, su
 use Rattle.std.proofs.lemmas.List.Sums.{sum_by-cons, sum_by-drop_more}
 use Rattle.std.proofs.lemmas.Nat.Bits.{bit_at-trailing_zeros}
 use Rattle.std.proofs.lemmas.Simd.{map-map}
+use borrow.Author.Differences.{up, down}
 use Rattle.ghcn_fields.specs.Days.{block_of}
-use Rattle.ghcn_series.specs.Series.{DayValue, value_on}
+use Rattle.ghcn_series.specs.Series.{value_on}
 use Rattle.ghcn_series.specs.Packed.{Block, block_start, if_so, block_days, days_of_blocks, blocks_of, IsPacked}
 use Rattle.ghcn_series.specs.Packed.{AreBlocks, AreRising}
 use Rattle.ghcn_series.specs.Parts.{AreDisjoint, AreParts, AreOrdered, AreEmpty, KeepsOrder, JoinsPart}
 use Rattle.ghcn_series.specs.Parts.{IsNewPart, HaveSameDays, AreByNumber, days_held, last_number, with_places}
 use Rattle.ghcn_series.specs.declared.parts.Parts.{Parts}
-use Rattle.ghcn_series.proofs.Lookups.{no_block, int_eq-yes, int_eq-no, block-value, block-other, block-of_place}
-use Rattle.ghcn_series.proofs.Lookups.{value_on-append, blocks-at, blocks-length}
-use Rattle.ghcn_series.proofs.JoinedDays.{same_block, none-at}
+use Rattle.ghcn_series.proofs.Lookups.{no_block, block-value, block-of_place, value_on-append, blocks-at, blocks-length}
+use Rattle.ghcn_series.proofs.JoinedDays.{none-at}
 use Rattle.ghcn_series.proofs.PartsAdded.{packed-at}
+use Rattle.ghcn_series.proofs.RowParts.{own-block}
 use Rattle.ghcn_series.proofs.RisingDays.{columns-rise}
 
 -- the days of parts in order rise
 pub ordered-rise : (p : Parts) → AreOrdered p → AreRising (days_held p)
 ordered-rise p is = columns-rise p.numbers.items p.words.items p.values.items
     (record { blocks = is.parts.blocks; rise = is.parts.rise is.in_order })
+
+-- of two of which one is there, one is
+either-some : (a b : Option ℤ) → IsSome (option_or a b) → IsSome a ⊎ IsSome b
+either-some None b some = inr some
+either-some (Some x) b some = inl some
 
 -- ---- what values weigh determines them
 
@@ -47,10 +54,6 @@ weight g (Some v) = g v
 abbrev each_one : ℤ → ℕ
 each_one v = 1
 
--- one value weighs 1, and any other nothing
-abbrev only : ℤ → ℤ → ℕ
-only v w = cond (int_eq w v) 1 0
-
 -- two values of which one is absent weigh as much as the one
 weight-or : (g : ℤ → ℕ) (a b : Option ℤ) → (IsSome b → a ≡ None) → weight g (option_or a b) ≡ weight g a + weight g b
 weight-or g None b apart = omega arith
@@ -62,27 +65,15 @@ same-from_weights : (a b : Option ℤ) → ((g : ℤ → ℕ) → weight g a ≡
 same-from_weights None None same = refl
 same-from_weights None (Some w) same = absurd (omega (arith, same each_one))
 same-from_weights (Some v) None same = absurd (omega (arith, same each_one))
-same-from_weights (Some v) (Some w) same = elim (same_block v w) [
-  | inl is ↦ ap (λ (z : ℤ). Some z) is
-  | inr other ↦
-      let weighs : 1 ≡ 0 = rw (int_eq-yes v v refl, int_eq-no w v (λ e. other (sym e))) at (same (only v)) in
-      absurd (omega (arith, weighs))
-]
+same-from_weights (Some v) (Some w) same = let is : v ≡ w = omega (arith, ints, same up, same down) in cc
 
--- a value that weighs nothing is absent
-none-from_weight : (a : Option ℤ) → weight each_one a ≡ 0 → a ≡ None
-none-from_weight None e = refl
-none-from_weight (Some v) e = absurd (omega (arith, e))
-
--- a value weighs at most 1
-weight-le : (a : Option ℤ) → weight each_one a < 2
-weight-le None = omega arith
-weight-le (Some v) = omega arith
-
--- and 1 if there is one
-weight-some : (a : Option ℤ) → IsSome a → weight each_one a ≡ 1
-weight-some None some = absurd cc
-weight-some (Some v) some = refl
+-- beside a value that is there another one is absent, if both weigh no more than one
+none-from_weights : (a b c : Option ℤ) (rest : ℕ) → weight each_one a + (weight each_one b + rest) ≡ weight each_one c
+    → IsSome b → a ≡ None
+none-from_weights None b c rest e some = refl
+none-from_weights (Some v) None c rest e some = absurd cc
+none-from_weights (Some v) (Some w) None rest e some = absurd (omega (arith, e))
+none-from_weights (Some v) (Some w) (Some x) rest e some = absurd (omega (arith, e))
 
 -- what the values of one day in some blocks weigh together
 abbrev pub weight_on : (ℤ → ℕ) → ℤ → List Block → ℕ
@@ -93,10 +84,8 @@ weight-apart : (g : ℤ → ℕ) (d : ℤ) (bs : List Block) → AreDisjoint bs
     → weight_on g d bs ≡ weight g (value_on (days_of_blocks bs) d)
 weight-apart g d [] apart = refl
 weight-apart g d (b ∷ bs) apart =
-    sum_by-cons (λ (x : Block). weight g (value_on (block_days x) d)) b bs
-    ∙ ap (λ n. weight g (value_on (block_days b) d) + n) (weight-apart g d bs apart.1)
-    ∙ sym (ap (weight g) (value_on-append (block_days b) (days_of_blocks bs) d)
-    ∙ weight-or g (value_on (block_days b) d) (value_on (days_of_blocks bs) d) (apart.0 d))
+    simp (sum_by-cons, weight-apart g d bs apart.1, value_on-append)
+    (sym (weight-or g (value_on (block_days b) d) (value_on (days_of_blocks bs) d) (apart.0 d)))
 
 -- ---- the parts in the order of their numbers
 
@@ -153,8 +142,7 @@ module _ (ns : List ℤ) (order : List (ℤ × ℕ)) (is : AreByNumber ns order)
       no_block (blocks-length ns ws vs bs.enough_words bs.enough_values)
       (λ k lt. blocks-at ns ws vs k bs.enough_words bs.enough_values lt)
       ∙ sym (map-map (part_at ws vs) (λ k. (get_or ns k (pos 0), k)) (range_with_len 0 (length ns))) in
-      subst (λ (l : List Block). IsPermutation l (map (part_at ws vs) order)) (sym all)
-      (IsPermutation-map (part_at ws vs) (with_places ns) order is.all)
+      rw all (IsPermutation-map (part_at ws vs) (with_places ns) order is.all)
 
 -- the first parts of an order are added: with the others they have all days, and none of a later block than the next
 pub record AreAdded (old : Parts) (order : List (ℤ × ℕ)) (k : ℕ) (new : Parts) : Type 0 where
@@ -183,19 +171,13 @@ last-le p n is below some =
     let vs : List (List ℤ) = p.values.items in
     let i : ℕ = length ns - 1 in
     let lt : i < length ns = omega arith in
-    let b : Block = (get_or ns i (pos 0), (get_or ws i 0, get_or vs i [])) in
-    let packed : IsPacked b = packed-at ns ws vs is.blocks i lt in
-    let day = some-day b packed.present packed.fits in
-    let held : IsSome (value_on (days_held p) day.0) =
-    elim (value_on (days_held p) day.0) as (λ o. value_on (days_held p) day.0 ≡ o → IsSome o) [
-      | Some v ↦ λ e. refl
-      | None ↦ λ e.
-          let none : value_on (block_days b) day.0 ≡ None =
-          none-at ns ws vs i day.0 is.blocks.enough_words is.blocks.enough_values lt e in
-          subst IsSome none day.2
-    ] refl in
-    let le = below day.0 held in
-    subst (λ (z : ℤ). z ≤ℤ n) day.1 le
+    let packed = packed-at ns ws vs is.blocks i lt in
+    let day = some-day (get_or ns i (pos 0), (get_or ws i 0, get_or vs i [])) packed.present packed.fits in
+    elim (value_on (days_held p) day.0) as (λ o. value_on (days_held p) day.0 ≡ o → last_number p ≤ℤ n) [
+      | Some v ↦ λ e. subst (λ (z : ℤ). z ≤ℤ n) day.1 (below day.0 (subst IsSome (sym e) refl))
+      | None ↦ λ e. absurd (false≢true (subst IsSome
+          (none-at ns ws vs i day.0 is.blocks.enough_words is.blocks.enough_values lt e) day.2))
+    ] refl
 
 module _ (old : Parts) (order : List (ℤ × ℕ)) (is : AreParts old) (by : AreByNumber old.numbers.items order) where
   -- nothing is added yet
@@ -203,16 +185,12 @@ module _ (old : Parts) (order : List (ℤ × ℕ)) (is : AreParts old) (by : Are
   added-none new none = record {
     ordered = none.order;
     held = λ g d.
-        let empty : weight g (value_on (days_held new) d) ≡ 0 =
-        ap (λ (l : List DayValue). weight g (value_on l d)) none.none in
         let all : weight_on g d (parts_in old order) ≡ weight g (value_on (days_held old) d) =
         sum_by-IsPermutation (λ (b : Block). weight g (value_on (block_days b) d)) _ (parts_in old order)
         (moved old.numbers.items order by old.words.items old.values.items is.blocks)
         ∙ weight-apart g d _ is.apart in
-        omega (arith, empty, all);
-    below = λ lt d some.
-        let no = subst (λ (l : List DayValue). IsSome (value_on l d)) none.none some in
-        absurd cc;
+        rw none.none (omega (arith, all));
+    below = λ lt d some. let no = rw none.none at some in absurd cc;
   }
 
   module _ (k : ℕ) (new : Parts) (lt : k < length order) (added : AreAdded old order k new) where
@@ -237,20 +215,14 @@ module _ (old : Parts) (order : List (ℤ × ℕ)) (is : AreParts old) (by : Are
     next-packed =
         let at = stands old.numbers.items order by k lt in
         subst (λ (n : ℤ). IsPacked (n, next.1)) (sym at.is)
-        (packed-at old.numbers.items old.words.items old.values.items is.blocks
-        (get_or order k (pos 0, 0)).1 at.in_range)
+        (packed-at _ _ _ is.blocks (get_or order k (pos 0, 0)).1 at.in_range)
 
     -- and its days are new
     pub next-new : IsNewPart new next
     next-new d some =
-        none-from_weight (value_on (days_held new) d)
-        (omega (
-          arith,
-          added.held each_one d,
-          next-weight each_one d,
-          weight-some (value_on (block_days next) d) some,
-          weight-le (value_on (days_held old) d),
-        ))
+        none-from_weights (value_on (days_held new) d) (value_on (block_days next) d) (value_on (days_held old) d)
+        (weight_on each_one d (drop (k + 1) (parts_in old order)))
+        (omega (arith, added.held each_one d, next-weight each_one d)) some
 
     -- if it is added too, one part more is
     pub added-more : (more : Parts) → AreParts more → JoinsPart new next more → KeepsOrder new next.0 more
@@ -268,19 +240,10 @@ module _ (old : Parts) (order : List (ℤ × ℕ)) (is : AreParts old) (by : Are
           omega (arith, both, added.held g d, next-weight g d);
       below = λ less d some.
           let rise = by.rise k less in
-          elim (value_on (days_held new) d) as (λ o. value_on (days_held new) d ≡ o
-          → block_of d ≤ℤ (get_or order (k + 1) (pos 0, 0)).0) [
-            | Some v ↦ λ e.
-                let le = added.below lt d (subst IsSome (sym e) refl) in
-                omega (arith, ints, le, rise)
-            | None ↦ λ e.
-                let has : IsSome (value_on (block_days next) d) =
-                subst IsSome (joins d ∙ ap (λ (o : Option ℤ). option_or o (value_on (block_days next) d)) e) some in
-                elim (same_block next.0 (block_of d)) [
-                  | inl here ↦ subst (λ (z : ℤ). z ≤ℤ (get_or order (k + 1) (pos 0, 0)).0) here rise
-                  | inr other ↦ let no = subst IsSome (block-other next d other) has in absurd cc
-                ]
-          ] refl;
+          elim (either-some (value_on (days_held new) d) (value_on (block_days next) d) (subst IsSome (joins d) some)) [
+            | inl there ↦ let le = added.below lt d there in omega (arith, ints, le, rise)
+            | inr own ↦ subst (λ (z : ℤ). z ≤ℤ (get_or order (k + 1) (pos 0, 0)).0) (own-block next d own) rise
+          ];
     }
 
   -- if all are added, the days are the same
@@ -289,6 +252,5 @@ module _ (old : Parts) (order : List (ℤ × ℕ)) (is : AreParts old) (by : Are
       same-from_weights (value_on (days_held new) d) (value_on (days_held old) d) (λ g.
       let long : length (parts_in old order) ≡ length order =
       length-map order (part_at old.words.items old.values.items) in
-      let none : weight_on g d (drop k (parts_in old order)) ≡ 0 =
-      ap (λ (l : List Block). weight_on g d l) (drop_all k (parts_in old order) (omega (arith, long))) in
-      omega (arith, none, added.held g d))
+      let same = rw (drop_all k (parts_in old order) (omega (arith, long))) at (added.held g d) in
+      omega (arith, same))

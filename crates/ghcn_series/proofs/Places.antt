@@ -1,12 +1,13 @@
 -- Stations by their places in the list.
 use Rattle.std.proofs.Common.{◌≡◌, ℕ, zero, suc, ◌+◌, ◌<◌, Bool, true, false, cond, not, List, [], ◌∷◌, length, map}
-use Rattle.std.proofs.Common.{Some, None, refl, sym, ap, ◌∙◌, arith, subst}
+use Rattle.std.proofs.Common.{Some, None, refl, sym, ap, ◌∙◌, arith}
 use Rattle.std.specs.Prelude.{◌||◌, nat_lt}
 use Rattle.std.specs.List.{slice_get, position_or_len, AllByRecursion, IsDistinct}
 use Rattle.std.proofs.lemmas.Bool.Decides.{nat_tests}
 use Rattle.std.proofs.lemmas.Cmp.{nat_list_eq_equiv}
 use Rattle.std.proofs.lemmas.Bool.{lt-ltb, le-ltb, ltb-true}
-use Rattle.std.proofs.lemmas.Option.{cond_some, slice_get-map}
+use Rattle.std.proofs.lemmas.List.Quantifiers.{position-Some}
+use Rattle.std.proofs.lemmas.Option.{cond_some, slice_get-map, get_or_from_slice_get}
 use Rattle.std.specs.Option.{option_map}
 use Rattle.ghcn_series.proofs.ListFacts.{from_all}
 use Rattle.ghcn_files.specs.declared.station.StationId.{StationId}
@@ -36,19 +37,12 @@ pub first_place : (ss : List Station) (k : ℕ) (s : Station) → IsDistinct sam
 unfolding IsDistinct
 first_place [] k s apart at = absurd cc
 first_place (x ∷ xs) zero s apart at =
-    let same : x ≡ s = cc in (
-      ap (λ (b : Bool). cond (not b) (1 + position_or_len (is_station_of s.id) xs) 0)
-          (ap (λ (y : Station). same_id x.id y.id) (sym same) ∙ same_id-refl x.id),
-      omega
-          arith,
-    )
+    let same : x ≡ s = cc in
+    (rw (← same, same_id-refl x.id), omega arith)
 first_place (x ∷ xs) (suc k) s apart at =
     let more = first_place xs k s apart.1 at in
-    let other = from_ids (λ y. same_id x.id y ≡ false) xs k s apart.0 at in (
-      ap (λ (b : Bool). cond (not b) (1 + position_or_len (is_station_of s.id) xs) 0) other
-          ∙ omega (arith, more.0),
-      omega (arith, more.1),
-    )
+    let other : same_id x.id s.id ≡ false = from_ids (λ y. same_id x.id y ≡ false) xs k s apart.0 at in
+    (rw other (omega (arith, more.0)), omega (arith, more.1))
 
 -- the place of a station's ID is its own
 pub place_of-at : (ss : List Station) (k : ℕ) (s : Station) (id : StationId) → IsDistinct same_id (ids ss)
@@ -57,20 +51,18 @@ place_of-at ss k s id apart at of =
     let first = first_place ss k s apart at in
     rw (← of, first.0, lt-ltb k (length ss) first.1)
 
--- both numbers may be one greater
-lt_next : (n m : ℕ) → nat_lt (1 + n) (suc m) ≡ nat_lt n m
-lt_next n m = grind (arith, nat_tests)
+-- what comes first has a place, and anything else has one if it has one among those behind
+place_next : (b r : Bool) (n m : ℕ) → nat_lt n m ≡ r → nat_lt (cond (not b) (1 + n) 0) (suc m) ≡ (b || r)
+place_next true r n m is = lt-ltb 0 (suc m) (omega arith)
+place_next false r n m is = rw (← is) (grind (arith, nat_tests))
 
 -- an ID has a place if it is listed
 has_place : (ss : List Station) (id : StationId) → nat_lt (position_or_len (is_station_of id) ss) (length ss)
     ≡ is_listed ss id
 has_place [] id = refl
 has_place (x ∷ xs) id =
-    elim (is_station_of id x) as (λ b. nat_lt (cond (not b) (1 + position_or_len (is_station_of id) xs) 0)
-    (suc (length xs)) ≡ (b || is_listed xs id)) [
-      | true ↦ lt-ltb 0 (suc (length xs)) (omega arith)
-      | false ↦ lt_next (position_or_len (is_station_of id) xs) (length xs) ∙ has_place xs id
-    ]
+    place_next (is_station_of id x) (is_listed xs id) (position_or_len (is_station_of id) xs) (length xs)
+    (has_place xs id)
 
 -- an ID without a place isn't listed
 pub unlisted-is : (ss : List Station) (id : StationId) → place_of ss id ≡ None → is_listed ss id ≡ false
@@ -81,20 +73,11 @@ unlisted-is ss id none = sym (has_place ss id) ∙ le-ltb (position_or_len (is_s
 abbrev pub IsAt : List Station → ℕ → StationId → Type 0
 IsAt ss k id = (s : Station) × (slice_get ss k ≡ Some s) × (s.id ≡ id)
 
--- the station is at the place that is found
-station_at : (ss : List Station) (id : StationId) (k : ℕ) → position_or_len (is_station_of id) ss ≡ k → k < length ss
-    → IsAt ss k id
-station_at [] id k e lt = absurd (omega arith)
-station_at (x ∷ xs) id k e lt =
-    elim (is_station_of id x) as (λ b. is_station_of id x ≡ b → cond (not b) (1 + position_or_len (is_station_of id) xs)
-    0 ≡ k → IsAt (x ∷ xs) k id) [
-      | true ↦ λ is here. let P : ℕ → Type 0 = λ n. IsAt (x ∷ xs) n id in subst P here (x, refl, same_id-is x.id id is)
-      | false ↦ λ is later.
-          let P : ℕ → Type 0 = λ n. IsAt (x ∷ xs) n id in
-          let next : suc (position_or_len (is_station_of id) xs) ≡ k = omega (arith, later) in
-          let more = station_at xs id (position_or_len (is_station_of id) xs) refl (omega (arith, next, lt)) in
-          subst P next (more.0, more.1, more.2)
-    ] refl e
+-- some station is at a place of the list
+pub station_there : (ss : List Station) (k : ℕ) → k < length ss → (s : Station) × (slice_get ss k ≡ Some s)
+station_there [] k lt = absurd (omega (arith, lt))
+station_there (s ∷ ss) zero lt = (s, refl)
+station_there (s ∷ ss) (suc k) lt = station_there ss k (omega (arith, lt))
 
 -- an ID with a place is that of the station there, and it is listed
 pub listed-is : (ss : List Station) (id : StationId) (k : ℕ) → place_of ss id ≡ Some k
@@ -103,4 +86,7 @@ listed-is ss id k some =
     let at = cond_some (nat_lt (position_or_len (is_station_of id) ss) (length ss))
     (position_or_len (is_station_of id) ss) k some in
     let lt : k < length ss = omega (arith, ltb-true _ _ at.0, at.1) in
-    (station_at ss id k at.1 lt, sym (has_place ss id) ∙ at.0, lt)
+    let there = station_there ss k lt in
+    let found = position-Some (is_station_of id) ss k there.0 some in
+    let passes = rw (get_or_from_slice_get ss k there.0 there.0 there.1) at found.1 in
+    ((there.0, there.1, same_id-is there.0.id id passes), sym (has_place ss id) ∙ at.0, lt)

@@ -3,18 +3,16 @@ use Rattle.std.proofs.Common.{◌≡◌, ℕ, ◌<◌, ◌≤◌, ◌^◌, List,
 use Rattle.std.proofs.Common.{take, Option, None, Some, Ok, Err, Bor, refl, sym, ap, ◌∙◌, arith}
 use Rattle.std.specs.Option.{option_map}
 use Rattle.std.proofs.lemmas.List.{take_all, length-map}
-use Rattle.std.proofs.lemmas.Bool.{le-leb, lt-leb}
+use Rattle.std.proofs.lemmas.Bool.{le-leb}
 use Rattle.ghcn_fields.specs.Faults.{first_fault, HaveNoFault}
 use Rattle.ghcn_files.proofs.FaultLaws.{first_fault-none, first_fault-from, first_fault-is}
 use Rattle.ghcn_files.specs.declared.station.Station.{Station}
 use Rattle.ghcn_files.specs.Months.{read_month}
-use Rattle.ghcn_series.specs.declared.fault.DailyWhy.{DailyWhy}
 use Rattle.ghcn_series.specs.declared.fault.DataFault.{DataFault}
 use Rattle.ghcn_series.specs.declared.fault.DataFault.TheVariants.{DailyLine, TooManyFiles, Memory}
 use Rattle.ghcn_fields.specs.Refusals.{IsRefusal}
-use Rattle.ghcn_series.specs.DailyFaults.{FileLine, daily_lines, daily_why, daily_fault, is_memory, IsFirstRefusal}
-use Rattle.ghcn_series.specs.DailyFaults.{HasFirst}
-use Rattle.ghcn_series.specs.Series.{Contents}
+use Rattle.ghcn_series.specs.DailyFaults.{FileLine, daily_lines, daily_why, daily_fault, is_memory, HasFirst}
+use Rattle.ghcn_series.specs.DailyFaults.{IsFirstRefusal}
 use Rattle.ghcn_series.specs.Says.{contents, contents_unless, data_of}
 use Rattle.ghcn_series.specs.Gathered.{IsLineRefusal}
 
@@ -26,8 +24,7 @@ texts files = map (λ f. f.now) files
 few_files : (stations : List Station) (files : List (List ℕ)) → length files ≤ 2 ^ 20
     → data_of stations files ≡ contents_unless (first_fault (daily_fault stations) (daily_lines files))
     (contents stations (daily_lines files))
-few_files stations files few =
-    rw (le-leb (length files) (2 ^ 20) few) refl
+few_files stations files few = rw (le-leb (length files) (2 ^ 20) few) refl
 
 -- files without an error have their contents
 pub data_of-right : (stations : List Station) (files : List (List ℕ)) → length files ≤ 2 ^ 20
@@ -46,40 +43,27 @@ data_of-refused stations files (DailyLine file line why) few is =
     ∙ rw (first_fault-from (daily_fault stations) (daily_lines files) is.0 (DailyLine file line why) is.1) refl
 
 -- the error that is found among the lines of files is the first
-first_found : (stations : List Station) (ls : List FileLine) (found : Option (FileLine × DataFault)) (held : Contents)
-    (f : DataFault) → first_fault (daily_fault stations) ls ≡ found → contents_unless found held ≡ Err f
-    → HasFirst f stations ls
-first_found stations ls None held f is e = absurd cc
-first_found stations ls (Some p) held f is e =
-    let same : p.1 ≡ f = cc in
-    (p.0, first_fault-is (daily_fault stations) ls p.0 f (is ∙ ap (λ (w : DataFault). Some (p.0, w)) same))
+first_found : (stations : List Station) (files : List (List ℕ)) (f : DataFault) (found : Option (FileLine × DataFault))
+    → first_fault (daily_fault stations) (daily_lines files) ≡ found
+    → contents_unless found (contents stations (daily_lines files)) ≡ Err f → HasFirst f stations (daily_lines files)
+first_found stations files f None is e = absurd cc
+first_found stations files f (Some (l, g)) is e =
+    let same : g ≡ f = cc in
+    (l, first_fault-is (daily_fault stations) (daily_lines files) l f (is ∙ ap (λ (w : DataFault). Some (l, w)) same))
 
--- no line has the error that there are too many files
-not_of_a_line : (file line n : ℕ) (why : Option DailyWhy)
-    → option_map (λ w. DailyLine file line w) why ≡ Some TooManyFiles → 2 ^ 20 < n
-not_of_a_line file line n None e = absurd cc
-not_of_a_line file line n (Some why) e = absurd cc
-
--- a refusal of so few files is that of their first line with an error
+-- a refusal of so few files is that of their first line with an error, and no line's is that there are too many files
 pub first_refusal : (stations : List Station) (files : List (List ℕ)) (f : DataFault) → length files ≤ 2 ^ 20
     → IsRefusal is_memory f (data_of stations files) → IsFirstRefusal f stations files
 first_refusal stations files (Memory m) few is = tt
 first_refusal stations files TooManyFiles few is =
-    let ls = daily_lines files in
-    let first = first_found stations ls (first_fault (daily_fault stations) ls) (contents stations ls) TooManyFiles refl
-    (sym (few_files stations files few) ∙ is) in
-    not_of_a_line first.0.file first.0.line (length files)
-    (daily_why stations first.1.before (read_month first.0.bytes)) first.1.here
+    let first = first_found stations files TooManyFiles _ refl (sym (few_files stations files few) ∙ is) in
+    elim (daily_why stations first.1.before (read_month first.0.bytes)) as (λ why.
+    option_map (λ w. DailyLine first.0.file first.0.line w) why ≡ Some TooManyFiles → 2 ^ 20 < length files) [
+      | None ↦ λ e. absurd cc
+      | Some why ↦ λ e. absurd cc
+    ] first.1.here
 first_refusal stations files (DailyLine file line why) few is =
-    let ls = daily_lines files in
-    first_found stations ls _ (contents stations ls) (DailyLine file line why) refl
-    (sym (few_files stations files few) ∙ is)
-
--- too many files
-pub data_of-many : (stations : List Station) (files : List (List ℕ)) → 2 ^ 20 < length files
-    → data_of stations files ≡ Err TooManyFiles
-data_of-many stations files many =
-    rw (lt-leb (length files) (2 ^ 20) many) refl
+    first_found stations files (DailyLine file line why) _ refl (sym (few_files stations files few) ∙ is)
 
 -- there are as many texts as files
 pub length-texts : (files : List (Bor (List ℕ))) → length (texts files) ≡ length files

@@ -8,7 +8,6 @@ use Rattle.std.proofs.lemmas.List.{append-nil}
 use Rattle.std.proofs.lemmas.List.Elements.{filter_map-append}
 use Rattle.std.proofs.lemmas.Bool.{not-true, not-false}
 use Rattle.ghcn_fields.specs.Lines.{columns}
-use Rattle.ghcn_fields.specs.Faults.{IsFirstFault}
 use Rattle.ghcn_files.proofs.FaultLaws.{no_fault-more}
 use Rattle.ghcn_files.specs.declared.station.Station.{Station}
 use Rattle.ghcn_files.specs.declared.month.Month.{Month}
@@ -18,6 +17,7 @@ use Rattle.ghcn_files.specs.declared.fault.LineWhy.{LineWhy}
 use Rattle.ghcn_files.specs.declared.fault.LineWhy.TheVariants.{Short}
 use Rattle.ghcn_files.specs.Elements.{element_of}
 use Rattle.ghcn_files.specs.Months.{read_month, month_if, month_why, month_of, unless}
+use Rattle.ghcn_series.specs.declared.fault.DailyWhy.{DailyWhy}
 use Rattle.ghcn_series.specs.declared.fault.DailyWhy.TheVariants.{Line, DuplicateMonth}
 use Rattle.ghcn_series.specs.declared.fault.DataFault.{DataFault}
 use Rattle.ghcn_series.specs.declared.fault.DataFault.TheVariants.{DailyLine, TooManyFiles, Memory}
@@ -28,17 +28,6 @@ use Rattle.ghcn_series.specs.Gathered.{HasReadFor, IsLineRefusal}
 use Rattle.ghcn_series.specs.LineKinds.{has_element}
 use Rattle.ghcn_series.specs.LinesRead.{line_texts}
 use Rattle.ghcn_series.specs.Steps.{ReadsMonth}
-
-module _ {L W : Type 0} (fault : List L → L → Option W) where
-  -- more lines after change nothing
-  pub first_among : (ls more : List L) (l : L) (w : W) → IsFirstFault fault ls l w → IsFirstFault fault (ls ++ more) l w
-  first_among ls more l w is = record {
-    before = is.before;
-    behind = is.behind ++ more;
-    place = ap (λ (xs : List L). xs ++ more) is.place ∙ append_assoc is.before (l ∷ is.behind) more;
-    here = is.here;
-    none_before = is.none_before;
-  }
 
 -- one line more adds the month that it is
 months-more : (before : List FileLine) (l : FileLine) (o : Option Month) → month_on l ≡ o
@@ -96,67 +85,52 @@ read-month old new l m is same kept adds stations keep before for =
       };
     }
 
--- a line that fails a test is the first with an error
+-- a line with an error after lines without one is the first with an error
+refused : (r : Reader) (l : FileLine) (why : DailyWhy) (stations : List Station) (keep : Keep) (before : List FileLine)
+    → HasReadFor r stations keep before → daily_fault r.stations before l ≡ Some (DailyLine l.file l.line why)
+    → IsLineRefusal stations (before ++ l ∷ []) (DailyLine l.file l.line why)
+refused r l why stations keep before for is = rw (← for.listed) (
+  l,
+  record { before = before; behind = []; place = refl; here = is; none_before = for.read.right },
+)
+
+-- a line that fails a test is refused
 pub refused-line : (r : Reader) (l : FileLine) (why : LineWhy) → read_month l.bytes ≡ Err why
     → (stations : List Station) (keep : Keep) (before : List FileLine) → HasReadFor r stations keep before
     → IsLineRefusal stations (before ++ l ∷ []) (DailyLine l.file l.line (Line why))
 refused-line r l why is stations keep before for =
-    rw (← for.listed) (
-      l,
-      record {
-        before = before;
-        behind = [];
-        place = refl;
-        here = rw is refl;
-        none_before = for.read.right;
-      },
-    )
+    refused r l (Line why) stations keep before for (rw is refl)
 
--- a line that is a month of an earlier line is the first with an error
+-- so is a line that is a month of an earlier line
 pub refused-month : (old new : Reader) (l : FileLine) (m : Month) → read_month l.bytes ≡ Ok (Some m)
     → ReadsMonth old new m false → (stations : List Station) (keep : Keep) (before : List FileLine)
     → HasReadFor old stations keep before
     → IsLineRefusal stations (before ++ l ∷ []) (DailyLine l.file l.line DuplicateMonth)
 refused-month old new l m is adds stations keep before for =
     let again = sym (adds.is_new (filter_map month_on before) for.read.months) in
-    rw (← for.listed) (
-      l,
-      record {
-        before = before;
-        behind = [];
-        place = refl;
-        here = rw (is, not-false (is_listed old.stations m.id && repeats before m) again) refl;
-        none_before = for.read.right;
-      },
-    )
+    refused old l DuplicateMonth stations keep before for
+    (rw (is, not-false (is_listed old.stations m.id && repeats before m) again) refl)
 
 -- ---- what is on a line
 
--- a line that is skipped has none of the elements
-none_read : (short : Bool) (e : Option Element) (line : List ℕ) → cond short (Err Short) (month_if e line) ≡ Ok None
-    → is_some e ≡ false
-none_read true e line is = absurd cc
-none_read false None line is = refl
-none_read false (Some x) line is =
-    elim (month_why line) as (λ w. unless w (Some (month_of x line)) ≡ Ok None → true ≡ false) [
-      | None ↦ λ is. absurd cc
+-- a line has one of the elements if it is of a month, and none if it is skipped
+code_read : (short : Bool) (e : Option Element) (line : List ℕ) (o : Option Month)
+    → cond short (Err Short) (month_if e line) ≡ Ok o → is_some e ≡ is_some o
+code_read true e line o is = absurd cc
+code_read false None line o is = let none : None ≡ o = cc in ap is_some none
+code_read false (Some x) line o is =
+    elim (month_why line) as (λ w. unless w (Some (month_of x line)) ≡ Ok o → true ≡ is_some o) [
+      | None ↦ λ is. let some : Some (month_of x line) ≡ o = cc in ap is_some some
       | Some why ↦ λ is. absurd cc
     ] is
 
--- a line of a month has one
-some_read : (short : Bool) (e : Option Element) (line : List ℕ) (m : Month)
-    → cond short (Err Short) (month_if e line) ≡ Ok (Some m) → is_some e ≡ true
-some_read true e line m is = absurd cc
-some_read false None line m is = absurd cc
-some_read false (Some x) line m is = refl
-
--- so it is with a line
+-- so a line that is skipped has none
 pub other_code : (line : List ℕ) → read_month line ≡ Ok None → false ≡ has_element line
-other_code line is = sym (none_read (nat_lt (length line) 21) (element_of (columns 18 21 line)) line is)
+other_code line is = sym (code_read (nat_lt (length line) 21) (element_of (columns 18 21 line)) line None is)
 
--- and with a line of a month
+-- and a line of a month has one
 pub element_code : (line : List ℕ) (m : Month) → read_month line ≡ Ok (Some m) → true ≡ has_element line
-element_code line m is = sym (some_read (nat_lt (length line) 21) (element_of (columns 18 21 line)) line m is)
+element_code line m is = sym (code_read (nat_lt (length line) 21) (element_of (columns 18 21 line)) line (Some m) is)
 
 -- ---- lines after
 
@@ -165,5 +139,13 @@ pub refused_among : (stations : List Station) (ls more : List FileLine) (f : Dat
     → IsLineRefusal stations (ls ++ more) f
 refused_among stations ls more (Memory m) is = tt
 refused_among stations ls more TooManyFiles is = absurd is
-refused_among stations ls more (DailyLine file line why)
-    is = (is.0, first_among (daily_fault stations) ls more is.0 (DailyLine file line why) is.1)
+refused_among stations ls more (DailyLine file line why) is = (
+  is.0,
+  record {
+    before = is.1.before;
+    behind = is.1.behind ++ more;
+    place = ap (λ (l : List FileLine). l ++ more) is.1.place ∙ append_assoc is.1.before (is.0 ∷ is.1.behind) more;
+    here = is.1.here;
+    none_before = is.1.none_before;
+  },
+)

@@ -1,12 +1,11 @@
 -- A gathering becomes a series.
-use Rattle.std.proofs.Common.{◌≡◌, ℕ, ◌+◌, Bool, true, false, List, [], ◌∷◌, length, Option, None}
-use Rattle.std.proofs.Common.{Some, refl, sym, ap, ◌∙◌, arith, ℤ}
+use Rattle.std.proofs.Common.{◌≡◌, ℕ, ◌+◌, Bool, true, false, List, [], ◌∷◌, length, None}
+use Rattle.std.proofs.Common.{Some, refl, ap, ◌∙◌, arith, ℤ}
 use Rattle.std.specs.Prelude.{◌==◌, ◌&&◌}
 use Rattle.std.specs.declared.cmp.Ordering.TheVariants.{Less}
 use Rattle.std.specs.Ordering.{int_cmp, int_eq}
 use Rattle.std.specs.List.{filter_map, flat_map, enumerate_from, cons_option, list_all, IsDistinct, AllByRecursion}
 use Rattle.std.specs.List.Sorted.{IsStrictlySortedBy}
-use Rattle.std.specs.Option.{option_map_or}
 use Rattle.std.specs.Map.{keys_of}
 use Rattle.std.proofs.lemmas.Int.{ints}
 use Rattle.std.proofs.lemmas.List.Folds.{list_all-append}
@@ -21,7 +20,7 @@ use Rattle.ghcn_files.specs.declared.station.StationId.{StationId}
 use Rattle.ghcn_files.specs.declared.element.Element.{Element}
 use Rattle.ghcn_files.specs.declared.month.Month.{Month}
 use Rattle.ghcn_files.specs.declared.month.Reading.{Reading}
-use Rattle.ghcn_files.specs.Months.{is_reading, is_readable, IsMonth}
+use Rattle.ghcn_files.specs.Months.{is_reading, IsMonth}
 use Rattle.ghcn_series.specs.declared.gathering.Gathering.{Gathering}
 use Rattle.ghcn_series.specs.Series.{DayValue, IsSeries, by_day, is_by_day, is_value}
 use Rattle.ghcn_series.specs.Gathered.{usable_day, usable_days, kept_days, same_time, gathered_days}
@@ -41,17 +40,13 @@ is_day-numbered y m d n e =
     let has = has_number y m d n e in
     ap is_day has.1 ∙ is_day-from_civil y m d (civil_of y m d has.0) has.0.year.0
 
--- a readable value is in its range
-readable_from : (o : Option ℤ) (v : ℤ) → option_map_or is_readable o true ≡ true → o ≡ Some v → is_readable v ≡ true
-readable_from o v r e = rw e at r
-
 -- a usable day is right
 right_day : (m : Month) (j : ℕ) (r : Reading) (d : DayValue) → is_reading r ≡ true → usable_day m (j, r) ≡ Some d
     → IsDayOf m.element d ≡ true
 right_day m j r d reads is =
     let parts = parts_of m r.flagged (day_number m.year m.month j) r.value d is in
     and_from _ _ (is_day-numbered m.year m.month j d.0 parts.0)
-    (and_from _ _ (readable_from r.value d.1 reads parts.1) parts.2)
+    (and_from _ _ (rw parts.1 at reads) parts.2)
 
 -- so are those of all readings
 right_days : (m : Month) (j : ℕ) (rs : List Reading) → list_all is_reading rs ≡ true
@@ -62,9 +57,7 @@ right_days m j (r ∷ rs) all =
     elim (usable_day m (j, r)) as (λ o. usable_day m (j, r) ≡ o
     → list_all (IsDayOf m.element) (cons_option o (filter_map (usable_day m) (enumerate_from (j + 1) rs))) ≡ true) [
       | None ↦ λ is. right_days m (j + 1) rs both.1
-      | Some d ↦ λ is. and_from (IsDayOf m.element d)
-          (list_all (IsDayOf m.element) (filter_map (usable_day m) (enumerate_from (j + 1) rs)))
-          (right_day m j r d both.0 is) (right_days m (j + 1) rs both.1)
+      | Some d ↦ λ is. and_from _ _ (right_day m j r d both.0 is) (right_days m (j + 1) rs both.1)
     ] refl
 
 -- and those of all months
@@ -72,11 +65,8 @@ pub all_right : (e : Element) (ms : List Month) → AllByRecursion (λ m. IsMont
     → list_all (IsDayOf e) (flat_map usable_days ms) ≡ true
 all_right e [] all = refl
 all_right e (m ∷ ms) all =
-    let here : list_all (IsDayOf e) (usable_days m) ≡ true = ap (λ (f : Element). list_all (IsDayOf f) (usable_days m))
-    (sym all.0.1) ∙ right_days m 1 m.days all.0.0.values in
-    list_all-append (IsDayOf e) (usable_days m) (flat_map usable_days ms)
-    ∙ and_from (list_all (IsDayOf e) (usable_days m)) (list_all (IsDayOf e) (flat_map usable_days ms)) here
-    (all_right e ms all.1)
+    let here : list_all (IsDayOf e) (usable_days m) ≡ true = rw (← all.0.1) (right_days m 1 m.days all.0.0.values) in
+    list_all-append (IsDayOf e) (usable_days m) (flat_map usable_days ms) ∙ and_from _ _ here (all_right e ms all.1)
 
 -- right days in order are right
 pub sorted_right : (P : DayValue → Bool) (xs : List DayValue) → list_all P xs ≡ true → list_all P (sorted_by by_day xs)
@@ -122,13 +112,11 @@ pub is_series : (id : StationId) (g : Gathering) (days : List DayValue) → IsRe
     ≡ false → days ≡ sorted_by by_day (gathered_days g)
     → IsSeries (record { id = id; element = g.element; days = days })
 is_series id g days ready some sorted =
-    let apart : IsDistinct int_eq (keys_of (gathered_days g)) = apart-distinct _ ready.holds.parts.apart in
-    let held = kept_days ready.kept ready.months in
-    let all : list_all (IsDayOf g.element) held ≡ true = kept_right ready.kept g.element ready.months ready.right in
     rw sorted (record {
       nonempty = omega (arith, length-sorted (gathered_days g), eqb-false (length (gathered_days g)) 0 some);
-      by_day = rises (sorted_by by_day (gathered_days g)) (sorted_by-rises (gathered_days g) apart);
-      values =
-          ap (list_all (IsDayOf g.element)) (gathered-sorted ready.kept g ready.months ready.holds)
-          ∙ sorted_right (IsDayOf g.element) held all;
+      by_day = rises (sorted_by by_day (gathered_days g))
+          (sorted_by-rises (gathered_days g) (apart-distinct _ ready.holds.parts.apart));
+      values = rw (gathered-sorted ready.kept g ready.months ready.holds)
+          (sorted_right (IsDayOf g.element) (kept_days ready.kept ready.months)
+          (kept_right ready.kept g.element ready.months ready.right));
     })

@@ -1,6 +1,6 @@
 -- Days of blocks in order rise, and rising days are determined by their values alone.
-use Rattle.std.proofs.Common.{◌≡◌, ℕ, zero, suc, ◌+◌, ◌<◌, Bool, true, false, List, [], ◌∷◌, ◌++◌, length, get_or}
-use Rattle.std.proofs.Common.{Some, None, refl, sym, ap, subst, ◌∙◌, arith, ℤ, pos, ◌+ℤ◌, ◌<ℤ◌, ◌≤ℤ◌}
+use Rattle.std.proofs.Common.{◌≡◌, ℕ, zero, suc, ◌+◌, ◌<◌, Bool, true, false, List, [], ◌∷◌, ◌++◌, length, get_or, Some}
+use Rattle.std.proofs.Common.{None, refl, sym, ap, subst, ◌∙◌, arith, ℤ, pos, ◌+ℤ◌, ◌<ℤ◌, ◌≤ℤ◌, inl, inr}
 use Rattle.std.specs.Prelude.{◌==◌}
 use Rattle.std.specs.Int.{bit_at}
 use Rattle.std.specs.List.{cons_option, filter_map, range_with_len, AllByRecursion}
@@ -8,7 +8,7 @@ use Rattle.std.specs.List.Sorted.{IsStrictlySortedBy}
 use Rattle.std.specs.Map.{keys_of}
 use Rattle.std.specs.declared.cmp.Ordering.TheVariants.{Less}
 use Rattle.std.specs.Ordering.{int_cmp}
-use Rattle.std.proofs.Common.{inl, inr}
+use Rattle.std.proofs.lemmas.Cmp.{int_ranked}
 use Rattle.std.proofs.lemmas.Int.{ints, by_lt_z}
 use Rattle.std.proofs.lemmas.Option.{none-some, same_Some}
 use Rattle.ghcn_series.proofs.ListFacts.{each-weaker, each-append}
@@ -18,22 +18,8 @@ use Rattle.ghcn_series.specs.Series.{DayValue, value_on}
 use Rattle.ghcn_series.specs.Packed.{Block, block_start, if_so, day_at, block_days, days_from, days_of_blocks, blocks_of}
 use Rattle.ghcn_series.specs.Packed.{AreRising, AreColumns}
 use Rattle.ghcn_series.proofs.Lookups.{no_block, int_eq-no, int_eq-yes, block-holds, blocks-at, blocks-length}
+use Rattle.ghcn_series.proofs.PartDays.{each-place}
 use Rattle.ghcn_series.proofs.Nexts.{AreOf, block-own}
-
--- days of places from s on are later than one before s
-cons-later : (d : ℤ) (t : Bool) (x : DayValue) (xs : List DayValue) → d <ℤ x.0 → AllByRecursion (λ y. d <ℤ y.0) xs
-    → AllByRecursion (λ y. d <ℤ y.0) (cons_option (if_so t x) xs)
-cons-later d true x xs lt all = (lt, all)
-cons-later d false x xs lt all = all
-
--- days at later places are later
-places-later : (b : Block) (k s n : ℕ) → k < s → AllByRecursion (λ y. (block_start b.0 +ℤ pos k) <ℤ y.0)
-    (filter_map (day_at b) (range_with_len s n))
-places-later b k s zero lt = tt
-places-later b k s (suc n) lt =
-    cons-later (block_start b.0 +ℤ pos k) (bit_at b.1.0 s == 1) (block_start b.0 +ℤ pos s, get_or b.1.1 s (pos 0))
-    (filter_map (day_at b) (range_with_len (s + 1) n))
-    (omega (arith, ints)) (places-later b k (s + 1) n (omega arith))
 
 -- a day before rising ones leaves them rising
 cons-rising : (t : Bool) (x : DayValue) (xs : List DayValue) → AllByRecursion (λ y. x.0 <ℤ y.0) xs → AreRising xs
@@ -47,19 +33,14 @@ places-rise b s zero = tt
 places-rise b s (suc n) =
     cons-rising (bit_at b.1.0 s == 1) (block_start b.0 +ℤ pos s, get_or b.1.1 s (pos 0))
     (filter_map (day_at b) (range_with_len (s + 1) n))
-    (places-later b s (s + 1) n (omega arith)) (places-rise b (s + 1) n)
+    (each-place (λ (d : ℤ). (block_start b.0 +ℤ pos s) <ℤ d) b.0 b.1.1 b.1.0 (s + 1) n
+    (λ j more lt set. omega (arith, ints, more)))
+    (places-rise b (s + 1) n)
 
 -- the days of a block rise
 pub block-rises : (b : Block) → AreRising (block_days b)
 unfolding days_from
 block-rises b = places-rise b 0 32
-
--- days of a later block are later
-later_block : (a b : ℤ) → block_of a <ℤ block_of b → a <ℤ b
-later_block a b lt =
-    let of_a = block-holds a in
-    let of_b = block-holds b in
-    omega (arith, ints, of_a.0, of_a.1, of_b.0, of_b.1)
 
 -- days of a block and rising ones of later blocks rise
 rising-append : (n : ℤ) (xs ys : List DayValue) → AreOf n xs → AllByRecursion (λ y. n <ℤ block_of y.0) ys → AreRising xs
@@ -68,7 +49,7 @@ rising-append n [] ys own later a b = b
 rising-append n (x ∷ xs) ys own later a b = (
   each-append (λ (y : DayValue). x.0 <ℤ y.0) xs ys a.0
       (each-weaker (λ (y : DayValue). n <ℤ block_of y.0) (λ (y : DayValue). x.0 <ℤ y.0) ys
-      (λ y lt. later_block x.0 y.0 (subst (λ (z : ℤ). z <ℤ block_of y.0) (sym own.0) lt)) later),
+      (λ y lt. omega (arith, ints, block-holds x.0, block-holds y.0, own.0, lt)) later),
   rising-append n xs ys own.1 later a.1 b,
 )
 
@@ -104,15 +85,11 @@ columns-rise ns ws vs cols = blocks-rise (blocks_of ns ws vs) (λ i j lt in_rang
 
 -- ---- days whose numbers are in order
 
--- a number that compares as less is less
-cmp_less : (a b : ℤ) → int_cmp a b ≡ Less → a <ℤ b
-cmp_less a b e = grind (arith, ints)
-
 -- days whose keys are greater are later
 keys-later : (d : ℤ) (xs : List DayValue) → AllByRecursion (λ k. int_cmp d k ≡ Less) (keys_of xs)
     → AllByRecursion (λ y. d <ℤ y.0) xs
 keys-later d [] all = tt
-keys-later d (x ∷ xs) all = (cmp_less d x.0 all.0, keys-later d xs all.1)
+keys-later d (x ∷ xs) all = (int_ranked d x.0 Less (sym all.0), keys-later d xs all.1)
 
 -- days whose keys are in order rise
 pub keys-rise : (xs : List DayValue) → IsStrictlySortedBy int_cmp (keys_of xs) → AreRising xs
@@ -131,27 +108,28 @@ pub front : (x : DayValue) (xs : List DayValue) → value_on (x ∷ xs) x.0 ≡ 
 front x xs = rw (int_eq-yes x.0 x.0 refl)
 
 -- a day before all has no value
-before_all : (xs : List DayValue) (d : ℤ) → AllByRecursion (λ y. d <ℤ y.0) xs → value_on xs d ≡ None
+pub before_all : (xs : List DayValue) (d : ℤ) → AllByRecursion (λ y. d <ℤ y.0) xs → value_on xs d ≡ None
 before_all [] d all = refl
 before_all (x ∷ xs) d all = behind x xs d (λ e. let lt = all.0 in omega (arith, ints, e)) ∙ before_all xs d all.1
-
--- days after a day are after any earlier one
-earlier_all : (a b : ℤ) (xs : List DayValue) → a <ℤ b → AllByRecursion (λ y. b <ℤ y.0) xs
-    → AllByRecursion (λ y. a <ℤ y.0) xs
-earlier_all a b xs lt all = each-weaker (λ (y : DayValue). b <ℤ y.0) (λ (y : DayValue). a <ℤ y.0) xs
-    (λ y more. omega (arith, ints)) all
 
 -- days after the same first day have the same values
 rest_same : (x y : DayValue) (xs ys : List DayValue) → x.0 ≡ y.0 → AllByRecursion (λ z. x.0 <ℤ z.0) xs
     → AllByRecursion (λ z. y.0 <ℤ z.0) ys
     → ((d : ℤ) → value_on (x ∷ xs) d ≡ value_on (y ∷ ys) d) → (d : ℤ) → value_on xs d ≡ value_on ys d
 rest_same x y xs ys day a b same d = elim (same_block x.0 d) [
-  | inl here ↦
-      subst (λ (z : ℤ). value_on xs z ≡ value_on ys z) here
-      (before_all xs x.0 a ∙ sym (subst (λ (z : ℤ). value_on ys z ≡ None) (sym day) (before_all ys y.0 b)))
-  | inr other ↦
-      sym (behind x xs d other) ∙ same d ∙ behind y ys d (λ e. other (day ∙ e))
+  | inl here ↦ before_all xs d (rw here at a) ∙ sym (before_all ys d (rw (sym day ∙ here) at b))
+  | inr other ↦ sym (behind x xs d other) ∙ same d ∙ behind y ys d (λ e. other (day ∙ e))
 ]
+
+-- of two lists with the same values, of which one rises, the other doesn't begin before it
+first_same : (x y : DayValue) (xs ys : List DayValue) → AllByRecursion (λ z. y.0 <ℤ z.0) ys
+    → value_on (x ∷ xs) x.0 ≡ value_on (y ∷ ys) x.0 → y.0 ≤ℤ x.0
+first_same x y xs ys later same = by_lt_z x.0 y.0
+    (λ (lt : x.0 <ℤ y.0).
+    let all = each-weaker (λ (z : DayValue). y.0 <ℤ z.0) (λ (z : DayValue). x.0 <ℤ z.0) ys
+    (λ z more. omega (arith, ints, lt, more)) later in
+    absurd (none-some x.1 (sym (before_all (y ∷ ys) x.0 (lt, all)) ∙ sym same ∙ front x xs)))
+    (λ (ge : y.0 ≤ℤ x.0). ge)
 
 -- two lists of rising days with the same values are one
 pub same-from_values : (xs ys : List DayValue) → AreRising xs → AreRising ys → ((d : ℤ) → value_on xs d ≡ value_on ys d)
@@ -159,14 +137,10 @@ pub same-from_values : (xs ys : List DayValue) → AreRising xs → AreRising ys
 same-from_values [] [] a b same = refl
 same-from_values [] (y ∷ ys) a b same = absurd (none-some y.1 (same y.0 ∙ front y ys))
 same-from_values (x ∷ xs) [] a b same = absurd (none-some x.1 (sym (same x.0) ∙ front x xs))
-same-from_values (x ∷ xs) (y ∷ ys) a b same = by_lt_z x.0 y.0
-    (λ (lt : x.0 <ℤ y.0). absurd (none-some x.1 (sym (before_all (y ∷ ys) x.0 (lt, earlier_all x.0 y.0 ys lt b.0))
-    ∙ sym (same x.0) ∙ front x xs)))
-    (λ (ge : y.0 ≤ℤ x.0). by_lt_z y.0 x.0
-    (λ (lt : y.0 <ℤ x.0). absurd (none-some y.1 (sym (before_all (x ∷ xs) y.0 (lt, earlier_all y.0 x.0 xs lt a.0))
-    ∙ same y.0 ∙ front y ys)))
-    (λ (le : x.0 ≤ℤ y.0).
+same-from_values (x ∷ xs) (y ∷ ys) a b same =
+    let ge = first_same x y xs ys b.0 (same x.0) in
+    let le = first_same y x ys xs a.0 (sym (same y.0)) in
     let day : x.0 ≡ y.0 = omega (arith, ints, ge, le) in
     let value : x.1 ≡ y.1 = same_Some x.1 y.1 (sym (front x xs) ∙ same x.0 ∙ ap (value_on (y ∷ ys)) day ∙ front y ys) in
     let rest : xs ≡ ys = same-from_values xs ys a.1 b.1 (rest_same x y xs ys day a.0 b.0 same) in
-    ap (λ (d : ℤ). (d, x.1) ∷ xs) day ∙ ap (λ (v : ℤ). (y.0, v) ∷ xs) value ∙ ap (λ (l : List DayValue). y ∷ l) rest))
+    ap (λ (d : ℤ). (d, x.1) ∷ xs) day ∙ ap (λ (v : ℤ). (y.0, v) ∷ xs) value ∙ ap (λ (l : List DayValue). y ∷ l) rest

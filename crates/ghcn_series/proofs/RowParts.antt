@@ -1,30 +1,34 @@
 -- A row in two parts of blocks.
-use Rattle.std.proofs.Common.{◌≡◌, ℕ, zero, suc, ◌+◌, ◌-◌, ◌*◌, ◌/◌, ◌%◌, ◌<◌, ◌≤◌, ◌^◌, List, [], ◌∷◌, ◌++◌, length}
-use Rattle.std.proofs.Common.{take, drop, get_or}
-use Rattle.std.proofs.Common.{Option, Some, None, IsSome, inl, inr}
-use Rattle.std.proofs.Common.{refl, sym, ap, subst, ◌∙◌, arith, true, ℤ, pos, ◌+ℤ◌}
+use Rattle.std.proofs.Common.{◌≡◌, ℕ, zero, suc, ◌+◌, ◌-◌, ◌*◌, ◌/◌, ◌%◌, ◌<◌, ◌≤◌, ◌^◌, List, ◌++◌, length, take}
+use Rattle.std.proofs.Common.{drop, get_or, add-zero, replicate, Option, Some, None, IsSome, inl, inr, refl, sym, ap}
+use Rattle.std.proofs.Common.{subst, ◌∙◌, arith, true, ℤ, pos, ◌+ℤ◌}
 use Rattle.std.specs.Int.{bit_at}
-use Rattle.std.specs.List.{list_all}
 use Rattle.std.specs.Option.{option_or}
-use Rattle.std.specs.Ordering.{int_eq}
-use Rattle.std.proofs.Math.Nat.{div-add-mod, mul_comm}
-use Rattle.std.proofs.lemmas.Bool.{cases_lt, and_parts, false≢true}
-use Rattle.std.proofs.lemmas.Bool.Decides.{Decides-int_eq}
+use Rattle.std.proofs.lemmas.Bool.{cases_lt, false≢true}
 use Rattle.std.proofs.lemmas.Grind.{common_steps}
 use Rattle.std.proofs.lemmas.Int.{ints}
 use Rattle.std.proofs.lemmas.List.{get_or-take, get_or-drop, get_or_append_left, get_or-append_right}
-use Rattle.std.proofs.lemmas.Nat.Bits.{bit_at_cat_low, bit_at_cat_high, bit_at-zero, bit_at_above}
+use Rattle.std.proofs.lemmas.Nat.{shl-shr, shr_split}
+use Rattle.std.proofs.lemmas.Nat.Bits.{bit_at_cat_low, bit_at-zero, bit_at_above}
 use Rattle.ghcn_fields.specs.Days.{is_day, block_of}
 use Rattle.ghcn_series.specs.Series.{DayValue, value_on}
 use Rattle.ghcn_series.specs.Packed.{Block, block_start, value_at, days_from, block_days, IsPacked}
-use Rattle.ghcn_series.specs.Parts.{AreNew, AreJoined, day_of, row_days, IsRow, IsValueFrom, HasBitsOf}
+use Rattle.ghcn_series.specs.Parts.{AreNew, AreJoined, IsRow, IsValueFrom, HasBitsOf}
 use Rattle.ghcn_series.proofs.Lookups.{from-value, from-other, block-value, block-other, block-holds, or_none, at_day}
 use Rattle.ghcn_series.proofs.JoinedDays.{same_block, or_assoc}
+use Rattle.ghcn_series.proofs.FirstDays.{shifted-bit}
 
 -- a first choice that is there is chosen
 some_either : (a b : Option ℤ) → IsSome a → IsSome (option_or a b)
 some_either None b some = absurd cc
 some_either (Some x) b some = some
+
+-- a day that a block has lies in it
+pub own-block : (b : Block) (d : ℤ) → IsSome (value_on (block_days b) d) → b.0 ≡ block_of d
+own-block b d some = elim (same_block b.0 (block_of d)) [
+  | inl here ↦ here
+  | inr other ↦ absurd (false≢true (subst IsSome (block-other b d other) some))
+]
 
 -- the values that a row has in the block that many places after the one in which it begins
 abbrev pub IsPartOf : List ℤ → ℕ → ℕ → List ℤ → Type 0
@@ -87,69 +91,34 @@ module _ (first : ℤ) (place w : ℕ) (vs : List ℤ) (offset : ℕ) (b : Block
       at_day Same d (subst (λ (n : ℤ). (j : ℕ) → j < 32 → Same (block_start n +ℤ pos j)) is
       (λ j lt. part-value j lt ∙ sym (block-value b j lt)))
 
--- a row in the block in which it begins, and in the next one
-pub record IsSplit (n : ℤ) (place w : ℕ) (vs : List ℤ) (one two : Block) : Type 0 where
-  pub row : IsRow (day_of n place) w vs
-  pub below : place < 32
-  pub here : one.0 ≡ n
-  pub next : two.0 ≡ n +ℤ pos 1
-  pub low : HasBitsOf w place 0 one.1.0
-  pub high : HasBitsOf w place 32 two.1.0
-  pub first : IsPartOf vs place 0 one.1.1
-  pub second : IsPartOf vs place 32 two.1.1
-
-module _ (n : ℤ) (place w : ℕ) (vs : List ℤ) (one two : Block) (s : IsSplit n place w vs one two) where
+module _ (first : ℤ) (place w : ℕ) (vs : List ℤ) (one two : Block) (p : IsPart first place w vs 0 one)
+    (q : IsPart first place w vs 32 two) where
   -- the days of the row
   abbrev days : List DayValue
-  days = row_days n place w vs
-
-  -- the first part is the row's part of its first block
-  is_one : IsPart (day_of n place) place w vs 0 one
-  is_one = record { row = s.row; below = s.below; starts = omega (arith, ints, s.here); bits = s.low; values = s.first }
-
-  -- the second part is that of the next one
-  is_two : IsPart (day_of n place) place w vs 32 two
-  is_two = record {
-    row = s.row;
-    below = s.below;
-    starts = omega (arith, ints, s.next);
-    bits = s.high;
-    values = s.second;
-  }
+  days = days_from first w vs
 
   -- no day is in both blocks
   differ : (d : ℤ) → one.0 ≡ block_of d → two.0 ≡ block_of d → ⊥
-  differ d a b = omega (arith, ints, s.here, s.next, a, b)
+  differ d a b = omega (arith, ints, p.starts, q.starts, a, b)
 
   -- a day of neither block isn't in the row
   in_neither : (d : ℤ) → (one.0 ≡ block_of d → ⊥) → (two.0 ≡ block_of d → ⊥) → value_on days d ≡ None
-  in_neither d a b = from-other (day_of n place) w vs d (λ j lt e.
-      let holds = block-holds d in
-      let below = s.below in
-      elim (cases_lt (place + j) 32) [
-        | inl first ↦ a (s.here ∙ omega (arith, ints, holds.0, holds.1))
-        | inr second ↦ b (s.next ∙ omega (arith, ints, holds.0, holds.1))
-      ])
+  in_neither d a b = from-other first w vs d (λ j lt e. elim (cases_lt (place + j) 32) [
+    | inl below ↦ a (omega (arith, ints, block-holds d, p.starts))
+    | inr above ↦ let less = p.below in b (omega (arith, ints, block-holds d, q.starts))
+  ])
 
   -- the two parts have the row's days
   row-split : (d : ℤ) → value_on days d ≡ option_or (value_on (block_days one) d) (value_on (block_days two) d)
   row-split d = elim (same_block one.0 (block_of d)) [
     | inl here ↦
         rw (block-other two d (differ d here), or_none (value_on (block_days one) d))
-        (in_part (day_of n place) place w vs 0 one is_one d here)
+        (in_part first place w vs 0 one p d here)
     | inr other ↦ rw (block-other one d other) (elim (same_block two.0 (block_of d)) [
-      | inl there ↦ in_part (day_of n place) place w vs 32 two is_two d there
+      | inl there ↦ in_part first place w vs 32 two q d there
       | inr none ↦ rw (block-other two d none) (in_neither d other none)
     ])
   ]
-
-  -- both parts are as they may be
-  pub packed-one : one.1.0 < 2 ^ 32 → 0 < one.1.0 → IsPacked one
-  packed-one = part-packed (day_of n place) place w vs 0 one is_one
-
-  -- the second part is as it may be
-  pub packed-two : two.1.0 < 2 ^ 32 → 0 < two.1.0 → IsPacked two
-  packed-two = part-packed (day_of n place) place w vs 32 two is_two
 
   module _ (old : List DayValue) (fresh : AreNew old days) where
     -- if the row is new, its first part is
@@ -160,13 +129,10 @@ module _ (n : ℤ) (place w : ℕ) (vs : List ℤ) (one two : Block) (s : IsSpli
 
     -- and its second part is, after the first
     pub new-two : (mid : List DayValue) → AreJoined old (block_days one) mid → AreNew mid (block_days two)
-    new-two mid joined d some = elim (same_block two.0 (block_of d)) [
-      | inl there ↦
-          let in_row : IsSome (value_on days d) =
-          subst IsSome (sym (in_part (day_of n place) place w vs 32 two is_two d there)) some in
-          rw (joined d, fresh d in_row) (block-other one d (λ here. differ d here there))
-      | inr other ↦ absurd (false≢true (subst IsSome (block-other two d other) some))
-    ]
+    new-two mid joined d some =
+        let there = own-block two d some in
+        let in_row : IsSome (value_on days d) = subst IsSome (sym (in_part first place w vs 32 two q d there)) some in
+        rw (joined d, fresh d in_row) (block-other one d (λ here. differ d here there))
 
     -- both parts joined one after the other are the row joined
     pub joined-both : (mid new : List DayValue) → AreJoined old (block_days one) mid
@@ -181,63 +147,44 @@ module _ (n : ℤ) (place w : ℕ) (vs : List ℤ) (one two : Block) (s : IsSpli
 -- bits below a place are those of the whole
 bit-low : (x j : ℕ) → j < 32 → bit_at (x % 2 ^ 32) j ≡ bit_at x j
 bit-low x j lt =
-    let whole : x / 2 ^ 32 * 2 ^ 32 + x % 2 ^ 32 ≡ x = omega arith in
-    sym (bit_at_cat_low (x / 2 ^ 32) 32 (x % 2 ^ 32) j lt) ∙ ap (λ (n : ℕ). bit_at n j) whole
+    sym (bit_at_cat_low (x / 2 ^ 32) 32 (x % 2 ^ 32) j lt) ∙ ap (λ (n : ℕ). bit_at n j) (shr_split x 32)
 
 -- a word that is moved up has no bits below the place
 bit-below : (w k i : ℕ) → i < k → bit_at (w * 2 ^ k) i ≡ 0
-bit-below w k i lt =
-    let same : w * 2 ^ k + 0 ≡ w * 2 ^ k = omega arith in
-    ap (λ (n : ℕ). bit_at n i) (sym same) ∙ bit_at_cat_low w k 0 i lt ∙ bit_at-zero i
+bit-below w k i lt = (rw (add-zero (w * 2 ^ k)) at (bit_at_cat_low w k 0 i lt)) ∙ bit_at-zero i
 
 -- and its own from there on
-bit-moved_up : (w k i : ℕ) → 0 < 2 ^ k → k ≤ i → bit_at (w * 2 ^ k) i ≡ bit_at w (i - k)
-bit-moved_up w k i some le =
-    let same : w * 2 ^ k + 0 ≡ w * 2 ^ k = omega arith in
-    ap (λ (n : ℕ). bit_at n i) (sym same) ∙ bit_at_cat_high w k 0 i some le
+bit-moved_up : (w k i : ℕ) → bit_at (w * 2 ^ k) (k + i) ≡ bit_at w i
+bit-moved_up w k i = sym (shifted-bit (w * 2 ^ k) k i) ∙ ap (λ (n : ℕ). bit_at n i) (shl-shr w k)
 
 -- a word shifted up has the row's bits in its first block
-pub low-bits : (w place : ℕ) → w < 2 ^ 32 → 0 < 2 ^ place → place < 32 → HasBitsOf w place 0 (w * 2 ^ place % 2 ^ 32)
-low-bits w place fits some below j lt = record {
+pub low-bits : (w place : ℕ) → place < 32 → HasBitsOf w place 0 (w * 2 ^ place % 2 ^ 32)
+low-bits w place below j lt = record {
   before = λ h. bit-low (w * 2 ^ place) j lt ∙ bit-below w place j (omega arith);
   behind = λ h. absurd (omega arith);
-  within = λ k less is. bit-low (w * 2 ^ place) j lt ∙ bit-moved_up w place j some (omega arith)
-      ∙ ap (bit_at w) (omega arith);
+  within = λ k less is.
+      let here : j ≡ place + k = omega arith in
+      bit-low (w * 2 ^ place) j lt ∙ ap (bit_at (w * 2 ^ place)) here ∙ bit-moved_up w place k;
 }
 
--- a word that is moved down has its upper bits
-bit-moved_down : (w a j : ℕ) → 0 < 2 ^ a → bit_at (w / 2 ^ a) j ≡ bit_at w (j + a)
-bit-moved_down w a j some =
-    let whole : w / 2 ^ a * 2 ^ a + w % 2 ^ a ≡ w =
-    ap (λ (x : ℕ). x + w % 2 ^ a) (mul_comm (w / 2 ^ a) (2 ^ a)) ∙ div-add-mod w (2 ^ a) in
-    let rest : w % 2 ^ a < 2 ^ a = below w (2 ^ a) some in
-    sym (sym (ap (λ (n : ℕ). bit_at n (j + a)) whole)
-    ∙ bit_at_cat_high (w / 2 ^ a) a (w % 2 ^ a) (j + a) rest (omega arith)
-    ∙ ap (bit_at (w / 2 ^ a)) (omega arith))
-  where
-    below : (w d : ℕ) → 0 < d → w % d < d
-    below w d some = omega arith
-
 -- a word shifted down has those of the next one
-pub high-bits : (w place : ℕ) → w < 2 ^ 32 → 0 < 2 ^ (31 - place) → place < 32
-    → HasBitsOf w place 32 (w / 2 ^ 1 / 2 ^ (31 - place))
-high-bits w place fits some below j lt =
-    let at : bit_at (w / 2 ^ 1 / 2 ^ (31 - place)) j ≡ bit_at w (j + (31 - place) + 1) =
-    bit-moved_down (w / 2 ^ 1) (31 - place) j some ∙ bit-moved_down w 1 (j + (31 - place)) (omega arith) in
+pub high-bits : (w place : ℕ) → w < 2 ^ 32 → place < 32 → HasBitsOf w place 32 (w / 2 ^ 1 / 2 ^ (31 - place))
+high-bits w place fits below j lt =
+    let at : bit_at (w / 2 ^ 1 / 2 ^ (31 - place)) j ≡ bit_at w (1 + (31 - place + j)) =
+    shifted-bit (w / 2 ^ 1) (31 - place) j ∙ shifted-bit w 1 (31 - place + j) in
     record {
       before = λ h. absurd (omega arith);
-      behind = λ h. at ∙ bit_at_above w 32 (j + (31 - place) + 1) fits (omega arith);
+      behind = λ h. at ∙ bit_at_above w 32 (1 + (31 - place + j)) fits (omega arith);
       within = λ k less is. at ∙ ap (bit_at w) (omega arith);
     }
 
 -- ---- the values of both parts
 
 -- a row of zeros has 0 everywhere
-pub zero_at : (zs : List ℤ) → list_all (int_eq (pos 0)) zs ≡ true → (j : ℕ) → get_or zs j (pos 0) ≡ pos 0
-zero_at [] all j = refl
-zero_at (z ∷ zs) all zero = sym ((Decides-int_eq (pos 0) z).0
-    (and_parts (int_eq (pos 0) z) (list_all (int_eq (pos 0)) zs) all).0)
-zero_at (z ∷ zs) all (suc j) = zero_at zs (and_parts (int_eq (pos 0) z) (list_all (int_eq (pos 0)) zs) all).1 j
+pub zero_at : (n j : ℕ) → get_or (replicate n (pos 0)) j (pos 0) ≡ pos 0
+zero_at zero j = refl
+zero_at (suc n) zero = refl
+zero_at (suc n) (suc j) = zero_at n j
 
 -- a row between zeros is at its place
 pub placed-row : (vs zs ys rest : List ℤ) (place : ℕ) → place < 32 → length vs ≡ 32 → length zs ≡ 64 → ys ≡ vs
@@ -267,16 +214,11 @@ placed-row vs zs ys rest place below whole long is none more-none at =
 pub first-part : (vs both xs : List ℤ) (place : ℕ) → xs ≡ take 32 both
     → ((at : ℕ) → at < 64 → IsValueFrom vs place at (get_or both at (pos 0))) → IsPartOf vs place 0 xs
 first-part vs both xs place is stands j lt =
-    let at : get_or both (j + 0) (pos 0) ≡ get_or xs j (pos 0) =
-    ap (λ (i : ℕ). get_or both i (pos 0)) (omega arith) ∙ sym (get_or-take 32 both j (pos 0) lt)
-    ∙ sym (ap (λ (l : List ℤ). get_or l j (pos 0)) is) in
-    subst (IsValueFrom vs place (j + 0)) at (stands (j + 0) (omega arith))
+    rw (is, get_or-take 32 both j (pos 0) lt, add-zero j) (stands j (omega arith))
 
 -- and so has the second
 pub second-part : (vs both xs : List ℤ) (place : ℕ) → xs ≡ drop 32 both
     → ((at : ℕ) → at < 64 → IsValueFrom vs place at (get_or both at (pos 0))) → IsPartOf vs place 32 xs
 second-part vs both xs place is stands j lt =
-    let at : get_or both (j + 32) (pos 0) ≡ get_or xs j (pos 0) =
-    ap (λ (i : ℕ). get_or both i (pos 0)) (omega arith) ∙ sym (get_or-drop 32 both j (pos 0))
-    ∙ sym (ap (λ (l : List ℤ). get_or l j (pos 0)) is) in
-    subst (IsValueFrom vs place (j + 32)) at (stands (j + 32) (omega arith))
+    let same : 32 + j ≡ j + 32 = omega arith in
+    rw (is, get_or-drop 32 both j (pos 0), same) (stands (j + 32) (omega arith))

@@ -1,27 +1,24 @@
 -- Days of a block in a row, and those whose values pass a test.
 use Rattle.std.proofs.Common.{◌≡◌, ◌≢◌, ℕ, zero, suc, ◌+◌, ◌-◌, ◌*◌, ◌/◌, ◌%◌, ◌<◌, ◌≤◌, ◌^◌, Bool, true, false, List, []}
 use Rattle.std.proofs.Common.{◌∷◌, length, get_or, inl, inr, refl, sym, ap, ◌∙◌, arith, ℤ, pos, ◌+ℤ◌, ◌<ℤ◌, w32}
-use Rattle.std.proofs.Common.{min, subst, below_more, zero-add, ap₂}
+use Rattle.std.proofs.Common.{min, max, below_more, add-zero, zero-add, ap₂}
 use Rattle.std.specs.Prelude.{◌==◌, ◌&&◌, bit_and, bit_or, filter, int_le, int_lt}
 use Rattle.std.specs.Int.{bit_at, from_bool, trailing_zeros, trailing_ones}
 use Rattle.std.specs.List.{filter_map, range_with_len, cons_option}
 use Rattle.std.proofs.lemmas.Bool.{cases_lt, cases_Bool}
 use Rattle.std.proofs.lemmas.Bool.Decides.{nat_tests}
 use Rattle.std.proofs.lemmas.Int.{ints}
-use Rattle.std.proofs.lemmas.Nat.{pow_pos}
-use Rattle.std.proofs.Math.Nat.{pow-succ'}
+use Rattle.std.proofs.Math.Nat.{pow-succ', div-le_self}
 use Rattle.std.proofs.lemmas.Nat.Bits.{bit_at_and, bit_at-lt, bit_at_not, bit_at_above, bit_at-trailing_zeros}
-use Rattle.std.proofs.lemmas.Nat.Bits.{bit_at-trailing_ones, bit_at_cat_high, bit_at_ones, bit_at_or, bit_at-zero}
-use Rattle.std.proofs.lemmas.Nat.Bits.{bit_at_lowest, bit_at-suc}
-use Rattle.std.proofs.lemmas.Nat.Bits.{bit_at_set_same, bit_at_set_other}
-use Rattle.std.proofs.Math.Nat.{mod-lt, div-le_self}
+use Rattle.std.proofs.lemmas.Nat.Bits.{bit_at-trailing_ones, bit_at_ones, bit_at_or, bit_at-zero, bit_at_lowest}
+use Rattle.std.proofs.lemmas.Nat.Bits.{bit_at-suc, bit_at_set_same, bit_at_set_other}
 use Rattle.std.specs.Int.RustNames.{count_ones}
 use lib.Count.{ones_step}
 use Rattle.ghcn_series.specs.Series.{DayValue}
 use Rattle.ghcn_series.specs.Packed.{block_start, day_at, if_so, block_days, days_from, ArePlacesOf, EndsRun, AreInARow}
 use Rattle.ghcn_series.specs.Packed.{TakesRun}
-use Rattle.ghcn_series.proofs.FirstDays.{none-set}
-use Rattle.ghcn_series.proofs.PartDays.{both-parts, each-day, first-in, first-out, first-set, later-bit}
+use Rattle.ghcn_series.proofs.FirstDays.{none-set, shifted-bit}
+use Rattle.ghcn_series.proofs.PartDays.{both-parts, each-day, first-in, first-out, later-bit}
 
 -- ---- places of values that pass a test
 
@@ -65,15 +62,13 @@ both-set : (a b : ℕ) → a < 2 → b < 2 → (min a b == 1) ≡ ((a == 1) && (
 both-set a b less_a less_b = grind (arith, nat_tests)
 
 -- a day is kept if it is there and its value passes
-kept-one : (test : ℤ → Bool) (there kept : Bool) (x : DayValue) (xs ys : List DayValue) → kept ≡ (there && test x.1)
-    → ys ≡ filter (λ y. test y.1) xs
-    → cons_option (if_so kept x) ys ≡ filter (λ y. test y.1) (cons_option (if_so there x) xs)
-kept-one test false kept x xs ys is rest = rw is rest
-kept-one test true kept x xs ys is rest =
-    elim (cases_Bool (test x.1)) [
-      | inl e ↦ rw (is, e) (ap (λ (l : List DayValue). x ∷ l) rest)
-      | inr e ↦ rw (is, e) rest
-    ]
+kept-one : (test : ℤ → Bool) (there kept : Bool) (x : DayValue) (xs : List DayValue) → kept ≡ (there && test x.1)
+    → cons_option (if_so kept x) (filter (λ y. test y.1) xs) ≡ filter (λ y. test y.1) (cons_option (if_so there x) xs)
+kept-one test false kept x xs is = rw is
+kept-one test true kept x xs is = elim (cases_Bool (test x.1)) [
+  | inl e ↦ rw (is, e)
+  | inr e ↦ rw (is, e)
+]
 
 -- of the days at some places those are kept whose values pass
 kept-from : (test : ℤ → Bool) (n : ℤ) (vs : List ℤ) (w v s m : ℕ)
@@ -82,13 +77,11 @@ kept-from : (test : ℤ → Bool) (n : ℤ) (vs : List ℤ) (w v s m : ℕ)
     ≡ filter (λ x. test x.1) (filter_map (day_at (n, (w, vs))) (range_with_len s m))
 kept-from test n vs w v s zero are = refl
 kept-from test n vs w v s (suc m) are =
-    kept-one test (bit_at w s == 1) (bit_at (bit_and w v) s == 1) (block_start n +ℤ pos s, get_or vs s (pos 0))
+    rw (kept-from test n vs w v (s + 1) m (λ j more lt. are j (omega arith) (omega arith)))
+    (kept-one test (bit_at w s == 1) (bit_at (bit_and w v) s == 1) (block_start n +ℤ pos s, get_or vs s (pos 0))
     (filter_map (day_at (n, (w, vs))) (range_with_len (s + 1) m))
-    (filter_map (day_at (n, (bit_and w v, vs))) (range_with_len (s + 1) m))
-    (ap (λ (b : ℕ). b == 1) (bit_at_and w v s)
-    ∙ both-set (bit_at w s) (bit_at v s) (bit_at-lt w s) (bit_at-lt v s)
-    ∙ ap (λ (b : Bool). (bit_at w s == 1) && b) (are s (omega arith) (omega arith)))
-    (kept-from test n vs w v (s + 1) m (λ j more lt. are j (omega arith) (omega arith)))
+    (rw (bit_at_and w v s, ← are s (omega arith) (omega arith))
+    (both-set (bit_at w s) (bit_at v s) (bit_at-lt w s) (bit_at-lt v s))))
 
 -- of the days of a block those are kept whose values pass
 pub kept-days : (test : ℤ → Bool) (n : ℤ) (vs : List ℤ) (w v : ℕ) → ArePlacesOf test vs v
@@ -105,90 +98,72 @@ cons-long zero x xs less = sym (zero-add (length xs))
 cons-long (suc zero) x xs less = omega arith
 cons-long (suc (suc b)) x xs less = absurd (omega (arith, less))
 
--- at some places there are as many days as their bits are set
-long-from : (n : ℤ) (vs : List ℤ) (w v s m : ℕ) → ((i : ℕ) → i < m → bit_at w (s + i) ≡ bit_at v i) → v < 2 ^ m
-    → length (filter_map (day_at (n, (w, vs))) (range_with_len s m)) ≡ count_ones v
+-- what each place up to an end adds a bit to is as much as these bits are set
+pub counted-from : (f : ℕ → ℕ → ℕ) (b : ℕ → ℕ) (end : ℕ) → ((s : ℕ) → f s 0 ≡ 0)
+    → ((s m : ℕ) → s + suc m ≡ end → f s (suc m) ≡ b s + f (s + 1) m)
+    → (v s m : ℕ) → s + m ≡ end → ((i : ℕ) → i < m → b (s + i) ≡ bit_at v i) → v < 2 ^ m → f s m ≡ count_ones v
 unfolding count_ones
-long-from n vs w v s zero same fits = let none : v ≡ 0 = omega (arith, fits) in sym (ap count_ones none)
-long-from n vs w v s (suc m) same fits =
-    let first : bit_at w s ≡ v % 2 =
-    let here : s + 0 ≡ s = omega arith in
-    ap (bit_at w) (sym here) ∙ same 0 (omega arith) ∙ bit_at_lowest v in
+counted-from f b end none more v s zero at same fits =
+    let empty : v ≡ 0 = omega (arith, fits) in none s ∙ sym (ap count_ones empty)
+counted-from f b end none more v s (suc m) at same fits =
+    let first : b s ≡ v % 2 = (rw (add-zero s) at (same 0 (omega arith))) ∙ bit_at_lowest v in
     let half : v / 2 < 2 ^ m = let twice = pow-succ' 2 m in omega (arith, fits, twice) in
-    cons-long (bit_at w s) (block_start n +ℤ pos s, get_or vs s (pos 0))
-    (filter_map (day_at (n, (w, vs))) (range_with_len (s + 1) m)) (bit_at-lt w s)
-    ∙ ap₂ (λ (a b : ℕ). a + b) first (long-from n vs w (v / 2) (s + 1) m
+    more s m at
+    ∙ ap₂ (λ (x y : ℕ). x + y) first (counted-from f b end none more (v / 2) (s + 1) m (omega (arith, at))
     (λ i lt. let next : s + 1 + i ≡ s + suc i = omega arith in
-    ap (bit_at w) next ∙ same (suc i) (omega (arith, lt)) ∙ bit_at-suc v i) half)
+    ap b next ∙ same (suc i) (omega (arith, lt)) ∙ bit_at-suc v i) half)
     ∙ sym (ones_step v)
 
 -- a block has a day for each bit of its word
 pub long-days : (n : ℤ) (vs : List ℤ) (w : ℕ) → w < 2 ^ 32 → length (block_days (n, (w, vs))) ≡ count_ones w
 unfolding days_from
 long-days n vs w fits =
-    long-from n vs w w 0 32 (λ i lt. let same : 0 + i ≡ i = omega arith in ap (bit_at w) same) fits
+    counted-from (λ s m. length (filter_map (day_at (n, (w, vs))) (range_with_len s m))) (bit_at w) 32 (λ s. refl)
+    (λ s m at. cons-long (bit_at w s) (block_start n +ℤ pos s, get_or vs s (pos 0))
+    (filter_map (day_at (n, (w, vs))) (range_with_len (s + 1) m)) (bit_at-lt w s))
+    w 0 32 refl (λ i lt. let same : 0 + i ≡ i = omega arith in ap (bit_at w) same) fits
 
 -- ---- days in a row
 
--- if the bits from a place on are set up to another one, the days there are in a row
-row-from : (n : ℤ) (vs : List ℤ) (w k s m : ℕ) → 0 < k → s ≤ k → k ≤ s + m
-    → ((j : ℕ) → s ≤ j → j < k → bit_at w j ≡ 1) → ((j : ℕ) → k ≤ j → bit_at w j ≡ 0)
-    → AreInARow (block_start n +ℤ pos s) (block_start n +ℤ pos (k - 1))
-    (filter_map (day_at (n, (w, vs))) (range_with_len s m))
-row-from n vs w k s zero some le more set unset =
-    let same : s ≡ k = omega arith in
-    omega (arith, ints, same, some)
-row-from n vs w k s (suc m) some le more set unset =
-    elim (cases_lt s k) [
-      | inl lt ↦
-          let next : block_start n +ℤ pos (s + 1) ≡ (block_start n +ℤ pos s) +ℤ pos 1 = omega (arith, ints) in
-          let rest = row-from n vs w k (s + 1) m some (omega arith) (omega arith)
-          (λ j at under. set j (omega arith) under) unset in
-          rw (set s (omega arith) lt) (
-            refl,
-            subst (λ (d : ℤ). AreInARow d (block_start n +ℤ pos (k - 1))
-                (filter_map (day_at (n, (w, vs))) (range_with_len (s + 1) m))) next rest,
-          )
-      | inr ge ↦
-          let same : s ≡ k = omega arith in
-          let none : filter_map (day_at (n, (w, vs))) (range_with_len s (suc m)) ≡ [] =
-          none-set n vs w s (suc m) (λ j at under. unset j (omega arith)) in
-          rw none (omega (arith, ints, same, some))
-    ]
-
--- so they are if no bit is set before
-row-behind : (n : ℤ) (vs : List ℤ) (w t k s m : ℕ) → s ≤ t → t < k → k ≤ s + m
-    → ((j : ℕ) → j < t → bit_at w j ≡ 0) → ((j : ℕ) → t ≤ j → j < k → bit_at w j ≡ 1)
+-- if the bits from one place up to another one are set, and no others, the days are in a row
+row-among : (n : ℤ) (vs : List ℤ) (w t k s m : ℕ) (f : ℤ) → f ≡ block_start n +ℤ pos (max s t) → t < k → s ≤ k
+    → k ≤ s + m → ((j : ℕ) → j < t → bit_at w j ≡ 0) → ((j : ℕ) → t ≤ j → j < k → bit_at w j ≡ 1)
     → ((j : ℕ) → k ≤ j → bit_at w j ≡ 0)
-    → AreInARow (block_start n +ℤ pos t) (block_start n +ℤ pos (k - 1))
-    (filter_map (day_at (n, (w, vs))) (range_with_len s m))
-row-behind n vs w t k s zero le lt more before set unset = absurd (omega arith)
-row-behind n vs w t k s (suc m) le lt more before set unset =
+    → AreInARow f (block_start n +ℤ pos (k - 1)) (filter_map (day_at (n, (w, vs))) (range_with_len s m))
+row-among n vs w t k s zero f is lt le more before set unset =
+    let same : s ≡ k = omega arith in
+    omega (arith, ints, same, lt, is)
+row-among n vs w t k s (suc m) f is lt le more before set unset =
     elim (cases_lt s t) [
       | inl under ↦ rw (before s under)
-          (row-behind n vs w t k (s + 1) m (omega arith) lt (omega arith) before set unset)
-      | inr ge ↦
-          let same : s ≡ t = omega arith in
-          subst (λ (i : ℕ). AreInARow (block_start n +ℤ pos i) (block_start n +ℤ pos (k - 1))
-          (filter_map (day_at (n, (w, vs))) (range_with_len s (suc m)))) same
-          (row-from n vs w k s (suc m) (omega arith) (omega arith) more (λ j at un. set j (omega arith) un) unset)
+          (row-among n vs w t k (s + 1) m f (omega (arith, ints, is)) lt (omega arith) (omega arith) before set unset)
+      | inr ge ↦ elim (cases_lt s k) [
+        | inl inside ↦ rw (set s ge inside) (
+          omega (arith, ints, is),
+          row-among n vs w t k (s + 1) m (f +ℤ pos 1) (omega (arith, ints, is)) lt (omega arith) (omega arith)
+              before set unset,
+        )
+        | inr end ↦
+            let same : s ≡ k = omega arith in
+            let none : filter_map (day_at (n, (w, vs))) (range_with_len s (suc m)) ≡ [] =
+            none-set n vs w s (suc m) (λ j at un. unset j (omega arith)) in
+            rw none (omega (arith, ints, same, lt, is))
+      ]
     ]
 
+-- so are those of a block
+pub row-behind : (n : ℤ) (vs : List ℤ) (w t k : ℕ) → t < k → k ≤ 32 → ((j : ℕ) → j < t → bit_at w j ≡ 0)
+    → ((j : ℕ) → t ≤ j → j < k → bit_at w j ≡ 1) → ((j : ℕ) → k ≤ j → bit_at w j ≡ 0)
+    → AreInARow (block_start n +ℤ pos t) (block_start n +ℤ pos (k - 1)) (block_days (n, (w, vs)))
+unfolding days_from
+row-behind n vs w t k lt few =
+    row-among n vs w t k 0 32 (block_start n +ℤ pos t) (omega (arith, ints)) lt (omega arith) (omega arith)
+
 -- days in a row from a first to a last one that isn't before it are some
-row-some : (first last : ℤ) (days : List DayValue) → first <ℤ (last +ℤ pos 1) → AreInARow first last days
+pub row-some : (first last : ℤ) (days : List DayValue) → first <ℤ (last +ℤ pos 1) → AreInARow first last days
     → 0 < length days
 row-some first last [] lt row = absurd (omega (arith, ints, lt, row))
 row-some first last (x ∷ xs) lt row = omega arith
-
--- a word, by its bits from a place on and those below it
-halves : (w t : ℕ) → (w / 2 ^ t) * 2 ^ t + w % 2 ^ t ≡ w
-halves w t = let some : 0 < 2 ^ t = pow_pos t in omega arith
-
--- so a bit from that place on is one of the word that is shifted
-shifted-bit : (w t j : ℕ) → t ≤ j → bit_at w j ≡ bit_at (w / 2 ^ t) (j - t)
-shifted-bit w t j le =
-    ap (λ (v : ℕ). bit_at v j) (sym (halves w t))
-    ∙ bit_at_cat_high (w / 2 ^ t) t (w % 2 ^ t) j (mod-lt w (pow_pos t)) le
 
 -- if all bits are set, that many follow one another
 all-ones : trailing_ones w32 4_294_967_295 ≡ 32
@@ -219,31 +194,21 @@ run-ends w some fits =
     let lowest = bit_at-trailing_zeros w32 w some fits in
     let less : v < 2 ^ 32 = omega (arith, div-le_self w (2 ^ t), fits) in
     let ones = lowest-ones v less in
-    let first : bit_at v 0 ≡ 1 =
-    let none : t - t ≡ 0 = omega arith in
-    ap (bit_at v) (sym none) ∙ sym (shifted-bit w t t (omega arith)) ∙ lowest.1 in
-    let one : 0 < o = elim (cases_lt 0 o) [
-      | inl lt ↦ lt
-      | inr ge ↦
-          let zero_ones : o ≡ 0 = omega (arith, ge) in
-          let unset : bit_at v 0 ≡ 0 = ap (bit_at v) (sym zero_ones) ∙ ones.1 in
-          absurd (omega (arith, first, unset))
-    ] in
-    let row : (j : ℕ) → t ≤ j → j < t + o → bit_at w j ≡ 1 =
-    λ j le lt. shifted-bit w t j le ∙ ones.0 (j - t) (omega (arith, le, lt)) in
+    let first : bit_at v 0 ≡ 1 = (rw (add-zero t) at (shifted-bit w t 0)) ∙ lowest.1 in
+    let one : o ≡ 0 → ⊥ = λ none.
+    let unset : bit_at v 0 ≡ 0 = ap (bit_at v) (sym none) ∙ ones.1 in
+    omega (arith, first, unset) in
+    let row : (j : ℕ) → t ≤ j → j < t + o → bit_at w j ≡ 1 = λ j le lt.
+    let here : j ≡ t + (j - t) = omega (arith, le) in
+    ap (bit_at w) here ∙ sym (shifted-bit w t (j - t)) ∙ ones.0 (j - t) (omega (arith, le, lt)) in
     record {
       some = omega (arith, one);
-      few = elim (cases_lt 32 (t + o)) [
-        | inr ge ↦ ge
-        | inl lt ↦
-            let above : bit_at w 32 ≡ 0 = bit_at_above w 32 32 fits (omega arith) in
-            let set : bit_at w 32 ≡ 1 = row 32 (omega (arith, lowest.0)) lt in
-            absurd (omega (arith, above, set))
-      ];
+      few =
+          let above : bit_at w 32 ≡ 0 = bit_at_above w 32 32 fits (omega arith) in
+          let past : 32 < t + o → ⊥ = λ lt. omega (arith, above, row 32 (omega (arith, lowest.0)) lt) in
+          omega (arith, past);
       row = row;
-      ends =
-          let back : t + o - t ≡ o = omega arith in
-          shifted-bit w t (t + o) (omega arith) ∙ ap (bit_at v) back ∙ ones.1;
+      ends = sym (shifted-bit w t o) ∙ ones.1;
     }
 
 module _ (n : ℤ) (vs : List ℤ) (w k : ℕ) (fits : w < 2 ^ 32) (some : 0 < w) (ends : EndsRun w k) where
@@ -261,10 +226,9 @@ module _ (n : ℤ) (vs : List ℤ) (w k : ℕ) (fits : w < 2 ^ 32) (some : 0 < w
 
   -- its days are in a row
   in_a_row : AreInARow (block_start n +ℤ pos t) last (block_days (n, (run, vs)))
-  unfolding days_from
   in_a_row =
       let lowest = bit_at-trailing_zeros w32 w some fits in
-      row-behind n vs run t k 0 32 (omega arith) ends.some (omega (arith, ends.few))
+      row-behind n vs run t k ends.some ends.few
       (λ j lt. first-in n vs w k ends.few j (omega (arith, lt, ends.some)) ∙ lowest.2 j lt)
       (λ j at under. first-in n vs w k ends.few j under ∙ ends.row j at under)
       (λ j more. first-out n vs w k ends.few j more)
@@ -279,17 +243,9 @@ module _ (n : ℤ) (vs : List ℤ) (w k : ℕ) (fits : w < 2 ^ 32) (some : 0 < w
     parts = both-parts n vs w k ends.few;
     apart = each-day (λ (d : ℤ). (last +ℤ pos 1) <ℤ d) n vs (bit_and w (2 ^ 32 - 2 ^ k)) (λ j lt set.
         let more = later-bit w k j set in
-        let of_word =
-        first-set (bit_at w j) (bit_at (2 ^ 32 - 2 ^ k) j) (bit_at-lt w j)
-        (sym (bit_at_and w (2 ^ 32 - 2 ^ k) j) ∙ set) in
         let other : j ≢ k = λ same.
-        let here : bit_at w k ≡ 1 = sym (ap (bit_at w) same) ∙ of_word in omega (arith, here, ends.ends) in
+        let none : bit_at w j ≡ 0 = ap (bit_at w) same ∙ ends.ends in
+        omega (arith, bit_at_and w (2 ^ 32 - 2 ^ k) j, none, set) in
         let under = ends.some in
         omega (arith, ints, more, other, under));
   }
-
--- a run is taken of what equals the days, by what equals its ends
-pub takes-as : (days all left rest : List DayValue) (a b c d : ℤ) → days ≡ all → a ≡ c → b ≡ d → left ≡ rest
-    → TakesRun days (a, b) left → TakesRun all (c, d) rest
-takes-as days all left rest a b c d same first last behind taken =
-    rw (← same, ← first, ← last, ← behind) taken

@@ -1,25 +1,22 @@
 -- What searches find in numbers that rise, and what it says of the blocks.
-use Rattle.std.proofs.Common.{◌≡◌, ℕ, ◌+◌, ◌<◌, ◌≤◌, true, false, List, [], length, get_or, Option}
-use Rattle.std.proofs.Common.{Some, None, Result, Ok, Err, IfNone, sym, ap, subst, ◌∙◌, arith, ℤ, pos, ◌<ℤ◌, ◌+ℤ◌}
-use Rattle.std.proofs.Common.{Bor}
+use Rattle.std.proofs.Common.{◌≡◌, ℕ, ◌+◌, ◌<◌, ◌≤◌, true, false, List, [], length, get_or, Option, Some, None, Result}
+use Rattle.std.proofs.Common.{Ok, Err, IfNone, sym, ap, ◌∙◌, arith, ℤ, pos, ◌<ℤ◌, ◌+ℤ◌, Bor, inl, inr}
 use Rattle.std.specs.Prelude.{int_lt, int_le, slice_get, MatchOption}
 use Rattle.std.specs.Option.{option_copied}
-use Rattle.std.specs.List.{HoldsAt}
+use Rattle.std.specs.List.{HoldsAt, find, zip}
 use Rattle.std.proofs.lemmas.Option.{slice_get_past, slice_get-get_or}
 use Rattle.std.specs.List.Sorted.{IsBinarySearchResult, IsNonDecreasingBy, IsPartitionedBy}
 use Rattle.std.specs.Ordering.{int_cmp, ordering_index, is_lt}
 use Rattle.std.specs.Result.{result_ok}
-use Rattle.std.proofs.Common.{inl, inr}
 use Rattle.std.proofs.lemmas.Bool.{cases_lt}
 use Rattle.std.proofs.lemmas.Cmp.{int_cmp_total, int_ranked}
 use Rattle.std.proofs.lemmas.List.{get_or_default}
 use Rattle.std.proofs.lemmas.List.Sorted.{searchable_from_sorted}
 use Rattle.std.proofs.lemmas.Int.{ints}
-use Rattle.ghcn_series.specs.Packed.{Block, value_at, block_start, days_of_blocks, blocks_of, IsPacked, Rise, AreColumns}
+use Rattle.ghcn_series.specs.Packed.{Block, value_at, block_start, days_of_blocks, blocks_of, Rise, AreColumns}
 use Rattle.ghcn_series.specs.Packed.{next_block, IsAt, IsNowhere, IsBlockOf, HasNone}
-use Rattle.std.specs.List.{find, zip}
 use Rattle.std.proofs.lemmas.Slice.Zip.{firsts-zip, length-zip}
-use Rattle.ghcn_series.proofs.ListFacts.{all-at}
+use Rattle.ghcn_series.proofs.PartsAdded.{packed-at}
 use Rattle.ghcn_series.proofs.Nexts.{next-of_numbers}
 use Rattle.ghcn_series.proofs.Lookups.{no_block, block-of_place, days-without, days-at, blocks-at, blocks-length}
 
@@ -27,13 +24,12 @@ use Rattle.ghcn_series.proofs.Lookups.{no_block, block-of_place, days-without, d
 not_after : (a b : ℤ) → a <ℤ b → is_lt (int_cmp b a) ≡ false
 not_after a b lt = grind (arith, ints)
 
--- neighbours are in order, at any default
-neighbours : (ns : List ℤ) → Rise ns → (k : ℕ) (d : ℤ) → k + 1 < length ns
-    → is_lt (int_cmp (get_or ns (k + 1) d) (get_or ns k d)) ≡ false
-neighbours ns rise k d lt =
-    let first : get_or ns k d ≡ get_or ns k (pos 0) = get_or_default ns k d (pos 0) (omega arith) in
-    let second : get_or ns (k + 1) d ≡ get_or ns (k + 1) (pos 0) = get_or_default ns (k + 1) d (pos 0) lt in
-    not_after (get_or ns k d) (get_or ns (k + 1) d) (rw (first, second) (rise.less k (k + 1) (omega arith) lt))
+-- numbers that rise do at any default
+rise-at : (ns : List ℤ) → Rise ns → (i j : ℕ) (d : ℤ) → i < j → j < length ns → get_or ns i d <ℤ get_or ns j d
+rise-at ns rise i j d lt within =
+    let first : get_or ns i d ≡ get_or ns i (pos 0) = get_or_default ns i d (pos 0) (omega arith) in
+    let second : get_or ns j d ≡ get_or ns j (pos 0) = get_or_default ns j d (pos 0) within in
+    rw (first, second) (rise.less i j lt within)
 
 -- a search of a number ends at its place, or the number is nowhere
 pub absent-from_search : (ns : List ℤ) → Rise ns → (b : ℤ) → (r : Result ℕ ℕ)
@@ -41,7 +37,8 @@ pub absent-from_search : (ns : List ℤ) → Rise ns → (b : ℤ) → (r : Resu
 absent-from_search ns rise b (Ok i) found = tt
 absent-from_search ns rise b (Err i) parted =
     let sorted : IsNonDecreasingBy (λ y. ordering_index (int_cmp y b)) ns = searchable_from_sorted int_cmp_total
-    (λ (n : ℤ). n) ns b (λ k d low high. neighbours ns rise k d high) in
+    (λ (n : ℤ). n) ns b (λ k d low high. not_after (get_or ns k d) (get_or ns (k + 1) d)
+    (rise-at ns rise k (k + 1) d (omega arith) high)) in
     λ k at. elim (cases_lt k i) [
       | inl before ↦
           let less : get_or ns k (pos 0) <ℤ b = int_ranked _ _ _
@@ -60,24 +57,16 @@ below_too a c b lt e = grind (arith, ints)
 -- the numbers below one come first
 pub parted-by_rise : (ns : List ℤ) → Rise ns → (b : ℤ) → IsPartitionedBy (λ n. int_lt n b) ns
 parted-by_rise ns rise b i j d le lt below = elim (cases_lt i j) [
-  | inl before ↦
-      let first : get_or ns i d ≡ get_or ns i (pos 0) = get_or_default ns i d (pos 0) (omega arith) in
-      let second : get_or ns j d ≡ get_or ns j (pos 0) = get_or_default ns j d (pos 0) lt in
-      below_too (get_or ns i d) (get_or ns j d) b (rw (first, second) (rise.less i j before lt)) below
-  | inr same ↦
-      let is : j ≡ i = omega arith in
-      subst (λ (k : ℕ). int_lt (get_or ns k d) b ≡ true) is below
+  | inl before ↦ below_too (get_or ns i d) (get_or ns j d) b (rise-at ns rise i j d before lt) below
+  | inr same ↦ let is : j ≡ i = omega arith in rw is at below
 ]
 
 -- a number is at one place among rising ones
 same_place : (ns : List ℤ) → Rise ns → (i k : ℕ) (n : ℤ) → IsAt ns n i → IsAt ns n k → k ≡ i
-same_place ns rise i k n here there = elim (cases_lt i k) [
-  | inl before ↦ let lt = rise.less i k before there.in_range in absurd (omega (arith, ints, here.is, there.is))
-  | inr rest ↦ elim (cases_lt k i) [
-    | inl behind ↦ let lt = rise.less k i behind here.in_range in absurd (omega (arith, ints, here.is, there.is))
-    | inr same ↦ omega arith
-  ]
-]
+same_place ns rise i k n here there =
+    let after : i < k → ⊥ = λ lt. omega (arith, ints, rise.less i k lt there.in_range, here.is, there.is) in
+    let before : k < i → ⊥ = λ lt. omega (arith, ints, rise.less k i lt here.in_range, here.is, there.is) in
+    omega (arith, after, before)
 
 module _ (ns : List ℤ) (ws : List ℕ) (vs : List (List ℤ)) (cols : AreColumns ns ws vs) where
   -- the block at a place has the three columns' parts there
@@ -105,15 +94,10 @@ module _ (ns : List ℤ) (ws : List ℕ) (vs : List (List ℤ)) (cols : AreColum
       (get_or vs i [])
   block-found n i at =
       let bs : List Block = blocks_of ns ws vs in
-      let less : i < length bs = omega (
-        arith,
-        blocks-length ns ws vs cols.blocks.enough_words
-            cols.blocks.enough_values,
-        at.in_range,
-      ) in
+      let long = blocks-length ns ws vs cols.blocks.enough_words cols.blocks.enough_values in
+      let less : i < length bs = omega (arith, long, at.in_range) in
       let is : get_or bs i no_block ≡ (get_or ns i (pos 0), (get_or ws i 0, get_or vs i [])) = here i less in
-      let packed : IsPacked (get_or ns i (pos 0), (get_or ws i 0, get_or vs i [])) = subst IsPacked is
-      (all-at IsPacked bs i no_block cols.blocks.packed less) in
+      let packed = packed-at ns ws vs cols.blocks i at.in_range in
       record {
         present = packed.present;
         holds = λ j lt.

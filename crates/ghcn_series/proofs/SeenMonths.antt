@@ -1,10 +1,8 @@
 -- The months that were seen, and one more.
 use Rattle.std.proofs.Common.{◌≡◌, ℕ, ◌+◌, ◌*◌, ◌≤◌, Bool, true, false, not, List, [], ◌∷◌, ◌++◌, refl, sym, ap}
-use Rattle.std.proofs.Common.{subst, ◌∙◌, arith, ℤ, Result, Ok, Err, inl, inr}
+use Rattle.std.proofs.Common.{◌∙◌, arith, ℤ, Result, Ok, Err, inl, inr}
 use Rattle.std.specs.Prelude.{◌==◌, ◌&&◌, IfOk, OnOk}
 use Rattle.std.specs.List.{list_any, flat_map, IsDistinct, AllByRecursion}
-use Rattle.std.specs.Map.{keys_of}
-use Rattle.std.specs.Ordering.{int_eq}
 use Rattle.std.proofs.lemmas.List.{append-nil}
 use Rattle.std.proofs.lemmas.List.Concat.{flat_map-append}
 use Rattle.std.proofs.lemmas.Bool.Decides.{nat_tests}
@@ -21,7 +19,7 @@ use Rattle.ghcn_files.specs.declared.row.MonthRow.{MonthRow}
 use Rattle.ghcn_files.specs.Months.{IsMonth}
 use Rattle.ghcn_files.specs.Rows.{IsRowOf}
 use Rattle.ghcn_series.specs.declared.gathering.Gathering.{Gathering}
-use Rattle.ghcn_series.specs.Series.{DayValue, value_on}
+use Rattle.ghcn_series.specs.Series.{value_on}
 use Rattle.ghcn_series.specs.Steps.{ForMonth, IsRowFor, Gathers}
 use Rattle.ghcn_series.specs.Parts.{AreParts, AreNew, AreJoined}
 use Rattle.ghcn_series.specs.Gathered.{month_count, has_number, same_time, usable_days, gathered_days, kept_days}
@@ -49,10 +47,8 @@ numbers-are : (m : Month) (ms : List Month) → IsMonth m → AllByRecursion IsM
     → list_any (has_number (month_count m)) ms ≡ list_any (same_time m) ms
 numbers-are m [] right all = refl
 numbers-are m (x ∷ xs) right all =
-    rw (
-      same_number m.year m.month x.year x.month right.month.0 right.month.1 all.0.month.0 all.0.month.1,
-      numbers-are m xs right all.1,
-    ) refl
+    let same = same_number m.year m.month x.year x.month right.month.0 right.month.1 all.0.month.0 all.0.month.1 in
+    rw (same, numbers-are m xs right all.1)
 
 -- whether a month was seen is whether one of its time was
 pub seen-is : (kept : Bool) (g : Gathering) (m : Month) (before : List Month) → IsMonth m → IsGathering kept g before
@@ -62,27 +58,16 @@ seen-is kept g m before right is = is.seen (month_count m) ∙ numbers-are m bef
 -- one month more adds its usable days
 days-more : (before : List Month) (m : Month) → flat_map usable_days (before ++ m ∷ []) ≡ flat_map usable_days before
     ++ usable_days m
-days-more before m =
-    simp (flat_map-append, append-nil)
+days-more before m = simp (flat_map-append, append-nil)
 
 -- a month whose time wasn't seen has no day that was gathered
 pub month-new : (g : Gathering) (m : Month) (before : List Month) → IsMonth m → IsGathering true g before
     → has_month g.seen (month_count m) ≡ false
     → AreNew (gathered_days g) (usable_days m)
 month-new g m before right is fresh d some =
-    let apart : IsDistinct same_time (before ++ m ∷ []) = distinct-more m before is.distinct
-    (sym (seen-is true g m before right is) ∙ fresh) in
-    let distinct : IsDistinct int_eq (keys_of (flat_map usable_days before ++ usable_days m)) =
-    subst (λ (xs : List DayValue). IsDistinct int_eq (keys_of xs)) (days-more before m)
-    (distinct_days (before ++ m ∷ []) apart) in
+    let apart = distinct-more m before is.distinct (sym (seen-is true g m before right is) ∙ fresh) in
+    let distinct = rw (days-more before m) at (distinct_days (before ++ m ∷ []) apart) in
     is.values d ∙ new-behind (flat_map usable_days before) (usable_days m) distinct d some
-
--- the months that were seen, with one more
-seen-more : (kept : Bool) (old new : Gathering) (m : Month) (before : List Month) → IsGathering kept old before
-    → Adds old.seen new.seen (month_count m)
-    → (t : ℕ) → has_month new.seen t ≡ list_any (has_number t) (before ++ m ∷ [])
-seen-more kept old new m before is adds t =
-    adds t ∙ rw (is.seen t, list_any-append, or-false, nat_eq_equiv.symm (month_count m) t) refl
 
 -- one month more is gathered, with its days if they are kept
 gathered_with : (kept : Bool) (old new : Gathering) (m : Month) (before : List Month) → IsMonth m
@@ -92,7 +77,7 @@ gathered_with : (kept : Bool) (old new : Gathering) (m : Month) (before : List M
     → IsGathering kept new (before ++ m ∷ [])
 gathered_with kept old new m before right is fresh adds parts values = record {
   right = each-append IsMonth before (m ∷ []) is.right (right, tt);
-  seen = seen-more kept old new m before is adds;
+  seen = λ t. adds t ∙ rw (is.seen t, list_any-append, or-false, nat_eq_equiv.symm (month_count m) t) refl;
   parts = parts;
   values = values;
   distinct = distinct-more m before is.distinct (sym (seen-is kept old m before right is) ∙ fresh);
@@ -106,17 +91,13 @@ pub gathering-more : (old new : Gathering) (m : Month) (before : List Month) →
     → IsGathering true new (before ++ m ∷ [])
 gathering-more old new m before right is fresh adds parts joined =
     gathered_with true old new m before right is fresh adds parts (λ d.
-    joined d ∙ rw (
-      is.values d,
-      days-more before m,
-      value_on-append (flat_map usable_days before) (usable_days m) d,
-    ) refl)
+    joined d
+    ∙ rw (is.values d, days-more before m, value_on-append (flat_map usable_days before) (usable_days m) d) refl)
 
 -- a month's number is that of its row
 pub number_is : (kept : Bool) (m : Month) (row : MonthRow) (n : ℕ) → IsRowOf kept m row
     → n ≡ 12 * row.year + row.month → n ≡ month_count m
-number_is kept m row n of e =
-    omega arith
+number_is kept m row n of e = omega arith
 
 -- with its days or without
 number_for : (m : Month) (row : MonthRow) → IsRowFor false m row → 12 * row.year + row.month ≡ month_count m
@@ -131,12 +112,10 @@ pub noted : (row : MonthRow) (old new : Gathering) (result : Result Bool Memory)
 noted row old new (Err memory) told adds same = tt
 noted row old new (Ok added) told adds same = λ m right of.
     let number : 12 * row.year + row.month ≡ month_count m = number_for m row of in
-    let is_new : added ≡ not (has_month old.seen (month_count m)) = told
-    ∙ ap (λ n. not (has_month old.seen n)) number in
-    let more : Adds old.seen new.seen (month_count m) = subst (Adds old.seen new.seen) number adds in
+    let is_new = told ∙ ap (λ (n : ℕ). not (has_month old.seen n)) number in
     record {
       is_new = λ before is. is_new ∙ ap not (seen-is false old m before right is);
       holds = λ before is. OnTrue_from added _ (λ yes.
-          gathered_with false old new m before right is (not-true _ (sym (sym yes ∙ is_new))) more
+          gathered_with false old new m before right is (not-true _ (sym (sym yes ∙ is_new))) (rw (← number) adds)
           (rw same is.parts) (rw same is.values));
     }

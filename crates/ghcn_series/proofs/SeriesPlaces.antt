@@ -1,9 +1,10 @@
 -- The series of a station and an element, in the list at its place.
-use Rattle.std.proofs.Common.{◌≡◌, ℕ, zero, suc, ◌+◌, ◌≤◌, get_or, Bool, true, false, cond, not, List, [], ◌∷◌}
-use Rattle.std.proofs.Common.{length, map, Option, None, Some, refl, sym, ap, ◌∙◌, subst, arith}
+use Rattle.std.proofs.Common.{◌≡◌, ℕ, zero, suc, ◌+◌, ◌≤◌, get_or, true, false, cond, not, List, [], ◌∷◌}
+use Rattle.std.proofs.Common.{length, map, Option, None, Some, refl, sym, ap, ◌∙◌, arith}
 use Rattle.std.specs.Prelude.{nat_lt}
 use Rattle.std.specs.List.{find, slice_get, position_or_len, IsDistinct, AllByRecursion, AllZip}
-use Rattle.std.specs.Option.{option_or, option_and_then, option_map}
+use Rattle.std.specs.Option.{option_or, option_and_then}
+use Rattle.std.proofs.lemmas.Bool.{ltb-true}
 use Rattle.std.proofs.lemmas.Bool.Decides.{nat_tests}
 use Rattle.std.proofs.lemmas.List.{length-map}
 use Rattle.std.proofs.lemmas.List.Folds.{find-append}
@@ -19,13 +20,14 @@ use Rattle.ghcn_series.specs.Series.{Usable, Contents, is_series_of, series_of}
 use Rattle.ghcn_series.specs.Held.{all_of, is_of_element}
 use Rattle.ghcn_series.proofs.Places.{ids, first_place, listed-is}
 use Rattle.ghcn_files.proofs.IdLaws.{same_id-is, same_id-turned, no_place}
-use Rattle.ghcn_series.proofs.ListFacts.{each-append}
+use Rattle.ghcn_files.proofs.Ordered.{each-mapped}
+use Rattle.ghcn_series.proofs.ListFacts.{each-append, each-weaker}
 
 -- of the series of one station, an element's is the station's and the element's
-find_own : (id : StationId) (e : Element) (us : List Usable) → AllByRecursion (λ u. same_id u.id id ≡ true) us
-    → find (is_series_of id e) us ≡ find (is_of_element e) us
-find_own id e [] own = refl
-find_own id e (u ∷ us) own = rw (own.0, find_own id e us own.1)
+find_own : (id own : StationId) (e : Element) (us : List Usable) → same_id own id ≡ true
+    → AllByRecursion (λ u. u.id ≡ own) us → find (is_series_of id e) us ≡ find (is_of_element e) us
+find_own id own e [] is all = refl
+find_own id own e (u ∷ us) is all = rw (all.0, is, find_own id own e us is all.1)
 
 -- among the series of other stations there is none
 find_none : (id : StationId) (e : Element) (us : List Usable) → AllByRecursion (λ u. same_id u.id id ≡ false) us
@@ -37,23 +39,24 @@ find_none id e (u ∷ us) other = rw other.0 (find_none id e us other.1)
 abbrev pub AreOwn : List Station → List (List Usable) → Type 0
 AreOwn stations lists = AllZip (λ s series. AllByRecursion (λ u. u.id ≡ s.id) series) stations lists
 
--- the series of a station have an ID if it has it
-with_id : (id : StationId) (b : Bool) (s : Station) (us : List Usable) → same_id s.id id ≡ b
-    → AllByRecursion (λ u. u.id ≡ s.id) us → AllByRecursion (λ u. same_id u.id id ≡ b) us
-with_id id b s [] is own = tt
-with_id id b s (u ∷ us) is own = (ap (λ (i : StationId). same_id i id) own.0 ∙ is, with_id id b s us is own.1)
+-- what follows for the series of each station is true of all series
+pub in_all : (S : Station → Type 0) (P : Station → Usable → Type 0) (Q : Usable → Type 0) (ss : List Station)
+    (lists : List (List Usable)) → ((s : Station) (u : Usable) → S s → P s u → Q u) → AllByRecursion S ss
+    → AllZip (λ s us. AllByRecursion (P s) us) ss lists → AllByRecursion Q (all_of lists)
+in_all S P Q ss [] follows each own = tt
+in_all S P Q [] (us ∷ lists) follows each own = absurd own
+in_all S P Q (s ∷ ss) (us ∷ lists) follows each own =
+    each-append Q us (all_of lists) (each-weaker (P s) Q us (λ u. follows s u each.0) own.0)
+    (in_all S P Q ss lists follows each.1 own.1)
 
 -- the series of stations of other IDs
 all_other : (id : StationId) (ss : List Station) (lists : List (List Usable))
     → AllByRecursion (λ i. same_id id i ≡ false) (ids ss) → AreOwn ss lists
     → AllByRecursion (λ u. same_id u.id id ≡ false) (all_of lists)
-all_other id [] [] other own = tt
-all_other id [] (us ∷ lists) other own = absurd own
-all_other id (s ∷ ss) [] other own = absurd own
-all_other id (s ∷ ss) (us ∷ lists) other own =
-    each-append (λ u. same_id u.id id ≡ false) us (all_of lists)
-    (with_id id false s us (same_id-turned s.id id ∙ other.0) own.0)
-    (all_other id ss lists other.1 own.1)
+all_other id ss lists other own =
+    in_all (λ s. same_id id s.id ≡ false) (λ s u. u.id ≡ s.id) (λ u. same_id u.id id ≡ false) ss lists
+    (λ s u apart is. rw is (same_id-turned s.id id ∙ apart))
+    (each-mapped (λ (s : Station). s.id) (λ (i : StationId). same_id id i ≡ false) ss other) own
 
 -- the series of a station and an element is found in the list at the station's place
 pub found_by_place : (id : StationId) (e : Element) (ss : List Station) (lists : List (List Usable))
@@ -62,29 +65,23 @@ pub found_by_place : (id : StationId) (e : Element) (ss : List Station) (lists :
     ≡ find (is_series_of id e) (all_of lists)
 unfolding IsDistinct
 found_by_place id e [] [] apart own = refl
-found_by_place id e [] (us ∷ lists) apart own = absurd own
-found_by_place id e (s ∷ ss) [] apart own = absurd own
-found_by_place id e (s ∷ ss) (us ∷ lists) apart own = by (same_id s.id id) refl
-    (found_by_place id e ss lists apart.1 own.1) ∙ sym (find-append (is_series_of id e) us (all_of lists))
-  where
-    by : (b : Bool) → same_id s.id id ≡ b
-        → option_and_then (find (is_of_element e)) (slice_get lists (position_or_len (is_station_of id) ss))
-        ≡ find (is_series_of id e) (all_of lists)
-        → option_and_then (find (is_of_element e))
-        (slice_get (us ∷ lists) (cond (not (same_id s.id id)) (1 + position_or_len (is_station_of id) ss) 0))
-        ≡ option_or (find (is_series_of id e) us) (find (is_series_of id e) (all_of lists))
-    by true is rest =
-        let others = all_other id ss lists (subst (λ i. AllByRecursion (λ j. same_id i j ≡ false) (ids ss))
-        (same_id-is s.id id is) apart.0) own.1 in
-        rw is (sym (find_own id e us (with_id id true s us is own.0))
-        ∙ sym (ap (option_or (find (is_series_of id e) us)) (find_none id e (all_of lists) others)
-        ∙ or_none (find (is_series_of id e) us)))
-    by false is rest =
-        rw is (ap (option_and_then (find (is_of_element e))) (ap (slice_get (us ∷ lists))
-        {x = 1 + position_or_len (is_station_of id) ss} {y = suc (position_or_len (is_station_of id) ss)} (omega arith))
-        ∙ rest
-        ∙ sym (ap (λ (o : Option Usable). option_or o (find (is_series_of id e) (all_of lists)))
-        (find_none id e us (with_id id false s us is own.0))))
+found_by_place id e (s ∷ ss) (us ∷ lists) apart own =
+    let place = position_or_len (is_station_of id) ss in
+    (elim (same_id s.id id) as (λ b. same_id s.id id ≡ b
+    → option_and_then (find (is_of_element e)) (slice_get (us ∷ lists) (cond (not b) (1 + place) 0))
+    ≡ option_or (find (is_series_of id e) us) (find (is_series_of id e) (all_of lists))) [
+      | true ↦ λ is.
+          let others = all_other id ss lists (rw (same_id-is s.id id is) at apart.0) own.1 in
+          rw (find_none id e (all_of lists) others, find_own id s.id e us is own.0)
+          (sym (or_none (find (is_of_element e) us)))
+      | false ↦ λ is.
+          let others = each-weaker (λ (u : Usable). u.id ≡ s.id) (λ (u : Usable). same_id u.id id ≡ false) us
+          (λ u of. rw of is) own.0 in
+          let next : 1 + place ≡ suc place = omega arith in
+          rw (next, find_none id e us others) (found_by_place id e ss lists apart.1 own.1)
+    ] refl)
+    ∙ sym (find-append (is_series_of id e) us (all_of lists))
+found_by_place id e _ _ apart own = absurd own
 
 -- ---- as a list at a place is looked up
 
@@ -109,18 +106,16 @@ pub found-at : (e : Element) (ss : List Station) (lists : List (List Usable)) (k
     → IsDistinct same_id (ids ss) → AreOwn ss lists → us ≡ slice_get lists k
     → option_and_then (find (is_of_element e)) us
     ≡ option_and_then (λ (s : Station). find (is_series_of s.id e) (all_of lists)) (slice_get ss k)
-found-at e ss lists k us apart own is = by (slice_get ss k) refl
-  where
-    by : (o : Option Station) → slice_get ss k ≡ o
-        → option_and_then (find (is_of_element e)) us
-        ≡ option_and_then (λ (s : Station). find (is_series_of s.id e) (all_of lists)) o
-    by None none =
-        let beyond : length lists ≤ k = omega (arith, AllZip-long _ ss lists own, none_past ss k none) in
-        ap (option_and_then (find (is_of_element e))) (is ∙ slice_get_past lists k beyond)
-    by (Some s) at =
-        ap (option_and_then (find (is_of_element e)))
-        (is ∙ ap (slice_get lists) (sym (first_place ss k s apart at).0))
-        ∙ found_by_place s.id e ss lists apart own
+found-at e ss lists k us apart own is =
+    elim (slice_get ss k) as (λ o. slice_get ss k ≡ o → option_and_then (find (is_of_element e)) us
+    ≡ option_and_then (λ (s : Station). find (is_series_of s.id e) (all_of lists)) o) [
+      | None ↦ λ none.
+          rw (is, slice_get_past lists k (omega (arith, AllZip-long _ ss lists own, none_past ss k none)))
+      | Some s ↦ λ at.
+          ap (option_and_then (find (is_of_element e)))
+          (is ∙ ap (slice_get lists) (sym (first_place ss k s apart at).0))
+          ∙ found_by_place s.id e ss lists apart own
+    ] refl
 
 -- the series of the station at a place
 abbrev pub at_place : Contents → Element → ℕ → Option Usable
@@ -137,9 +132,7 @@ listed-at all id e k place =
 pub list-there : {V : Type 0} (items : V → List Usable) (vs : List V) (k : ℕ) (v : V) → nat_lt k (length vs) ≡ true
     → v ≡ get_or vs k v → Some (items v) ≡ slice_get (map items vs) k
 list-there items vs k v lt is =
-    ap (λ (x : _). Some (items x)) is
-    ∙ sym (ap (option_map items) (slice_get-get_or vs k v (grind (arith, nat_tests))))
-    ∙ sym (slice_get-map items vs k)
+    rw (slice_get-map items vs k, slice_get-get_or vs k v (ltb-true k (length vs) lt), ← is)
 
 -- no list is past the last
 pub list-missing : {V : Type 0} (items : V → List Usable) (vs : List V) (k : ℕ) → nat_lt k (length vs) ≡ false

@@ -1,6 +1,6 @@
 -- The months of one station, by element.
 use Rattle.std.proofs.Common.{◌≡◌, ℕ, zero, suc, Bool, true, false, cond, not, List, [], ◌∷◌, ◌++◌, length, map, get_or}
-use Rattle.std.proofs.Common.{Some, refl, sym, ap, ◌∙◌, arith}
+use Rattle.std.proofs.Common.{◌<◌, Some, refl, sym, ap, ◌∙◌, arith, subst}
 use Rattle.std.specs.Prelude.{◌==◌, ◌&&◌, ◌||◌}
 use Rattle.std.specs.List.{list_any, slice_get, AllZip, AllByRecursion, IsDistinct}
 use Rattle.std.specs.Cmp.{nat_eq_equiv}
@@ -10,24 +10,20 @@ use Rattle.std.proofs.lemmas.List.{append-nil}
 use Rattle.std.proofs.lemmas.List.Elements.{filter-append}
 use Rattle.std.proofs.lemmas.List.Folds.{list_any-append}
 use Rattle.std.proofs.lemmas.Bool.{and_right, or_parts, or_right, OnTrue_from, OnTrue_at}
-use Rattle.std.proofs.lemmas.Slice.Zip.{AllZip-long}
 use Rattle.std.proofs.Math.Bool.{and_assoc}
-use Rattle.std.specs.Bool.{OnTrue}
-use Rattle.ghcn_series.specs.declared.station.StationGathering.{StationGathering}
 use Rattle.ghcn_series.proofs.ListFacts.{from_all, each-weaker, set_first}
 use Rattle.ghcn_files.specs.declared.station.StationId.{StationId}
 use Rattle.ghcn_files.specs.declared.element.Element.{Element}
 use Rattle.ghcn_files.specs.declared.element.Keep.{Keep}
-use Rattle.ghcn_files.specs.declared.element.Element.TheVariants.{Prcp, Snow, Snwd, Tmax, Tmin}
 use Rattle.ghcn_files.specs.declared.month.Month.{Month}
 use Rattle.ghcn_files.specs.Ids.{same_id}
 use Rattle.ghcn_files.specs.Elements.{elements, same_element, element_index, is_kept}
 use Rattle.ghcn_series.specs.declared.gathering.Gathering.{Gathering}
 use Rattle.ghcn_series.specs.DailyFaults.{same_month}
 use Rattle.ghcn_series.specs.Gathered.{same_time, has_month_of, months_of, IsGathering, IsGatheringOf}
-use Rattle.ghcn_series.specs.Gathered.{AreByElement}
+use Rattle.ghcn_series.specs.Gathered.{AreFiveOf, AreByElement}
 use Rattle.ghcn_files.proofs.IdLaws.{same_id-turned}
-use Rattle.ghcn_series.specs.Steps.{Gathers, GathersSome, GathersNothing, KeepsMonths, Opens}
+use Rattle.ghcn_series.specs.Steps.{Gathers, GathersSome, GathersNothing, KeepsMonths, Opens, FiveGather, FiveOfNothing}
 
 -- a station without a month has none of any element
 pub months_of-none : (months : List Month) (id : StationId) (e : Element) → list_any (λ m. same_id m.id id) months
@@ -38,34 +34,27 @@ months_of-none (m ∷ ms) id e none =
     rw both.0 (months_of-none ms id e both.1)
 
 -- gatherings of nothing fit a station without a month
-empty_zip : (asked : Keep) (months : List Month) (id : StationId) (gs : List Gathering) (es : List Element)
-    → list_any (λ m. same_id m.id id) months ≡ false → map (λ g. g.element) gs ≡ es
-    → AllByRecursion GathersNothing gs → AllZip (IsGatheringOf asked months id) gs es
-empty_zip asked months id [] [] none is all = tt
-empty_zip asked months id [] (e ∷ es) none is all = absurd cc
-empty_zip asked months id (g ∷ gs) [] none is all = absurd cc
-empty_zip asked months id (g ∷ gs) (e ∷ es) none is all =
-    let head : g.element ≡ e = cc in
-    let tail : map (λ h. h.element) gs ≡ es = cc in (
-      record { element = head; holds = rw (months_of-none months id e none) (all.0 (is_kept asked e)) },
-      empty_zip asked months id gs es none tail all.1,
-    )
+empty_zip : (asked : Keep) (months : List Month) (id : StationId) (gs : List Gathering)
+    → list_any (λ m. same_id m.id id) months ≡ false → AllByRecursion GathersNothing gs
+    → AllZip (IsGatheringOf asked months id) gs (map (λ g. g.element) gs)
+empty_zip asked months id [] none all = tt
+empty_zip asked months id (g ∷ gs) none all = (
+  record { element = refl; holds = rw (months_of-none months id g.element none) (all.0 (is_kept asked g.element)) },
+  empty_zip asked months id gs none all.1,
+)
 
--- gatherings of nothing, if there were none
-pub by_element-new : (asked : Keep) (months : List Month) (id : StationId) (before after : List Gathering)
-    → (length before ≡ 5 → ⊥) → AreByElement asked months id before
-    → map (λ g. g.element) after ≡ elements → AllByRecursion GathersNothing after
-    → AllZip (IsGatheringOf asked months id) after elements
-by_element-new asked months id [] after few is elements_are all =
-    empty_zip asked months id after elements is elements_are all
-by_element-new asked months id (g ∷ gs) after few is elements_are all = absurd
-    (few (sym (AllZip-long (IsGatheringOf asked months id) (g ∷ gs) elements is.1)))
+-- five gatherings of nothing have what there was of a station without gatherings
+pub opens-nothing : (five : List Gathering) → FiveOfNothing five → Opens [] five
+opens-nothing five is = record {
+  holds = λ asked before id none.
+      subst (λ (es : List Element). AllZip (IsGatheringOf asked before id) five es) is.elements
+      (empty_zip asked before id five none is.nothing);
+}
 
--- five gatherings fit the elements
-pub by_element-five : (asked : Keep) (months : List Month) (id : StationId) (gs : List Gathering) → length gs ≡ 5
-    → AreByElement asked months id gs → AllZip (IsGatheringOf asked months id) gs elements
-by_element-five asked months id [] five is = absurd (omega (arith, five))
-by_element-five asked months id (g ∷ gs) five is = is.1
+-- so have a station's five gatherings
+pub opens-five : (gs : List Gathering) → length gs ≡ 5 → Opens gs gs
+opens-five [] five = absurd (omega arith)
+opens-five (g ∷ gs) five = record { holds = λ asked before id is. is.1 }
 
 -- two elements are the same in both directions
 same_element-turned : (a b : Element) → same_element a b ≡ same_element b a
@@ -85,59 +74,54 @@ pub months_of-this : (before : List Month) (m : Month) (id : StationId) (e : Ele
 months_of-this before m id e this =
     rw (filter-append (λ x. same_id x.id id && same_element x.element e) before (m ∷ []), this)
 
--- a month of another station or element changes no gathering
-pub gathering-other : (asked : Keep) (before : List Month) (m : Month) (id : StationId) (g : Gathering)
-    (e : Element) → (same_id m.id id && same_element m.element e) ≡ false → IsGatheringOf asked before id g e
-    → IsGatheringOf asked (before ++ m ∷ []) id g e
-gathering-other asked before m id g e other is =
-    record { element = is.element; holds = rw (months_of-other before m id e other) is.holds }
-
--- a month of another station or of other elements changes none of these gatherings
-pub other_elements : (asked : Keep) (before : List Month) (m : Month) (id : StationId) (gs : List Gathering)
-    (es : List Element) → AllByRecursion (λ e. (same_id m.id id && same_element m.element e) ≡ false) es
-    → AllZip (IsGatheringOf asked before id) gs es → AllZip (IsGatheringOf asked (before ++ m ∷ []) id) gs es
-other_elements asked before m id [] [] other is = tt
-other_elements asked before m id [] (e ∷ es) other is = absurd is
-other_elements asked before m id (g ∷ gs) [] other is = absurd is
-other_elements asked before m id (g ∷ gs) (e ∷ es) other is = (
-  gathering-other asked before m id g e other.0 is.0,
-  other_elements asked before m id gs es other.1 is.1,
-)
-
 -- a month of this station and element passes the test
 same_here : (m : Month) (id : StationId) (e : Element) → m.id ≡ id → e ≡ m.element
     → (same_id m.id id && same_element m.element e) ≡ true
 same_here m id e of at =
     rw (← of, at, nat_list_eq_equiv.refl m.id.0) (nat_eq_equiv.refl (element_index m.element))
 
--- a gathering with one month more, among those of other elements
-put_gathering : (asked : Keep) (before : List Month) (m : Month) (id : StationId) (gs : List Gathering)
-    (es : List Element) (k : ℕ) (g new : Gathering) → m.id ≡ id → IsDistinct same_element es
-    → AllZip (IsGatheringOf asked before id) gs es → slice_get es k ≡ Some m.element → g ≡ get_or gs k g
-    → new.element ≡ g.element
-    → IsGathering (is_kept asked m.element) new (months_of before id m.element ++ m ∷ [])
-    → AllZip (IsGatheringOf asked (before ++ m ∷ []) id) (set gs k new) es
-unfolding IsDistinct
-put_gathering asked before m id [] [] k g new of apart is at here same holds = tt
-put_gathering asked before m id [] (e ∷ es) k g new of apart is at here same holds = absurd is
-put_gathering asked before m id (x ∷ xs) [] k g new of apart is at here same holds = absurd is
-put_gathering asked before m id (x ∷ xs) (e ∷ es) zero g new of apart is at here same holds =
-    let this : e ≡ m.element = cc in
-    let others : AllByRecursion (λ d. same_element m.element d ≡ false) es = rw (← this) apart.0 in
-    let none = each-weaker _ (λ d. (same_id m.id id && same_element m.element d) ≡ false) es
-    (λ d. and_right (same_id m.id id) (same_element m.element d)) others in (
-      record {
-        element = same ∙ ap (λ (h : Gathering). h.element) here ∙ is.0.element;
-        holds = rw (months_of-this before m id e (same_here m id e of this), this) holds;
-      },
-      other_elements asked before m id xs es none is.1,
-    )
-put_gathering asked before m id (x ∷ xs) (e ∷ es) (suc k) g new of apart is at here same holds =
-    let other : same_element m.element e ≡ false = same_element-turned m.element e
-    ∙ from_all (λ d. same_element e d ≡ false) es k m.element apart.0 at in (
-      gathering-other asked before m id x e (and_right (same_id m.id id) (same_element m.element e) other) is.0,
-      put_gathering asked before m id xs es k g new of apart.1 is.1 at here same holds,
-    )
+module _ (asked : Keep) (before : List Month) (m : Month) (id : StationId) where
+  -- a month of another station or element changes no gathering
+  gathering-other : (g : Gathering) (e : Element) → (same_id m.id id && same_element m.element e) ≡ false
+      → IsGatheringOf asked before id g e → IsGatheringOf asked (before ++ m ∷ []) id g e
+  gathering-other g e other is =
+      record { element = is.element; holds = rw (months_of-other before m id e other) is.holds }
+
+  -- a month of another station or of other elements changes none of these gatherings
+  pub other_elements : (gs : List Gathering) (es : List Element)
+      → AllByRecursion (λ e. (same_id m.id id && same_element m.element e) ≡ false) es
+      → AllZip (IsGatheringOf asked before id) gs es → AllZip (IsGatheringOf asked (before ++ m ∷ []) id) gs es
+  other_elements [] [] other is = tt
+  other_elements (g ∷ gs) (e ∷ es) other is =
+      (gathering-other g e other.0 is.0, other_elements gs es other.1 is.1)
+  other_elements _ _ other is = absurd is
+
+  -- a gathering with one month more, among those of other elements
+  put_gathering : (gs : List Gathering) (es : List Element) (k : ℕ) (g new : Gathering) → m.id ≡ id
+      → IsDistinct same_element es → AllZip (IsGatheringOf asked before id) gs es → slice_get es k ≡ Some m.element
+      → g ≡ get_or gs k g → new.element ≡ g.element
+      → IsGathering (is_kept asked m.element) new (months_of before id m.element ++ m ∷ [])
+      → AllZip (IsGatheringOf asked (before ++ m ∷ []) id) (set gs k new) es
+  unfolding IsDistinct
+  put_gathering [] [] k g new of apart is at here same holds = tt
+  put_gathering (x ∷ xs) (e ∷ es) zero g new of apart is at here same holds =
+      let this : e ≡ m.element = cc in
+      let others : AllByRecursion (λ d. same_element m.element d ≡ false) es = rw (← this) apart.0 in
+      let none = each-weaker _ (λ d. (same_id m.id id && same_element m.element d) ≡ false) es
+      (λ d. and_right (same_id m.id id) (same_element m.element d)) others in (
+        record {
+          element = same ∙ ap (λ (h : Gathering). h.element) here ∙ is.0.element;
+          holds = rw (months_of-this before m id e (same_here m id e of this), this) holds;
+        },
+        other_elements xs es none is.1,
+      )
+  put_gathering (x ∷ xs) (e ∷ es) (suc k) g new of apart is at here same holds =
+      let other : same_element m.element e ≡ false = same_element-turned m.element e
+      ∙ from_all (λ d. same_element e d ≡ false) es k m.element apart.0 at in (
+        gathering-other x e (and_right (same_id m.id id) (same_element m.element e) other) is.0,
+        put_gathering xs es k g new of apart.1 is.1 at here same holds,
+      )
+  put_gathering _ _ k g new of apart is at here same holds = absurd is
 
 -- no two of the elements are the same
 pub elements_differ : IsDistinct same_element elements
@@ -149,22 +133,17 @@ elements_differ = (
 
 -- each element is at its place
 pub element_at : (e : Element) → slice_get elements (element_index e) ≡ Some e
-element_at Prcp = refl
-element_at Snow = refl
-element_at Snwd = refl
-element_at Tmax = refl
-element_at Tmin = refl
+element_at e = grind arith
 
 -- the gathering of an element has its months
 pub found_at : (asked : Keep) (gs : List Gathering) (es : List Element) (months : List Month)
     (id : StationId) (k : ℕ) (e : Element) (g : Gathering) → AllZip (IsGatheringOf asked months id) gs es
     → slice_get es k ≡ Some e → g ≡ get_or gs k g → IsGathering (is_kept asked e) g (months_of months id e)
 found_at asked [] [] months id k e g is at here = absurd cc
-found_at asked [] (d ∷ ds) months id k e g is at here = absurd is
-found_at asked (x ∷ xs) [] months id k e g is at here = absurd is
 found_at asked (x ∷ xs) (d ∷ ds) months id zero e g is at here =
     let this : d ≡ e = cc in rw (here, ← this) is.0.holds
 found_at asked (x ∷ xs) (d ∷ ds) months id (suc k) e g is at here = found_at asked xs ds months id k e g is.1 at here
+found_at asked _ _ months id k e g is at here = absurd is
 
 -- the gathering of an element has some months, with their days or without
 pub some_at : (asked : Keep) (kept : Bool) (five : List Gathering) (before : List Month) (id : StationId)
@@ -185,12 +164,10 @@ any_if p false e x xs = refl
 pub repeats-is : (before : List Month) (m : Month) → list_any (same_month m) before
     ≡ list_any (same_time m) (months_of before m.id m.element)
 repeats-is [] m = refl
-repeats-is (x ∷ xs) m = rw (
-  and_assoc (same_id m.id x.id && same_element m.element x.element) (m.year == x.year) (m.month == x.month),
-  same_id-turned m.id x.id,
-  same_element-turned m.element x.element,
-  repeats-is xs m,
-) (any_if (same_time m) (same_id x.id m.id) (same_element x.element m.element) x (months_of xs m.id m.element))
+repeats-is (x ∷ xs) m =
+    rw (and_assoc (same_id m.id x.id && same_element m.element x.element) (m.year == x.year) (m.month == x.month))
+    (rw (same_id-turned m.id x.id, same_element-turned m.element x.element, repeats-is xs m)
+    (any_if (same_time m) (same_id x.id m.id) (same_element x.element m.element) x (months_of xs m.id m.element)))
 
 -- five gatherings are gatherings by element, if there is a month
 kept_by_element : (asked : Keep) (months : List Month) (id : StationId) (gs : List Gathering)
@@ -221,23 +198,25 @@ settled_at asked before id (x ∷ xs) k g new here same keeps is =
     (set_first (IsGatheringOf asked before id) (x ∷ xs) elements k g new is.1 here (λ e of.
     record { element = same ∙ of.element; holds = keeps.holds (is_kept asked e) (months_of before id e) of.holds }))
 
+-- an element's place is one of five
+pub element_within : (e : Element) → element_index e < 5
+element_within e = grind arith
+
 -- one month more of a station, unless it was read before, if the gathering of its element adds it
-pub station-more : (asked : Keep) (m : Month) (old mid : StationGathering) (k : ℕ) (g now : Gathering)
-    (added : Bool) → m.id ≡ old.id → Opens old mid → k ≡ element_index m.element → g ≡ get_or mid.by_element.items k g
-    → now.element ≡ g.element → Gathers (is_kept asked m.element) g now m added
-    → (before : List Month) → AreByElement asked before old.id old.by_element.items
-    → (added ≡ not (list_any (same_month m) before))
-    × OnTrue added (AreByElement asked (before ++ m ∷ []) old.id (set mid.by_element.items k now))
-station-more asked m old mid k g now added of opens place here same adds before held =
-    let five = mid.by_element.items in
-    let at : slice_get elements k ≡ Some m.element = ap (slice_get elements) place ∙ element_at m.element in
-    let all = opens.holds asked before held in
-    let months = months_of before old.id m.element in
-    let own = found_at asked five elements before old.id k m.element g all at here in
-    let repeated = repeats-is before m
-    ∙ ap (λ (i : StationId). list_any (same_time m) (months_of before i m.element)) of in (
-      adds.is_new months own ∙ ap not (sym repeated),
-      OnTrue_from added _ (λ yes. kept_by_element asked (before ++ m ∷ []) old.id (set five k now)
-          (has_month-own before m old.id of) (put_gathering asked before m old.id five elements k g now of elements_differ all at here same
-          (OnTrue_at yes (adds.holds months own)))),
-    )
+pub station-more : (asked : Keep) (m : Month) (five : List Gathering) (k : ℕ) (g now : Gathering)
+    (added kept : Bool) (e : Element) → k ≡ element_index e → e ≡ m.element → is_kept asked e ≡ kept
+    → g ≡ get_or five k g → now.element ≡ g.element → Gathers kept g now m added
+    → FiveGather asked five (set five k now) m added
+station-more asked m five k g now added kept e place of kept_is here same gathers =
+    let at : slice_get elements k ≡ Some m.element = rw (place, of) (element_at m.element) in
+    let adds : Gathers (is_kept asked m.element) g now m added =
+    subst (λ (b : Bool). Gathers b g now m added) (sym kept_is ∙ ap (is_kept asked) of) gathers in
+    let own = λ (before : List Month) (all : AreFiveOf asked before m.id five).
+    found_at asked five elements before m.id k m.element g all at here in
+    record {
+      is_new = λ before all.
+          adds.is_new (months_of before m.id m.element) (own before all) ∙ ap not (sym (repeats-is before m));
+      holds = λ before all. OnTrue_from added _ (λ yes. kept_by_element asked (before ++ m ∷ []) m.id (set five k now)
+          (has_month-own before m m.id refl) (put_gathering asked before m m.id five elements k g now refl elements_differ
+          all at here same (OnTrue_at yes (adds.holds (months_of before m.id m.element) (own before all)))));
+    }

@@ -1,8 +1,8 @@
 -- The lines of unlisted stations in files are those in their parts, and those that name an element and no listed station.
-use Rattle.std.proofs.Common.{◌≡◌, ℕ, ◌+◌, Bool, true, false, cond, List, [], ◌∷◌, ◌++◌, map, Option, None, Some, refl}
-use Rattle.std.proofs.Common.{sym, ap, ◌∙◌, arith}
-use Rattle.std.specs.Prelude.{◌&&◌, ◌||◌, ◌-◌, ◌^◌, min, not}
-use Rattle.std.specs.List.{cons_option, count_by, filter_map, find, flat_map, list_any, sum}
+use Rattle.std.proofs.Common.{◌≡◌, ℕ, ◌+◌, Bool, false, cond, List, [], ◌∷◌, ◌++◌, map, Option, None, Some, refl}
+use Rattle.std.proofs.Common.{ap, arith}
+use Rattle.std.specs.Prelude.{◌&&◌, ◌-◌, ◌^◌, min, not}
+use Rattle.std.specs.List.{cons_option, count_by, filter_map, find, flat_map, list_any}
 use Rattle.std.specs.Option.{option_map, option_map_or}
 use Rattle.std.proofs.lemmas.Grind.{flat_map-append}
 use Rattle.std.proofs.lemmas.List.Elements.{filter_map-append}
@@ -23,12 +23,6 @@ use Rattle.ghcn_series.specs.Said.{is_unlisted}
 use Rattle.ghcn_series.specs.SaidLists.{month_said, months_said, unlisted_said}
 use Rattle.ghcn_series.specs.Says.{in_64_bits}
 
--- the months of files, and of others after them
-months-append : (files others : List (List ℕ)) → months_said (files ++ others) ≡ months_said files ++ months_said others
-months-append files others =
-    ap (filter_map month_said) (flat_map-append lines files others)
-    ∙ filter_map-append month_said (flat_map lines files) (flat_map lines others)
-
 module _ (stations : List Station) where
   -- how many lines of files belong to stations that aren't listed
   abbrev unlisted_in : List (List ℕ) → ℕ
@@ -38,22 +32,18 @@ module _ (stations : List Station) where
   unlisted-append : (files others : List (List ℕ))
       → unlisted_in (files ++ others) ≡ unlisted_in files + unlisted_in others
   unlisted-append files others =
-      ap (λ (ms : List Month). count_by (λ m. not (is_listed stations m.id)) ms) (months-append files others)
-      ∙ sum_by-append (λ (m : Month). cond (not (is_listed stations m.id)) 1 0) (months_said files) (months_said others)
-
--- in a sum a number may be replaced by itself as 64 bits hold it
-in_bits : (a b s : ℕ) → in_64_bits b ≡ in_64_bits s → in_64_bits (a + b) ≡ in_64_bits (in_64_bits a + s)
-in_bits a b s e = omega (arith, e)
+      rw (flat_map-append, filter_map-append)
+      (sum_by-append (λ (m : Month). cond (not (is_listed stations m.id)) 1 0) (months_said files) (months_said others))
 
 -- so the numbers of the parts add up
 pub unlisted-add-up : UnlistedAddUp
 unlisted-add-up stations [] = refl
-unlisted-add-up stations (p ∷ ps) =
-    let all : List ℕ = map (unlisted_said stations) ps in
-    ap in_64_bits (unlisted-append stations p (files_together ps))
-    ∙ in_bits (unlisted_in stations p) (unlisted_in stations (files_together ps)) (sum all)
-    (unlisted-add-up stations ps)
-    ∙ ap in_64_bits (sym (sum_by-cons (λ (n : ℕ). n) (unlisted_said stations p) all))
+unlisted-add-up stations (p ∷ ps) = omega (
+  arith,
+  unlisted-append stations p (files_together ps),
+  unlisted-add-up stations ps,
+  sum_by-cons (λ (n : ℕ). n) (unlisted_said stations p) (map (unlisted_said stations) ps),
+)
 
 -- ---- by their columns
 
@@ -61,36 +51,20 @@ unlisted-add-up stations (p ∷ ps) =
 found_any : {X Y : Type 0} (test : X → Bool) (make : X → Y) (p : Y → Bool) (b : Bool) → ((x : X) → p (make x) ≡ b)
     → (xs : List X) → option_map_or p (option_map make (find test xs)) false ≡ (list_any test xs && b)
 found_any test make p b alike [] = refl
-found_any test make p b alike (x ∷ xs) =
-    elim (test x) as (λ t. option_map_or p (option_map make (cond t (Some x) (find test xs))) false
-    ≡ ((t || list_any test xs) && b)) [
-      | true ↦ alike x
-      | false ↦ found_any test make p b alike xs
-    ]
-
--- one more is counted if it passes
-one_more : (t : Bool) (n : ℕ) → cond t 1 0 + n ≡ cond t (1 + n) n
-one_more true n = omega arith
-one_more false n = omega arith
+found_any test make p b alike (x ∷ xs) = grind (arith, alike x, found_any test make p b alike xs)
 
 module _ {X Y : Type 0} (make : X → Option Y) (p : Y → Bool) (q : X → Bool)
     (same : (x : X) → option_map_or p (make x) false ≡ q x) where
-  -- with one thing more
-  count_more : (x : X) (xs : List X) → count_by p (filter_map make (x ∷ xs))
-      ≡ cond (q x) (1 + count_by p (filter_map make xs)) (count_by p (filter_map make xs))
-  count_more x xs =
-      let n : ℕ = count_by p (filter_map make xs) in
-      elim (make x) as (λ o. option_map_or p o false ≡ q x → count_by p (cons_option o (filter_map make xs))
-      ≡ cond (q x) (1 + n) n) [
-        | None ↦ λ e. ap (λ (b : Bool). cond b (1 + n) n) e
-        | Some y ↦ λ e.
-            sum_by-cons (λ (z : Y). cond (p z) 1 0) y (filter_map make xs) ∙ one_more (p y) n
-            ∙ ap (λ (b : Bool). cond b (1 + n) n) e
-      ] (same x)
+  -- with what is made of one thing more, if something is
+  count_more : (o : Option Y) (ys : List Y) (passes : Bool) → option_map_or p o false ≡ passes
+      → count_by p (cons_option o ys) ≡ cond passes (1 + count_by p ys) (count_by p ys)
+  count_more None ys passes is = ap (λ (b : Bool). cond b (1 + count_by p ys) (count_by p ys)) is
+  count_more (Some y) ys passes is = grind (arith, sum_by-cons (λ (z : Y). cond (p z) 1 0) y ys)
 
   -- of what is made of things, as many pass as of the things
   count_made : (xs : List X) → count_by p (filter_map make xs) ≡ count_by q xs
-  count_made = is_count_by (λ (xs : List X). count_by p (filter_map make xs)) q refl count_more
+  count_made = is_count_by (λ (xs : List X). count_by p (filter_map make xs)) q refl
+      (λ x xs. count_more (make x) (filter_map make xs) (q x) (same x))
 
 -- a line says a month of an unlisted station if it names an element and no listed station
 unlisted_line : (stations : List Station) (line : List ℕ)

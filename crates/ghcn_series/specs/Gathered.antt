@@ -17,13 +17,12 @@ use Rattle.ghcn_files.specs.Listed.{AreListed}
 use Rattle.ghcn_files.specs.Months.{IsMonth}
 use Rattle.ghcn_files.specs.Rows.{no_reading}
 use Rattle.ghcn_series.specs.declared.gathering.Gathering.{Gathering}
-use Rattle.ghcn_series.specs.declared.station.StationGathering.{StationGathering}
 use Rattle.ghcn_series.specs.declared.reader.Reader.{Reader}
 use Rattle.ghcn_series.specs.declared.rows.RowReader.{RowReader}
 use Rattle.ghcn_series.specs.declared.fault.DataFault.{DataFault}
 use Rattle.ghcn_series.specs.declared.fault.DataFault.TheVariants.{TooManyFiles, DailyLine, Memory}
 use Rattle.ghcn_series.specs.Series.{DayValue, Usable, value_on, by_day}
-use Rattle.ghcn_series.specs.Parts.{AreParts, AreEmpty, days_held}
+use Rattle.ghcn_series.specs.Parts.{AreParts, days_held}
 use Rattle.ghcn_series.specs.SeenMonths.{has_month}
 use Rattle.ghcn_series.specs.DailyFaults.{FileLine, month_on, is_listed, daily_fault, HasFirst}
 use Rattle.ghcn_series.specs.Says.{Fact, fact_of, in_64_bits}
@@ -88,17 +87,18 @@ pub record IsGatheringOf (asked : Keep) (months : List Month) (id : StationId) (
   pub element : g.element ≡ e
   pub holds : IsGathering (is_kept asked e) g (months_of months id e)
 
+-- five gatherings have what these months say of a station, whether it has one or none
+abbrev pub AreFiveOf : Keep → List Month → StationId → List Gathering → Type 0
+AreFiveOf asked months id gs = AllZip (IsGatheringOf asked months id) gs elements
+
 -- gatherings by element have what these months say of a station: there are some if and only if it has a month
 abbrev pub AreByElement : Keep → List Month → StationId → List Gathering → Type 0
 AreByElement asked months id [] = has_month_of months id ≡ false
-AreByElement asked months id (g ∷ gs) =
-    (has_month_of months id ≡ true) × AllZip (IsGatheringOf asked months id) (g ∷ gs) elements
+AreByElement asked months id (g ∷ gs) = (has_month_of months id ≡ true) × AreFiveOf asked months id (g ∷ gs)
 
--- a station's gathering has what these months say of it
-pub record IsStationOf (asked : Keep) (months : List Month) (s : Station) (g : StationGathering) : Type 0
-  where
-    pub id : g.id ≡ s.id
-    pub holds : AreByElement asked months g.id g.by_element.items
+-- a listed station's gatherings have what these months say of it
+abbrev pub IsStationOf : Keep → List Month → Station → List Gathering → Type 0
+IsStationOf asked months s gs = AreByElement asked months s.id gs
 
 -- a gathering can become a series: its months belong to its element and are right by themselves
 pub record IsReady (g : Gathering) : Type 0 where
@@ -114,16 +114,21 @@ gathered_series id g =
     else Some (record { id = id; element = g.element; days = sorted_by by_day (gathered_days g) })
 
 -- the series of a station, by element
-abbrev pub station_series : StationGathering → List Usable
-station_series g = filter_map (gathered_series g.id) g.by_element.items
+abbrev pub station_series : StationId → List Gathering → List Usable
+station_series id gs = filter_map (gathered_series id) gs
+
+-- the series of each station, by element
+abbrev pub series_by_place : List Station → List (List Gathering) → List (List Usable)
+series_by_place [] all = []
+series_by_place (s ∷ ss) [] = []
+series_by_place (s ∷ ss) (gs ∷ all) = station_series s.id gs ∷ series_by_place ss all
 
 -- a reader has read these months, none of them before
 pub record HasRead (r : Reader) (months : List Month) : Type 0 where
   pub listed : AreListed r.stations
   pub right : AllByRecursion IsMonth months
   pub unlisted : r.unlisted ≡ in_64_bits (count_by (λ m. not (is_listed r.stations m.id)) months)
-  pub gathered : AllZip (IsStationOf r.keep months) r.stations r.gathered.items
-  pub spare : AllByRecursion AreEmpty r.spare.items
+  pub gathered : AllZip (IsStationOf r.keep months) r.stations r.gathered.stations
 
 -- a reader has read these lines, none of which has an error
 pub record HasReadLines (r : Reader) (ls : List FileLine) : Type 0 where

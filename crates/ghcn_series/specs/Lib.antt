@@ -4,6 +4,7 @@ pub mod Says
 pub mod Held
 pub mod Kept
 pub mod SeenMonths
+pub mod ByPlace
 pub mod Gathered
 pub mod Steps
 pub mod Fed

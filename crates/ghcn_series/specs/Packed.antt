@@ -1,9 +1,11 @@
 -- Packed columns: blocks of 32 days, each with a word, whose bit j says that day j is present, and the days' values.
-use Rattle.std.specs.Prelude.{◌≡◌, ℕ, ◌<◌, ◌≤◌, ◌^◌, ◌==◌, Bool, true, List, [], ◌∷◌, ◌++◌, length, get_or, ⊤}
+use Rattle.std.specs.Prelude.{◌≡◌, ℕ, ◌+◌, ◌<◌, ◌≤◌, ◌^◌, ◌==◌, Bool, true, if◌then◌else◌, List, [], ◌∷◌, ◌++◌, length}
+use Rattle.std.specs.Prelude.{get_or, ⊤}
 use Rattle.std.specs.Prelude.{Option, Some, None, ℤ, pos, ◌+ℤ◌, ◌*ℤ◌, ◌≤ℤ◌, ◌<ℤ◌, int_le}
 use Rattle.std.specs.Int.{bit_at, int_rem_euclid, trailing_zeros, w32}
 use Rattle.std.specs.List.{Contains, find, filter_map, flat_map, range_with_len, zip, AllByRecursion}
 use Rattle.std.specs.Option.{option_map}
+use Rattle.std.specs.Ordering.{int_eq}
 use Rattle.ghcn_fields.specs.Days.{is_day, block_of}
 pub use Rattle.ghcn_files.specs.Rows.{if_so, value_at}
 use Rattle.ghcn_series.specs.Series.{DayValue, value_on}
@@ -147,3 +149,38 @@ pub record TakesRun (days : List DayValue) (ends : ℤ × ℤ) (left : List DayV
   pub row : AreInARow ends.0 ends.1 run
   pub parts : days ≡ run ++ left
   pub apart : AllByRecursion (λ x. (ends.1 +ℤ pos 1) <ℤ x.0) left
+
+-- of some days after another one, how many don't come right after the day before them
+abbrev pub runs_after : ℤ → List DayValue → ℕ
+runs_after day [] = 0
+runs_after day (x ∷ xs) = (if int_eq x.0 (day +ℤ pos 1) then 0 else 1) + runs_after x.0 xs
+
+-- how many runs some days have: the first day begins one, and so does each day that doesn't come right after the day
+-- before it
+abbrev pub run_count : List DayValue → ℕ
+run_count [] = 0
+run_count (x ∷ xs) = 1 + runs_after x.0 xs
+
+-- the days of a word's bits have that many runs, in whatever block and with whatever values
+abbrev pub HasRuns : ℕ → ℕ → Type 0
+HasRuns word count = (number : ℤ) (values : List ℤ) → run_count (block_days (number, (word, values))) ≡ count
+
+-- the highest bits of a word that follow one another begin at a place
+pub record BeginsLastRun (word start : ℕ) : Type 0 where
+  pub top : ℕ
+  pub some : start ≤ top
+  pub few : top < 32
+  pub row : (j : ℕ) → start ≤ j → j ≤ top → bit_at word j ≡ 1
+  pub ends : (j : ℕ) → top < j → bit_at word j ≡ 0
+  pub begins : (j : ℕ) → j + 1 ≡ start → bit_at word j ≡ 0
+
+-- the first of some days are taken, as that many runs of days of one block, and those that are left are the last run,
+-- if there is a day at all, and all lie past the day after each of these
+pub record TakesToLastRun (days : List DayValue) (count : ℕ) (left : List DayValue) : Type 0 where
+  pub runs : List DayValue
+  pub parts : days ≡ runs ++ left
+  pub number : run_count runs ≡ count
+  pub apart : AllByRecursion (λ x. AllByRecursion (λ y. (x.0 +ℤ pos 1) <ℤ y.0) left) runs
+  pub last : 0 < length days → run_count left ≡ 1
+  pub block : ℤ
+  pub within : AllByRecursion (λ x. block_of x.0 ≡ block) runs

@@ -87,6 +87,23 @@ impl<'a> BlockDays<'a> {
         Some((first, last))
     }
 
+    /// Takes the days before the last run, and returns how many runs these are. A run is days that follow one another,
+    /// as many as there are.
+    ///
+    /// A caller that needs only the number of short runs needs no look at each of them.
+    #[inline(always)]
+    pub fn take_to_last_run(&mut self) -> u32
+        ensures { packed.TakesToLastRun self.old result self.new }
+    {
+        if self.left == 0 {
+            return 0;
+        }
+        let before = first_places(start_of_last_run(self.left));
+        let taken = self.left & before;
+        self.left &= !before;
+        runs_of(taken)
+    }
+
     /// How many days are to come.
     pub fn len(&self) -> u32
         ensures { result ≡ length self.now }
@@ -183,6 +200,23 @@ fn end_of_run(word: u32) -> u32
 {
     let place = word.trailing_zeros();
     place + (word >> place).trailing_ones()
+}
+
+/// The place at which the highest bits of a word that follow one another begin.
+fn start_of_last_run(word: u32) -> u32
+    requires { 0 < word }
+    ensures { packed.BeginsLastRun word result }
+{
+    // The places below the highest bit that have none.
+    let gaps = first_places(word.ilog2()) & !word;
+    32 - gaps.leading_zeros()
+}
+
+/// How many runs the days of a word's bits have: each run ends with a bit that has none after it.
+fn runs_of(word: u32) -> u32
+    ensures { packed.HasRuns word result }
+{
+    (word & !(word >> 1)).count_ones()
 }
 
 /// The places of the values that aren't below a least one, as bits of a word.

@@ -13,6 +13,7 @@ mod days;
 mod fault;
 mod form;
 mod gathering;
+mod gatherings;
 mod laws;
 mod months;
 mod parts;

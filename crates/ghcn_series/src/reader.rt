@@ -1,21 +1,17 @@
 //! Reads the lines of daily files one after another.
 
-ghost use Rattle.std.specs.Prelude.{◌≡◌, length, IfOk, OnOk};
-ghost use Rattle.std.specs.Bool.{OnTrue, OnFalse};
+ghost use Rattle.std.specs.Prelude.{◌≡◌, IfOk};
 ghost use Rattle.ghcn_files.specs.Elements.{is_kept};
 ghost use Rattle.ghcn_files.specs.Listed.{AreListed, place_of};
-ghost use Rattle.ghcn_series.specs.Steps.{HasSomeLines, ReadsMonth, KeepsRead, HoldsAll, IsForMonth, ForMonth};
-ghost use Rattle.ghcn_series.specs.Steps.{JoinStations, OneHasBoth};
+ghost use Rattle.ghcn_series.specs.Steps.{HasSomeLines, ReadsMonth, HoldsAll, IsForMonth, ForMonth};
 
 use crate::counts::{LineCounts, Warnings};
 use crate::cutter::{JoinLines, LineReader};
-use crate::parts::Parts;
-use crate::station::StationGathering;
+use crate::gatherings::Gatherings;
 use crate::{DailyWhy, Data, DataFault};
 use ghcn_fields::Memory;
 use ghcn_files::{Keep, MonthRow, StationId, Stations, read_days};
 use std::alloc::Global;
-use std::mem;
 
 /// What was read so far.
 #[derive(Drop)]
@@ -23,12 +19,8 @@ pub struct Reader {
     /// Of which elements the days are kept.
     pub(crate) keep: Keep,
     stations: Stations,
-    /// Of each listed station, in their order.
-    gathered: Vec<StationGathering>,
-    /// The place of the station of the line before, since the lines of a station mostly come together.
-    last: usize,
-    /// Memory without days, in which the days of the next station grow.
-    spare: Vec<Parts>,
+    /// What was read of each of these stations.
+    gathered: Gatherings,
     /// How many months of stations that aren't listed were skipped.
     unlisted: u64,
 }
@@ -45,18 +37,11 @@ impl LineReader for Reader {
     ghost makes = { HoldFiles };
 
     fn new(alloc: Global, stations: Stations, keep: Keep) -> Result<Self, Memory> {
-        let mut gathered = Vec::with_capacity(alloc, stations.len() as usize)?;
-        let mut place = 0;
-        while let Some(station) = stations.at(place) {
-            gathered.push(StationGathering::new(alloc, station.id))?;
-            place += 1;
-        }
+        let gathered = Gatherings::new(alloc, &stations)?;
         Ok(Reader {
             keep,
             stations,
             gathered,
-            last: 0,
-            spare: Vec::new(alloc),
             unlisted: 0,
         })
     }
@@ -92,8 +77,9 @@ impl LineReader for Reader {
 }
 
 impl JoinLines for Reader {
-    fn join(mut self, mut next: Self) -> Result<Option<Self>, Memory> {
-        if !join_stations(&mut self.gathered, &mut next.gathered) {
+    fn join(mut self, next: Self) -> Result<Option<Self>, Memory> {
+        let is_joined = self.gathered.join(next.gathered)?;
+        if !is_joined {
             return Ok(None);
         }
         self.unlisted = self.unlisted.saturating_add(next.unlisted);
@@ -113,10 +99,7 @@ impl Reader {
             unlisted,
             ..
         } = self;
-        let mut series = Vec::with_capacity(alloc, gathered.len())?;
-        for station in gathered {
-            series.push(station.into_series(alloc)?)?;
-        }
+        let series = gathered.into_series(alloc, &stations)?;
         Ok(Data::of(stations, series, unlisted))
     }
 
@@ -132,32 +115,11 @@ impl Reader {
             (λ m. ReadsMonth self.old self.new m added)) }
     {
         match self.place(&row.id) {
-            Some(place) => {
-                self.turn_to(alloc, place)?;
-                self.gathered[place].add(alloc, row, self.keep, &mut self.spare)
-            }
+            Some(place) => self.gathered.add(alloc, place, row, self.keep),
             None => {
                 self.unlisted = self.unlisted.saturating_add(1);
                 Ok(true)
             }
-        }
-    }
-
-    /// Notes whose lines come now. The days of the station before are left in memory of exactly
-    /// their size.
-    fn turn_to(&mut self, alloc: Global, place: usize) -> Result<(), Memory>
-        requires { HasSomeLines self.old }
-        ensures keep { self.new.keep ≡ self.old.keep }
-        ensures stations { self.new.stations ≡ self.old.stations }
-        ensures same { OnOk result (KeepsRead self.old self.new) }
-    {
-        if place == self.last {
-            return Ok(());
-        }
-        let last = mem::replace(&mut self.last, place);
-        match self.gathered.get_mut(last) {
-            Some(station) => station.shrink_to_fit(alloc, &mut self.spare),
-            None => Ok(()),
         }
     }
 
@@ -166,28 +128,15 @@ impl Reader {
         requires { AreListed self.now.stations }
         ensures { result ≡ place_of self.now.stations id.now }
     {
-        match self.stations.at(self.last as u64) {
-            Some(station) if station.id.is_same(id) => Some(self.last),
+        let last = self.gathered.last();
+        match self.stations.at(last as u64) {
+            Some(station) if station.id.is_same(id) => Some(last),
             _ => {
                 let place = self.stations.place(id)?;
                 Some(place as usize)
             }
         }
     }
-}
-
-/// Takes over the months of other gatherings of the same stations, or returns false if a station has months in both.
-fn join_stations(stations: &mut [StationGathering], others: &mut [StationGathering]) -> bool
-    requires { length others.old ≡ length stations.old }
-    ensures joined { OnTrue result (JoinStations stations.old others.old stations.new) }
-    ensures apart { OnFalse result (OneHasBoth stations.old others.old) }
-{
-    for place in 0..stations.len() {
-        if !stations[place].join(&mut others[place]) {
-            return false;
-        }
-    }
-    true
 }
 
 /// The error of a line.

@@ -16,6 +16,7 @@ use Rattle.rank_scores.specs.declared.candidate.Candidate.{Candidate}
 use Rattle.rank_scores.specs.Candidates.{candidates}
 use Rattle.rank_scores.specs.Order.{best, kth_score, precedes}
 use Rattle.rank_scores.specs.OneElement.{data_for}
+use Rattle.rank_scores.specs.Spells.{first_with, ended_by}
 
 -- the first station
 abbrev pub id_a : StationId
@@ -245,3 +246,10 @@ needed_series : ((data_for (ask 1 (Highest Tmax) None) rain_and_heat).series
     ≡ series id_a Tmax ((pos 18444, pos 311) ∷ []) ∷ [])
     × ((data_for (ask 1 Dry None) rain_and_heat).series ≡ series id_a Prcp rain ∷ [])
 needed_series = (refl, refl)
+
+-- the day right after an open spell belongs to it, and a later day ends it
+day_after_spell : (first_with (Some (pos 0, pos 4)) (pos 5) ≡ pos 0)
+    × (ended_by id_a (Some (pos 0, pos 4)) (pos 5) ≡ [])
+    × (first_with (Some (pos 0, pos 4)) (pos 6) ≡ pos 6)
+    × (ended_by id_a (Some (pos 0, pos 4)) (pos 6) ≡ found id_a (pos 0) (pos 4) (pos 5) ∷ [])
+day_after_spell = (refl, refl, refl, refl)

@@ -20,3 +20,4 @@ pub mod CutSeries
 pub mod CutParts
 pub mod CutMorsels
 pub mod LowDays
+pub mod AddedRuns

@@ -1,7 +1,7 @@
 -- Days that score less than a floor, and their candidates.
-use Rattle.std.proofs.Common.{◌≡◌, Bool, true, false, List, [], ◌∷◌, ◌++◌, Option, Some, suc, length, refl, sym, ap, ◌∙◌, arith, inl, inr}
+use Rattle.std.proofs.Common.{◌≡◌, Bool, false, List, [], ◌∷◌, ◌++◌, Option, Some, suc, length, refl, sym, ap, ◌∙◌, arith, inl, inr}
 use Rattle.std.proofs.Common.{ℤ, pos, ◌-ℤ◌, ◌<ℤ◌}
-use Rattle.std.specs.Prelude.{filter, int_le, int_lt, not}
+use Rattle.std.specs.Prelude.{filter, int_le, int_lt}
 use Rattle.std.specs.List.{AllByRecursion, filter_map, fold}
 use Rattle.std.specs.Option.{option_map}
 use Rattle.std.proofs.lemmas.List.Elements.{filter_map-append}
@@ -52,11 +52,6 @@ pub all-low : (id : StationId) (f : ℤ → ℤ) (floor : ℤ) (days : List DayV
     → AllByRecursion (λ c. c.score <ℤ floor) (contenders_among id (Days f) days)
 all-low id f floor [] low = tt
 all-low id f floor (x ∷ xs) low = (low.0, all-low id f floor xs low.1)
-
--- what has a false opposite is true
-pub not-false : (b : Bool) → not b ≡ false → b ≡ true
-not-false true e = refl
-not-false false e = absurd cc
 
 -- once the candidates of a part of some days are taken, those of the rest are left
 pub takes-part : {S : Type 0} (taken : S → Candidate → S) (sink after : S) (id : StationId) (f : ℤ → ℤ)

@@ -2,10 +2,9 @@
 use Rattle.std.proofs.Common.{◌≡◌, ℕ, suc, ◌-◌, ◌<◌, Bool, true, false, cond, List, [], ◌∷◌, ◌++◌, Option, Some, None}
 use Rattle.std.proofs.Common.{refl, sym, ap, ◌∙◌, subst, arith, inl, inr, ℤ, pos, ◌+ℤ◌, ◌-ℤ◌, ◌<ℤ◌}
 use Rattle.std.specs.Prelude.{◌&&◌, not, filter, int_le, int_lt, length, ⊤}
-use Rattle.std.specs.List.{AllByRecursion, filter_map, cons_option, fold}
+use Rattle.std.specs.List.{AllByRecursion, filter_map, cons_option}
 use Rattle.std.proofs.lemmas.List.Elements.{filter_agree}
-use Rattle.std.proofs.lemmas.List.Sums.{fold-append}
-use Rattle.std.specs.Option.{option_map, option_map_or, is_some}
+use Rattle.std.specs.Option.{option_map, option_map_or}
 use Rattle.std.specs.Ordering.{int_eq}
 use Rattle.std.proofs.lemmas.Bool.{and_parts, and_left, and_right, not_from_true}
 use Rattle.std.proofs.lemmas.Bool.{cases_lt, cases_Bool}
@@ -13,18 +12,18 @@ use Rattle.std.proofs.lemmas.Bool.Decides.{Decides-int_eq}
 use Rattle.std.proofs.lemmas.Int.{ints, by_lt_z}
 use Rattle.ghcn_fields.specs.Days.{first_day, is_day}
 use Rattle.ghcn_files.specs.declared.station.StationId.{StationId}
-use Rattle.ghcn_series.specs.Packed.{AreInARow, TakesRun}
+use Rattle.ghcn_series.specs.Packed.{AreInARow}
 use Rattle.ghcn_series.specs.Series.{DayValue, Usable, IsSeries}
 use Rattle.rank_query.specs.Asked.{Asked}
 use Rattle.rank_scores.specs.declared.candidate.Candidate.{Candidate}
 use Rattle.rank_scores.specs.Runs.{begins_run}
 use Rattle.rank_scores.specs.Candidates.{Spells, begun, candidate, contenders_among, admitted, is_such}
-use Rattle.rank_scores.specs.Spells.{goes_on, open_spell, spell_from, spell_list}
+use Rattle.rank_scores.specs.Spells.{goes_on, offered, offered_of_kind, spell_from, spell_list}
 use Rattle.rank_scores.proofs.Rising.{Rise, admitted-rise, from_each, value_on-other, value_on-here, value_on-later}
 use Rattle.rank_scores.proofs.Rising.{value_on-before, all-filter}
 use Rattle.rank_scores.proofs.Runs.{AreDays, admitted-days, day-bounds}
 use Rattle.rank_scores.proofs.Exactly.{spell-begins}
-use Rattle.std.proofs.Common.{rules, append_assoc}
+use Rattle.std.proofs.Common.{rules}
 
 -- what is below the next number is at most this one
 below-next : (v most next : ℤ) → next ≡ most +ℤ pos 1 → int_lt v next ≡ int_le v most
@@ -35,14 +34,6 @@ pub filter-below_next : (most next : ℤ) (days : List DayValue) → next ≡ mo
     → filter (λ x. int_lt x.1 next) days ≡ filter (λ x. int_le x.1 most) days
 filter-below_next most next days is =
     filter_agree (λ x. int_lt x.1 next) (λ x. int_le x.1 most) (λ x. below-next x.1 most next is) days
-
--- what is offered while some days come, if a spell may be open before them
-abbrev pub offered : StationId → (ℤ → Bool) → Option (ℤ × ℤ) → List DayValue → List Candidate
-offered id test run [] = spell_list id run
-offered id test run (y ∷ ys) = elim (goes_on run y.0 (test y.1)) [
-  | Some first ↦ offered id test (Some (first, y.0)) ys
-  | None ↦ spell_list id run ++ offered id test (cond (test y.1) (Some (y.0, y.0)) None) ys
-]
 
 -- a spell that days may still be added to: its days are of the kind, and the one before them isn't
 record IsOpen (such : ℤ → Bool) (first last : ℤ) : Type 0 where
@@ -179,18 +170,19 @@ abbrev IsOpenBefore : Option (ℤ × ℤ) → List DayValue → Type 0
 IsOpenBefore None days = ⊤
 IsOpenBefore (Some s) days = AllByRecursion (λ y. s.1 <ℤ y.0) days
 
--- what is offered while days of the kind come
-abbrev pub offered_of_kind : StationId → Option (ℤ × ℤ) → List DayValue → List Candidate
-offered_of_kind id run days = offered id (λ _. true) run days
+-- a spell that the next day of the kind doesn't go on with is offered first
+pub closed-before : (id : StationId) (s : ℤ × ℤ) (y : DayValue) (ys : List DayValue) → (s.1 +ℤ pos 1) <ℤ y.0
+    → offered_of_kind id (Some s) (y ∷ ys) ≡ spell_list id (Some s) ++ offered_of_kind id None (y ∷ ys)
+closed-before id s y ys before =
+    let other : int_eq y.0 (s.1 +ℤ pos 1) ≡ false = grind (arith, ints, by_lt_z) in
+    rw (other, offered) refl
 
--- a spell that no day of the kind goes on with is offered first
+-- so is one that no day goes on with
 closed-first : (id : StationId) (run : Option (ℤ × ℤ)) (days : List DayValue) → IsClosedBefore run days
     → offered_of_kind id run days ≡ spell_list id run ++ offered_of_kind id None days
 closed-first id None days before = refl
 closed-first id (Some s) [] before = refl
-closed-first id (Some s) (y ∷ ys) before =
-    let other : int_eq y.0 (s.1 +ℤ pos 1) ≡ false = grind (arith, ints, by_lt_z) in
-    rw (other, offered) refl
+closed-first id (Some s) (y ∷ ys) before = closed-before id s y ys before.0
 
 -- days of another kind change nothing of what is offered
 pub offered-kept : (id : StationId) (test : ℤ → Bool) (run : Option (ℤ × ℤ)) (days : List DayValue) → Rise days
@@ -260,57 +252,3 @@ pub offered-spells : (id : StationId) (test : ℤ → Bool) (q : Asked) (s : Usa
     → offered_of_kind id None (filter (λ x. test x.1) (admitted q s)) ≡ contenders_among id (Spells test) (admitted q s)
 offered-spells id test q s series =
     sym (offered-kept id test None (admitted q s) (admitted-rise q s series) tt) ∙ offered-all id test q s series
-
--- a run that an open spell goes on with is added to it
-pub run-longer : (id : StationId) (is_open : Bool) (first last : ℤ) (ends : ℤ × ℤ) (days behind more : List DayValue)
-    → TakesRun days ends behind
-    → is_some (goes_on (open_spell is_open first last) ends.0 true) ≡ true
-    → offered_of_kind id (open_spell is_open first last) (days ++ more)
-    ≡ offered_of_kind id (open_spell is_open first ends.1) (behind ++ more)
-run-longer id is_open first last ends days behind more taken on =
-    elim (cases_Bool is_open) [
-      | inr e ↦ let closed : is_some (goes_on None ends.0 true) ≡ true = rw e at on in absurd cc
-      | inl e ↦
-          let follows : is_some (goes_on (Some (first, last)) ends.0 true) ≡ true = rw e at on in
-          let begun : goes_on (Some (first, last)) ends.0 true ≡ Some first = some-of follows in
-          let apart : days ++ more ≡ taken.run ++ (behind ++ more) =
-          ap (λ (l : List DayValue). l ++ more) taken.parts ∙ append_assoc taken.run behind more in
-          rw (e, apart)
-          (offered-longer id (Some (first, last)) ends.0 ends.1 first taken.run (behind ++ more) taken.some
-          taken.row begun)
-    ]
-  where
-    some-of : is_some (goes_on (Some (first, last)) ends.0 true) ≡ true
-        → goes_on (Some (first, last)) ends.0 true ≡ Some first
-    some-of follows = elim (cases_Bool (int_eq ends.0 (last +ℤ pos 1))) [
-      | inl e ↦ rw e refl
-      | inr e ↦ let none : false ≡ true = rw e at follows in absurd cc
-    ]
-
--- a run that none goes on with begins a spell, and the open one is offered
-pub run-anew : (id : StationId) (run : Option (ℤ × ℤ)) (ends : ℤ × ℤ) (days behind more : List DayValue)
-    → TakesRun days ends behind → is_some (goes_on run ends.0 true) ≡ false
-    → offered_of_kind id run (days ++ more)
-    ≡ spell_list id run ++ offered_of_kind id (Some (ends.0, ends.1)) (behind ++ more)
-run-anew id run ends days behind more taken off =
-    let none : goes_on run ends.0 true ≡ None = none-of (goes_on run ends.0 true) off in
-    let apart : days ++ more ≡ taken.run ++ (behind ++ more) =
-    ap (λ (l : List DayValue). l ++ more) taken.parts ∙ append_assoc taken.run behind more in
-    rw apart (offered-anew id run ends.0 ends.1 taken.run (behind ++ more) taken.some taken.row none)
-  where
-    none-of : (o : Option ℤ) → is_some o ≡ false → o ≡ None
-    none-of None e = refl
-    none-of (Some x) e = absurd cc
-
--- once the open spell is offered and a run begins one, what is left to offer is what was
-pub offers-anew : {S : Type 0} (taken : S → Candidate → S) (sink after : S) (id : StationId)
-    (run begun : Option (ℤ × ℤ))
-    (ends : ℤ × ℤ) (days behind more : List DayValue) → TakesRun days ends behind
-    → is_some (goes_on run ends.0 true) ≡ false → after ≡ fold taken sink (spell_list id run)
-    → begun ≡ Some (ends.0, ends.1)
-    → fold taken after (offered_of_kind id begun (behind ++ more))
-    ≡ fold taken sink (offered_of_kind id run (days ++ more))
-offers-anew taken sink after id run begun ends days behind more takes off is opened =
-    let rest : List Candidate = offered_of_kind id (Some (ends.0, ends.1)) (behind ++ more) in
-    rw (is, opened) (sym (fold-append taken sink (spell_list id run) rest)
-    ∙ ap (fold taken sink) (sym (run-anew id run ends days behind more takes off)))

@@ -1,9 +1,9 @@
 -- A window with its sum and its ring of values, as days come and leave.
 use Rattle.std.proofs.Common.{◌≡◌, ◌↔◌, FitsSigned, w64, ℕ, zero, suc, ◌+◌, ◌-◌, ◌%◌, ◌<◌, ◌≤◌, Bool, true}
 use Rattle.std.proofs.Common.{false, List, [], ◌∷◌, ◌++◌, drop, Option, Some, None, refl, sym, ap, subst, ◌∙◌, arith, ℤ, pos}
-use Rattle.std.proofs.Common.{◌+ℤ◌, ◌-ℤ◌, ◌≤ℤ◌, ◌<ℤ◌, length, length-set, get_or, set, inl, inr}
+use Rattle.std.proofs.Common.{◌+ℤ◌, ◌-ℤ◌, ◌≤ℤ◌, ◌<ℤ◌, length, length-set, get_or, set, inl, inr, rules}
 use Rattle.std.specs.Prelude.{IsTrue}
-use Rattle.std.specs.List.{AllByRecursion, cons_option, filter_map}
+use Rattle.std.specs.List.{AllByRecursion, cons_option, filter_map, fold}
 use Rattle.std.specs.Option.{option_map}
 use Rattle.std.proofs.lemmas.Bool.{cases_lt, false_from_ne_true}
 use Rattle.std.proofs.lemmas.Bool.Decides.{Decides-int_eq}
@@ -21,7 +21,6 @@ use Rattle.rank_scores.proofs.Runs.{AreDays, admitted-days}
 use Rattle.rank_scores.proofs.Rising.{Rise, from_each, same_made, admitted-rise}
 use Rattle.rank_scores.proofs.Totals.{leading, leading-split, leading-first, total-behind, total-leading, leading-small}
 use Rattle.rank_scores.proofs.Totals.{IsSmall, admitted-small}
-use Rattle.std.proofs.Common.{rules}
 
 -- ---- the windows of days that rise
 
@@ -92,6 +91,17 @@ pub record IsAt (ring : List ℤ) (w : Window) (days : List DayValue) (next : �
   pub places : length ring ≡ 512
   pub place : w.first < 512
   pub held : (i : ℕ) → i < w.len → get_or ring ((w.first + i) % 512) (pos 0) ≡ value_at days i
+
+-- what has taken some windows, and takes those of these days too, is as what takes those of all admitted days; the
+-- window has the first of these days, and isn't whole
+abbrev pub IsScanned : {K : Type 0} → (K → Candidate → K) → K → K → StationId → ℕ → Asked → Usable → List ℤ → Window
+    → ℤ → List DayValue → Type 0
+IsScanned taken some none id n q s ring w next rest = record {
+  days : List DayValue;
+  at : IsAt ring w days next rest;
+  few : w.len < n;
+  so_far : fold taken some (windows id n days) ≡ fold taken none (windows id n (admitted q s));
+}
 
 -- at first the window has no day
 pub at_first : (q : Asked) (s : Usable) (ring : List ℤ) (left : List DayValue) → IsSeries s → length ring ≡ 512

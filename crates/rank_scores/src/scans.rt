@@ -11,7 +11,7 @@ use crate::admitted::Admitted;
 use crate::extreme::Extreme;
 use crate::floor::{FloorSink, is_passed_over};
 use crate::leading::Leading;
-use crate::spell::{Spell, scan_spells};
+use crate::spell::{Spell, scan_spells, scan_spells_to_floor};
 use crate::window::scan_windows;
 use crate::{Candidate, Sink};
 use ghcn_files::StationId;
@@ -32,9 +32,10 @@ pub fn scan<S: Sink>(series: &Series, query: &Query, sink: &mut S)
 
 /// Offers the candidates of the series by increasing first day, as `scan` does.
 ///
-/// If no day of a part reaches the sink's floor, the sink is given the number of these days alone. A part has admitted
-/// days of one block of 32 days. If the best of groups are asked for, not each of these days is a candidate, and all
-/// candidates are offered.
+/// A part has admitted days of one block of 32 days. If single days are ranked and no day of a part reaches the sink's
+/// floor, the sink is given the number of these days alone. If spells are ranked and the floor is above 32 days, it is
+/// given the number of those that lie within a part, except for the first and the last one. Windows are all offered. If
+/// the best of groups are asked for, not each of these is a candidate, and all candidates are offered.
 pub fn scan_to_floor<S: FloorSink>(series: &Series, query: &Query, sink: &mut S)
     ensures { sink.new ≡ fold S.taken sink.old (meaning.candidates query.now series.now) }
 {
@@ -61,8 +62,8 @@ fn scan_contenders<S: Sink>(series: &Series, query: &Query, sink: &mut S)
     }
 }
 
-/// Offers each contender of the series, except for those of parts of which no day reaches the
-/// sink's floor: of these parts the sink is given the number of days.
+/// Offers each contender of the series, except for days of parts of which none reaches the sink's floor, and for spells
+/// within a part that are too short for it: of these the sink is given the number alone.
 fn scan_contenders_to_floor<S: FloorSink>(series: &Series, query: &Query, sink: &mut S)
     ensures { sink.new ≡ fold S.taken sink.old (meaning.contenders query.now series.now) }
 {
@@ -70,8 +71,11 @@ fn scan_contenders_to_floor<S: FloorSink>(series: &Series, query: &Query, sink: 
     match query.score() {
         Score::Highest(_) => scan_blocks(id, series, query, Extreme::Highest, sink),
         Score::Lowest(_) => scan_blocks(id, series, query, Extreme::Lowest, sink),
-        Score::Sum(..) | Score::Dry | Score::Wet | Score::Hot(_) | Score::Cold(_) =>
-            scan_contenders(series, query, sink),
+        Score::Sum(n, _) => scan_windows(id, series, query, n, sink),
+        Score::Dry => scan_spells_to_floor(id, series, query, Spell::Dry, sink),
+        Score::Wet => scan_spells_to_floor(id, series, query, Spell::Wet, sink),
+        Score::Hot(least) => scan_spells_to_floor(id, series, query, Spell::Hot(least), sink),
+        Score::Cold(most) => scan_spells_to_floor(id, series, query, Spell::Cold(most), sink),
     }
 }
 

@@ -89,3 +89,53 @@ fn days_in_a_row(rt: HostRuntime) {
         assert_eq!(rt; found, Some((*count, *runs)), "of row {number}");
     }
 }
+
+/// The days of a series, what is kept of its first block, how many runs are before the last one, and that run.
+type LastRow = (&'static [Stretch], Kept, u32, Option<(i32, i32)>);
+
+#[rattlefmt::skip]
+const LAST_ROWS: [LastRow; 12] = [
+    (&DAYS, Kept::All, 2, Some((31, 31))),
+    (&DAYS, Kept::From(11), 1, Some((31, 31))),
+    (&DAYS, Kept::From(21), 0, Some((31, 31))),
+    (&DAYS, Kept::From(31), 0, None),
+    (&DAYS, Kept::Below(20), 1, Some((5, 6))),
+    (&DAYS, Kept::Below(6), 0, Some((5, 6))),
+    (&WHOLE, Kept::All, 0, Some((0, 31))),
+    (&WHOLE, Kept::From(11), 0, Some((10, 21))),
+    (&WHOLE, Kept::Below(20), 1, Some((22, 31))),
+    (&BEFORE_1970, Kept::All, 2, Some((-2, -1))),
+    (&BEFORE_1970, Kept::From(10), 1, Some((-20, -20))),
+    (&BEFORE_1970, Kept::Below(20), 1, Some((-2, -1))),
+];
+
+/// How many runs of the days that are kept of the first block come before the last one, and that run.
+fn last_found(
+    alloc: Global,
+    stretches: &[Stretch],
+    kept: Kept,
+) -> Option<(u32, Option<(i32, i32)>)> {
+    let data = data_of(alloc, Element::Prcp, stretches)?;
+    let series = data.series(&A, Element::Prcp)?;
+    let mut days = series.days().take_to(31);
+    match kept {
+        Kept::All => {}
+        Kept::From(least) => days.keep_from(least),
+        Kept::Below(limit) => days.keep_below(limit),
+    }
+    let passed = days.take_to_last_run();
+    let run = next_run(&mut days);
+    if days.is_empty() {
+        Some((passed, run))
+    } else {
+        None
+    }
+}
+
+#[test]
+fn runs_before_the_last(rt: HostRuntime) {
+    for (number, (stretches, kept, passed, run)) in LAST_ROWS.iter().enumerate() {
+        let found = last_found(rt.alloc(), stretches, *kept);
+        assert_eq!(rt; found, Some((*passed, *run)), "of row {number}");
+    }
+}

@@ -1,9 +1,7 @@
-use Rattle.std.proofs.Common.{◌<◌, ◌^◌, rules}
+use Rattle.std.proofs.Common.{rules}
 use Rattle.ghcn_series.proofs.RunDays.{run-ends}
 use Rattle.ghcn_series.proofs.days.end_of_run.Goals as goal
 
 -- the run ends at the place at which the shifted word's ones end
 pub returns : goal.returns
-returns c =
-    let fits : c.args.word < 2 ^ 32 = search rules in
-    rw c.trailing_ones.ensures (run-ends c.args.word c.requires fits)
+returns c = rw c.trailing_ones.ensures (run-ends c.args.word c.requires (search rules))

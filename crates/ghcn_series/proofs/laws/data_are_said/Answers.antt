@@ -1,5 +1,3 @@
-use Rattle.std.proofs.Common.{ap, ◌∙◌}
-use Rattle.ghcn_series.specs.Series.{Contents}
 use Rattle.ghcn_series.proofs.SaidLines.{held-said}
 use Rattle.ghcn_series.proofs.SaidSeries.{series_said}
 use Rattle.ghcn_series.proofs.SaidStations.{stations-said}
@@ -17,4 +15,4 @@ returns-clause-series c = series_said
 -- the lines of other stations
 pub returns-clause-unlisted : goal.returns-clause-unlisted
 returns-clause-unlisted c = λ stations files held is.
-    ap (λ (h : Contents). h.unlisted) (held-said stations files held is) ∙ unlisted-said stations files
+    rw (held-said stations files held is) (unlisted-said stations files)

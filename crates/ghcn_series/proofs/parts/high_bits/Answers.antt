@@ -1,8 +1,6 @@
-use Rattle.std.proofs.Common.{◌-◌}
-use Rattle.std.proofs.lemmas.Nat.{pow_pos}
 use Rattle.ghcn_series.proofs.RowParts.{high-bits}
 use Rattle.ghcn_series.proofs.parts.high_bits.Goals as goal
 
 -- the word has the row's bits in the next block
 pub returns : goal.returns
-returns c = high-bits c.args.word c.args.place c.ranges.word.fits (pow_pos (31 - c.args.place)) c.requires
+returns c = high-bits c.args.word c.args.place c.ranges.word.fits c.requires

@@ -1,8 +1,7 @@
-use Rattle.std.proofs.Common.{arith, List, ℤ, ℕ, subst, ◌∙◌, ◌≡◌, w32, get_or, []}
+use Rattle.std.proofs.Common.{arith, List, ℤ, ℕ, ◌∙◌, ◌≡◌, w32, get_or, []}
 use Rattle.std.proofs.lemmas.Int.{to_z-of_z}
 use Rattle.std.proofs.lemmas.List.{get_or_default}
 use Rattle.ghcn_series.specs.Packed as packed
-use Rattle.ghcn_series.specs.Series.{DayValue}
 use Rattle.ghcn_series.specs.Packed.{AreColumns}
 use Rattle.ghcn_series.proofs.Searches.{block-absent, block-found}
 use Rattle.ghcn_series.proofs.columns.Columns.block_near.Goals as goal
@@ -10,12 +9,9 @@ use Rattle.ghcn_series.proofs.columns.Columns.block_near.Goals as goal
 -- without the number there is no day of the block
 pub returns-in_err-at-clause-none : goal.returns-in_err-at-clause-none
 returns-in_err-at-clause-none c =
-    let numbers : List ℤ = c.self.inside.numbers.items in
-    let nowhere : packed.IsNowhere numbers c.args.number =
+    let nowhere : packed.IsNowhere c.self.inside.numbers.items c.args.number =
     rw (to_z-of_z w32 c.args.number c.ranges.number, c.deref.ensures.value) at c.in_err-at.ensures.none in
-    rw c.from_residual.ensures
-    (subst (λ (days : List DayValue). packed.HasNone days c.args.number) c.self.view_is
-    (block-absent numbers c.self.inside.words.items c.self.inside.values.items c.self.invariant c.args.number nowhere))
+    rw (c.from_residual.ensures, ← c.self.view_is) (block-absent _ _ _ c.self.invariant c.args.number nowhere)
 
 -- the block at the number's place is the one
 pub returns-clause-some : goal.returns-clause-some
@@ -30,5 +26,4 @@ returns-clause-some c =
     ∙ get_or_default words i c.index.result.now 0 (omega (arith, at.in_range, cols.blocks.enough_words)) in
     let row : c.index-2.result.now ≡ get_or values i [] = c.index-2.ensures
     ∙ get_or_default values i c.index-2.result.now [] (omega (arith, at.in_range, cols.blocks.enough_values)) in
-    rw (word, row) (subst (λ (days : List DayValue). packed.IsBlockOf days c.args.number (get_or words i 0)
-    (get_or values i [])) c.self.view_is (block-found c.self.inside.numbers.items words values cols c.args.number i at))
+    rw (word, row, ← c.self.view_is) (block-found c.self.inside.numbers.items words values cols c.args.number i at)

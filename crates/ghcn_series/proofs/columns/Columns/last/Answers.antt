@@ -1,9 +1,7 @@
-use Rattle.std.proofs.Common.{rules, ◌∙◌, ◌-◌, List, length, get_or, ℤ, ℕ, sym, subst, ap, w32, ◌≡◌, Some}
+use Rattle.std.proofs.Common.{rules, ◌∙◌, ◌-◌, List, length, ℤ, ℕ, sym, w32, ◌≡◌, Some}
 use Rattle.std.specs.Prelude.{slice_get}
-use Rattle.std.specs.Option.{option_map}
 use Rattle.std.proofs.lemmas.Int.{to_z-of_z}
-use Rattle.ghcn_series.specs.Series.{DayValue}
-use Rattle.ghcn_series.specs.Packed.{AreCalendarDays, IsLastOf, days_of_blocks, blocks_of}
+use Rattle.ghcn_series.specs.Packed.{days_of_blocks, blocks_of}
 use Rattle.ghcn_series.proofs.LastDays.{IsLastBlock, last-block, last-of_columns, last_of-at}
 use Rattle.ghcn_series.proofs.columns.Columns.last.Goals as goal
 use Rattle.ghcn_series.proofs.columns.Columns.last.Goals.{After-last-2}
@@ -12,15 +10,13 @@ use Rattle.ghcn_series.proofs.columns.Columns.last.Goals.{After-last-2}
 last : (c : After-last-2) (w : ℕ) → Some w ≡ slice_get c.deref-2.result.now (length c.deref-2.result.now - 1)
     → IsLastBlock c.self.inside.numbers.items c.self.inside.words.items c.in_ok-number.number.now w
 last c w there =
-    last-block c.self.inside.numbers.items c.self.inside.words.items c.self.inside.values.items
-    c.in_ok-number.number.now w c.self.invariant.blocks
+    last-block _ _ _ c.in_ok-number.number.now w c.self.invariant.blocks
     (rw c.deref.ensures.value at c.in_ok-number.ensures.value) (rw c.deref-2.ensures.value at there)
 
 -- the bits of the last word are days
 pub last_day-requires-clause-days : goal.last_day-requires-clause-days
 last_day-requires-clause-days c =
-    subst (λ (z : ℤ). AreCalendarDays z c.in_ok-word.word.now)
-    (sym (to_z-of_z w32 c.in_ok-number.number.now (search rules)))
+    rw (to_z-of_z w32 c.in_ok-number.number.now (search rules))
     (last (goal.at.last_day-requires-clause-days c).After-last-2 _ c.in_ok-word.ensures.value).days
 
 -- and there is one
@@ -32,14 +28,9 @@ last_day-requires-clause-some c =
 pub returns : goal.returns
 returns c =
     let ns : List ℤ = c.self.inside.numbers.items in
-    let ws : List ℕ = c.self.inside.words.items in
     let block = last (goal.at.returns c).After-last-2 _ c.in_ok-word.ensures.value in
-    let of : IsLastOf c.in_ok-number.number.now c.in_ok-word.word.now c.last_day.result =
-    rw (to_z-of_z w32 c.in_ok-number.number.now (search rules)) at c.last_day.ensures in
-    let at = subst (λ (z : ℤ). IsLastOf z (get_or ws (length ns - 1) 0) c.last_day.result) (sym block.number)
-    (subst (λ (k : ℕ). IsLastOf c.in_ok-number.number.now k c.last_day.result) (sym block.word) of) in
-    sym (last-of_columns ns ws c.self.inside.values.items (length ns - 1) c.last_day.result
-    c.self.invariant.blocks.enough_words c.self.invariant.blocks.enough_values block.some_block at)
-    ∙ last_of-at (days_of_blocks (blocks_of ns ws c.self.inside.values.items))
-    ∙ ap (λ (days : List DayValue). option_map (λ (x : DayValue). x.0) (slice_get days (length days - 1)))
-    c.self.view_is
+    let of = rw (to_z-of_z w32 c.in_ok-number.number.now (search rules)) at c.last_day.ensures in
+    rw (← c.self.view_is)
+    (sym (last-of_columns _ _ _ (length ns - 1) c.last_day.result c.self.invariant.blocks block.some_block
+    (rw (block.number, block.word) of))
+    ∙ last_of-at (days_of_blocks (blocks_of ns c.self.inside.words.items c.self.inside.values.items)))

@@ -1,10 +1,9 @@
-use Rattle.std.proofs.Common.{rules, arith, ◌≡◌, ℕ, ◌+◌, ◌++◌, List, [], sym, ap, subst, ◌∙◌}
+use Rattle.std.proofs.Common.{rules, arith, ◌≡◌, ℕ, ◌+◌, ◌++◌, List, [], sym, subst, ◌∙◌}
 use Rattle.std.proofs.lemmas.Bool.Decides.{nat_tests}
 use Rattle.std.proofs.lemmas.List.{nil_from_length}
 use Rattle.std.proofs.lemmas.Result.{err_from_is_err_and}
 use Rattle.std.specs.Str.Lines.{strip_carriage_return}
-use Rattle.ghcn_series.specs.declared.cutter.Cutter.{Cutter}
-use Rattle.ghcn_series.specs.Alike.{AreAlike, BeginAlike}
+use Rattle.ghcn_series.specs.Alike.{BeginAlike}
 use Rattle.ghcn_series.proofs.AlikeLines.{same_kind}
 use Rattle.ghcn_series.proofs.AlikeBeginnings.{begin-line, begin-more, begin-alike}
 use Rattle.ghcn_series.proofs.cutter.Cutter.end_line.Goals as goal
@@ -20,51 +19,37 @@ returns-in-Some-clause-added g c =
       | then-is_empty+in_ok-kind w ↦
           let none : old.rest.items ≡ [] = nil_from_length old.rest.items
           (grind (arith, nat_tests, w.if-is_empty.true, c.is_empty.ensures, old.rest.ok.0)) in
-          let new : w.read_line.new.reader ≡ c.if-is_empty.self.reader =
-          ap (λ (r : Cutter g.row.L.Denot). r.reader) (sym w.self-is) in
-          let same : c.if-is_empty.self.counts ≡ old.counts =
-          ap (λ (r : Cutter g.row.L.Denot). r.counts) w.self-is in
-          let ended : c.if-is_empty.self.ended ≡ old.ended =
-          ap (λ (r : Cutter g.row.L.Denot). r.ended) w.self-is in
-          let whole : (rest : List ℕ) → BeginAlike rest old.rest.items
-          → AreAlike (strip_carriage_return (rest ++ c.args.bytes.now)) (strip_carriage_return c.args.bytes.now) =
-          λ rest alike. begin-line (rest ++ c.args.bytes.now) c.args.bytes.now
+          let whole = λ (rest : List ℕ) (alike : BeginAlike rest old.rest.items).
+          begin-line (rest ++ c.args.bytes.now) c.args.bytes.now
           (begin-more rest [] c.args.bytes.now (subst (BeginAlike rest) none alike)) in
           record {
             numbered = line;
-            rest = ap (λ (r : Cutter g.row.L.Denot). r.rest.items) w.self-is ∙ none;
+            rest = rw w.self-is none;
             counted = λ rest alike.
                 let text = strip_carriage_return (rest ++ c.args.bytes.now) in
-                rw (same, ended, line) at (c.in-Some.ensures text (w.kind-is ∙ w.in_ok-kind.ensures.kind
+                rw (w.self-is, line) at (c.in-Some.ensures text (w.kind-is ∙ w.in_ok-kind.ensures.kind
                 ∙ sym (same_kind text (strip_carriage_return c.args.bytes.now) (whole rest alike))));
             read = λ rest alike.
-                rw (← new, ← line) (w.in_ok-kind.ensures.read.holds (rest ++ c.args.bytes.now) (whole rest alike));
+                rw (w.self-is, ← line) (w.in_ok-kind.ensures.read.holds (rest ++ c.args.bytes.now) (whole rest alike));
           }
       | else-is_empty+in_ok-keep+in_ok-kind-2 w ↦
           let kept : List ℕ = w.deref.result.now in
           let same_bytes : BeginAlike (old.rest.items ++ c.args.bytes.now) kept =
           rw w.deref.ensures.value w.in_ok-keep.ensures.kept in
-          let after = w.read_joined.new.reader in
-          let new : after ≡ c.if-is_empty.self.reader =
-          ap (λ (r : Cutter g.row.L.Denot). r.reader) (sym w.self-is) in
-          let same : c.if-is_empty.self.counts ≡ old.counts =
-          ap (λ (r : Cutter g.row.L.Denot). r.counts) w.self-is ∙ w.in_ok-keep.ensures.counts in
-          let ended : c.if-is_empty.self.ended ≡ old.ended =
-          ap (λ (r : Cutter g.row.L.Denot). r.ended) w.self-is ∙ w.in_ok-keep.ensures.ended in
-          let whole : (rest : List ℕ) → BeginAlike rest old.rest.items
-          → AreAlike (strip_carriage_return (rest ++ c.args.bytes.now)) (strip_carriage_return kept) =
-          λ rest alike. begin-line (rest ++ c.args.bytes.now) kept
+          let whole = λ (rest : List ℕ) (alike : BeginAlike rest old.rest.items).
+          begin-line (rest ++ c.args.bytes.now) kept
           (begin-alike (rest ++ c.args.bytes.now) (old.rest.items ++ c.args.bytes.now) kept
           (begin-more rest old.rest.items c.args.bytes.now alike) same_bytes) in
           record {
             numbered = line;
-            rest = ap (λ (r : Cutter g.row.L.Denot). r.rest.items) w.self-is ∙ search rules;
+            rest = rw w.self-is (search rules);
             counted = λ rest alike.
                 let text = strip_carriage_return (rest ++ c.args.bytes.now) in
-                rw (same, ended, line) at (c.in-Some.ensures text (w.kind-is ∙ w.in_ok-kind-2.ensures.kind
+                rw (w.self-is, w.in_ok-keep.ensures.counts, w.in_ok-keep.ensures.ended, line) at
+                (c.in-Some.ensures text (w.kind-is ∙ w.in_ok-kind-2.ensures.kind
                 ∙ sym (same_kind text (strip_carriage_return kept) (whole rest alike))));
             read = λ rest alike.
-                rw (← new, ← line, ← w.in_ok-keep.ensures.reader)
+                rw (w.self-is, ← line, ← w.in_ok-keep.ensures.reader)
                 (w.in_ok-kind-2.ensures.read.holds (rest ++ c.args.bytes.now) (whole rest alike));
           }
     ]

@@ -1,7 +1,7 @@
 use Rattle.std.proofs.Common.{◌≡◌, ◌+◌, sym, subst}
 use Rattle.ghcn_series.specs.declared.cutter.Cutter.{Cutter}
 use Rattle.ghcn_series.specs.Says.{in_64_bits}
-use Rattle.ghcn_series.specs.Cut.{EndsFile, LooksAtLines}
+use Rattle.ghcn_series.specs.Cut.{EndsFile}
 use Rattle.ghcn_series.proofs.KeptFaults as kept
 use Rattle.ghcn_series.proofs.cutter.Cutter.end_of_file.Goals as goal
 use Rattle.ghcn_series.proofs.cutter.Cutter.end_of_file.Goals.{then-is_reading, else-is_reading}
@@ -9,20 +9,17 @@ use Rattle.ghcn_series.proofs.cutter.Cutter.end_of_file.Goals.{then-is_reading, 
 -- a last line without its feed belongs to a file with a number
 pub read_end-requires-clause-few : goal.read_end-requires-clause-few
 read_end-requires-clause-few g c =
-    kept.end-few c.args.self.now (subst (LooksAtLines c.args.self.now) c.if-is_reading.true c.is_reading.ensures)
-    c.requires
+    kept.end-few c.args.self.now (rw c.if-is_reading.true at c.is_reading.ensures) c.requires
 
 -- and the file's place is one of the first
 pub read_end-requires-clause-place : goal.read_end-requires-clause-place
 read_end-requires-clause-place g c =
-    kept.end-place c.args.self.now (subst (LooksAtLines c.args.self.now) c.if-is_reading.true c.is_reading.ensures)
-    c.requires
+    kept.end-place c.args.self.now (rw c.if-is_reading.true at c.is_reading.ensures) c.requires
 
 -- before it, lines were read
 pub read_end-requires-clause-read : goal.read_end-requires-clause-read
 read_end-requires-clause-read g c =
-    kept.end-some c.args.self.now (subst (LooksAtLines c.args.self.now) c.if-is_reading.true c.is_reading.ensures)
-    c.requires
+    kept.end-some c.args.self.now (rw c.if-is_reading.true at c.is_reading.ensures) c.requires
 
 -- the file is read to its end, or skipped
 pub returns-clause-fed : goal.returns-clause-fed
@@ -33,15 +30,14 @@ returns-clause-fed g c =
     → EndsFile g.L.LineReader.has_read old (kept.ending r ended) in
     elim c.if-is_reading.branch [
       | then-is_reading w ↦
-          let looks = subst (LooksAtLines old) w.if-is_reading.true c.is_reading.ensures in
+          let looks = rw w.if-is_reading.true at c.is_reading.ensures in
           subst P (sym w.self-is) (λ one_more.
           kept.ends-read old w.read_end.new.self w.read_end.result w.err-self.result ended looks
           w.read_end.ensures.ended w.read_end.ensures.read w.read_end.ensures.fault w.err-self.ensures.value one_more)
           c.saturating_add-self.ensures
       | else-is_reading w ↦
-          let looks = subst (LooksAtLines old) w.if-is_reading.false c.is_reading.ensures in
-          subst P (sym w.self-is) (λ one_more. kept.ends-passed old ended looks one_more)
-          c.saturating_add-self.ensures
+          let looks = rw w.if-is_reading.false at c.is_reading.ensures in
+          subst P (sym w.self-is) (kept.ends-passed old ended looks) c.saturating_add-self.ensures
     ]
 
 -- and more can follow

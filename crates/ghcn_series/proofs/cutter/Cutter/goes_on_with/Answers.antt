@@ -1,4 +1,4 @@
-use Rattle.std.proofs.Common.{◌≡◌, ◌<◌, [], length, arith}
+use Rattle.std.proofs.Common.{◌≡◌, [], arith}
 use Rattle.std.proofs.lemmas.Bool.Decides.{nat_tests}
 use Rattle.std.proofs.lemmas.List.{nil_from_length}
 use Rattle.ghcn_series.proofs.JoinedCutters.{apart-passed, apart-passed_next, apart-within, goes-on}
@@ -17,9 +17,8 @@ returns-then-not-is_reading g c =
       | then-not-is_reading-via-else-not-is_reading+then-not-is_reading-2 w ↦
           apart-passed_next first next w.if-not-is_reading-2.ensures
       | then-not-is_reading-via-else-not-is_reading+else-not-is_reading-2+then-not-is_empty w ↦
-          let some : 0 < length first.rest.items = grind
-          (arith, nat_tests, w.if-not-is_empty.true, w.is_empty.ensures, first.rest.ok.0) in
-          apart-within first next some
+          apart-within first next
+          (grind (arith, nat_tests, w.if-not-is_empty.true, w.is_empty.ensures, first.rest.ok.0))
     ]
 
 -- a part of the file is foreign by itself, or nothing hinders
@@ -29,5 +28,4 @@ returns g c =
     let none : first.rest.items ≡ [] = nil_from_length first.rest.items
     (grind (arith, nat_tests, c.if-not-is_empty.false, c.is_empty.ensures, first.rest.ok.0)) in
     goes-on g.L.LineReader.has_read first c.args.next.now c.cuts_foreign.result c.if-not-is_reading.ensures
-    c.if-not-is_reading-2.ensures none
-    c.cuts_foreign.ensures
+    c.if-not-is_reading-2.ensures none c.cuts_foreign.ensures

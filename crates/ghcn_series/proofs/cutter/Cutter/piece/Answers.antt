@@ -1,6 +1,5 @@
-use Rattle.std.proofs.Common.{arith, ◌<◌, length, subst}
+use Rattle.std.proofs.Common.{arith, ◌<◌, length}
 use Rattle.std.proofs.lemmas.Bool.Decides.{nat_tests}
-use Rattle.ghcn_series.specs.Cut.{LooksAtLines}
 use Rattle.ghcn_series.proofs.KeptFaults as kept
 use Rattle.ghcn_series.proofs.cutter.Cutter.piece.Goals as goal
 
@@ -8,23 +7,21 @@ use Rattle.ghcn_series.proofs.cutter.Cutter.piece.Goals as goal
 pub read-requires-clause-few : goal.read-requires-clause-few
 read-requires-clause-few g c =
     let some : 0 < length c.args.bytes.now = grind (arith, nat_tests, c.if-is_empty.false, c.is_empty.ensures) in
-    kept.piece-few c.args.self.now c.args.bytes.now some
-    (subst (LooksAtLines (kept.with_byte c.args.self.now)) c.if-is_reading.true c.is_reading.ensures) c.requires
+    kept.piece-few c.args.self.now c.args.bytes.now some (rw c.if-is_reading.true at c.is_reading.ensures) c.requires
 
 -- before it, lines were read
 pub read-requires-clause-read : goal.read-requires-clause-read
 read-requires-clause-read g c =
     let some : 0 < length c.args.bytes.now = grind (arith, nat_tests, c.if-is_empty.false, c.is_empty.ensures) in
-    kept.piece-some c.args.self.now c.args.bytes.now some
-    (subst (LooksAtLines (kept.with_byte c.args.self.now)) c.if-is_reading.true c.is_reading.ensures) c.requires
+    kept.piece-some c.args.self.now c.args.bytes.now some (rw c.if-is_reading.true at c.is_reading.ensures) c.requires
 
 -- it is read
 pub returns-then-is_reading-clause-fed : goal.returns-then-is_reading-clause-fed
 returns-then-is_reading-clause-fed g c =
     let some : 0 < length c.args.bytes.now = grind (arith, nat_tests, c.if-is_empty.false, c.is_empty.ensures) in
     kept.takes-read c.args.self.now c.read.new.self c.args.bytes.now c.read.result c.err-self.result some
-    (subst (LooksAtLines (kept.with_byte c.args.self.now)) c.if-is_reading.true c.is_reading.ensures)
-    c.read.ensures.ended c.read.ensures.begun c.read.ensures.read c.read.ensures.fault c.err-self.ensures.value
+    (rw c.if-is_reading.true at c.is_reading.ensures) c.read.ensures.ended c.read.ensures.begun c.read.ensures.read
+    c.read.ensures.fault c.err-self.ensures.value
 
 -- and more can follow
 pub returns-then-is_reading-clause-going : goal.returns-then-is_reading-clause-going
@@ -35,8 +32,7 @@ returns-then-is_reading-clause-going g c =
 pub returns-else-is_reading-clause-fed : goal.returns-else-is_reading-clause-fed
 returns-else-is_reading-clause-fed g c =
     let some : 0 < length c.args.bytes.now = grind (arith, nat_tests, c.if-is_empty.false, c.is_empty.ensures) in
-    kept.takes-passed c.args.self.now c.args.bytes.now some
-    (subst (LooksAtLines (kept.with_byte c.args.self.now)) c.if-is_reading.false c.is_reading.ensures)
+    kept.takes-passed c.args.self.now c.args.bytes.now some (rw c.if-is_reading.false at c.is_reading.ensures)
 
 -- and more can follow
 pub returns-else-is_reading-clause-going : goal.returns-else-is_reading-clause-going

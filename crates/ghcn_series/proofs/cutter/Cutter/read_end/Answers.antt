@@ -1,9 +1,8 @@
-use Rattle.std.proofs.Common.{arith, ◌≡◌, ◌<◌, [], length, sym, ap, subst, refl, ◌∙◌}
+use Rattle.std.proofs.Common.{arith, ◌≡◌, ◌<◌, [], length, ap, refl, ◌∙◌}
 use Rattle.std.proofs.lemmas.Bool.Decides.{nat_tests}
 use Rattle.std.proofs.lemmas.List.{nil_from_length}
 use Rattle.std.proofs.lemmas.Result.{err_from_is_err_and}
 use Rattle.ghcn_series.specs.declared.cutter.Cutter.{Cutter}
-use Rattle.ghcn_series.specs.Counted.{HaveCounted}
 use Rattle.ghcn_series.specs.Fed.{with_end, with_files}
 use Rattle.ghcn_series.proofs.FedPieces.{end-read, last-read, last-found, memory-found}
 use Rattle.ghcn_series.proofs.cutter.Cutter.read_end.Goals as goal
@@ -25,43 +24,28 @@ pub returns-in-Some-clause-read : goal.returns-in-Some-clause-read
 returns-in-Some-clause-read g c =
     let old = c.args.self.now in
     let mid = c.if-not-is_empty.self in
-    let new : Cutter g.row.L.Denot = record {
-      alloc = mid.alloc;
-      reader = mid.reader;
-      counts = c.end_file.new.self;
-      ended = mid.ended;
-      begun = mid.begun;
-      line = 0;
-      rest = mid.rest;
-      fault = mid.fault;
-    } in
+    let new : Cutter g.row.L.Denot = record mid { counts = c.end_file.new.self; line = 0 } in
     elim c.if-not-is_empty.branch [
       | then-not-is_empty+in_ok-end_line w ↦
           let some : 0 < length old.rest.items = grind
           (arith, nat_tests, w.if-not-is_empty.true, c.is_empty.ensures, old.rest.ok.0) in
-          let same : mid ≡ w.end_line.new.self = w.self-is in
           record {
             holds = λ fed at is.
                 last-read old w.end_line.new.self new fed at some w.in_ok-end_line.ensures.added
-                w.end_line.ensures.ended (ap (λ (r : Cutter g.row.L.Denot). r.reader) same)
-                (λ files whole place number counted. c.in-Some.ensures files whole
-                (ap (λ (r : Cutter g.row.L.Denot). r.ended) same ∙ place)
-                (ap (λ (r : Cutter g.row.L.Denot). r.line) same ∙ number)
-                (subst (λ (r : Cutter g.row.L.Denot). HaveCounted r.counts files whole) (sym same) counted)) refl
-                (ap (λ (r : Cutter g.row.L.Denot). r.rest.items) same ∙ w.in_ok-end_line.ensures.added.rest) is;
+                w.end_line.ensures.ended (ap (λ (r : Cutter g.row.L.Denot). r.reader) w.self-is)
+                (λ files whole place number counted.
+                c.in-Some.ensures files whole (rw w.self-is place) (rw w.self-is number) (rw w.self-is counted)) refl
+                (ap (λ (r : Cutter g.row.L.Denot). r.rest.items) w.self-is ∙ w.in_ok-end_line.ensures.added.rest) is;
           }
       | else-not-is_empty w ↦
           let none : old.rest.items ≡ [] = nil_from_length old.rest.items
           (grind (arith, nat_tests, w.if-not-is_empty.false, c.is_empty.ensures, old.rest.ok.0)) in
-          let same : mid ≡ old = w.self-is in
           record {
             holds = λ fed at is.
-                end-read old new fed at none (ap (λ (r : Cutter g.row.L.Denot). r.reader) same)
-                (λ files whole place number counted. c.in-Some.ensures files whole
-                (ap (λ (r : Cutter g.row.L.Denot). r.ended) same ∙ place)
-                (ap (λ (r : Cutter g.row.L.Denot). r.line) same ∙ number)
-                (subst (λ (r : Cutter g.row.L.Denot). HaveCounted r.counts files whole) (sym same) counted)) refl
-                (ap (λ (r : Cutter g.row.L.Denot). r.rest.items) same ∙ none) is;
+                end-read old new fed at none (ap (λ (r : Cutter g.row.L.Denot). r.reader) w.self-is)
+                (λ files whole place number counted.
+                c.in-Some.ensures files whole (rw w.self-is place) (rw w.self-is number) (rw w.self-is counted)) refl
+                (ap (λ (r : Cutter g.row.L.Denot). r.rest.items) w.self-is ∙ none) is;
           }
     ]
 

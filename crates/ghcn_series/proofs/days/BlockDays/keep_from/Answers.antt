@@ -1,7 +1,6 @@
-use Rattle.std.proofs.Common.{rules, ◌∙◌, ap, w32, FitsSigned, List}
-use Rattle.std.specs.Prelude.{filter, int_le}
+use Rattle.std.proofs.Common.{rules, w32}
+use Rattle.std.specs.Prelude.{int_le}
 use Rattle.std.proofs.lemmas.Int.{to_z-of_z}
-use Rattle.ghcn_series.specs.Series.{DayValue}
 use Rattle.ghcn_series.proofs.PartDays.{some-bits}
 use Rattle.ghcn_series.proofs.RunDays.{kept-days}
 use Rattle.ghcn_series.proofs.days.BlockDays.keep_from.Goals as goal
@@ -13,7 +12,6 @@ invariant_of-self c = some-bits c.self.inside.number c.self.inside.left _ c.self
 -- they are those whose values pass
 pub returns : goal.returns
 returns c =
-    let near : FitsSigned w32 c.args.least = search rules in
-    kept-days (int_le c.args.least) c.self.inside.number c.self.inside.values.now c.self.inside.left
-    c.places_from.result (rw (to_z-of_z w32 c.args.least near) at c.places_from.ensures)
-    ∙ ap (λ (days : List DayValue). filter (λ x. int_le c.args.least x.1) days) c.self.view_is
+    rw (← c.self.view_is) (kept-days (int_le c.args.least) c.self.inside.number c.self.inside.values.now
+    c.self.inside.left c.places_from.result
+    (rw (to_z-of_z w32 c.args.least (search rules)) at c.places_from.ensures))

@@ -1,16 +1,11 @@
-use Rattle.std.proofs.Common.{◌≡◌, true, false, refl, ◌∙◌, ◌<◌, ◌++◌, List, ℤ, ap, sym, length}
-use Rattle.std.specs.Prelude.{slice_get, Option}
-use Rattle.std.specs.Option.{option_map}
+use Rattle.std.proofs.Common.{◌≡◌, refl, ◌<◌, ◌++◌, List, sym, length}
+use Rattle.std.proofs.lemmas.Bool.{false≢true}
 use Rattle.ghcn_series.specs.Series.{DayValue}
 use Rattle.ghcn_series.proofs.PartDays.{begun-next, first-of_parts, some-day}
 use Rattle.ghcn_series.proofs.days.Days.first.Goals as goal
 use Rattle.ghcn_series.proofs.days.Days.first.Goals.{then-is_empty+in_ok-self-inside, else-is_empty}
 
--- the first of some days
-abbrev first_of : List DayValue → Option ℤ
-first_of days = option_map (λ (x : DayValue). x.0) (slice_get days 0)
-
--- it is that of the block at hand, which has one
+-- the first day is that of the block at hand, which has one
 pub returns-clause-first : goal.returns-clause-first
 returns-clause-first c =
     let cur : List DayValue = c.if-is_empty.self-inside.current in
@@ -24,11 +19,7 @@ returns-clause-first c =
             w.in_ok-self-inside.ensures.day,
           )
       | else-is_empty w ↦
-          rw w.self-inside-is (
-            sym c.self.view_is,
-            some-day _
-                (λ none. let no : false ≡ true = w.if-is_empty.ensures.1 none in absurd cc),
-          )
+          rw w.self-inside-is
+          (sym c.self.view_is, some-day _ (λ none. false≢true (w.if-is_empty.ensures.1 none)))
     ] in
-    c.first.ensures ∙ ap (option_map (λ (x : DayValue). x.0)) (sym (first-of_parts cur rest both.1))
-    ∙ ap first_of (sym both.0)
+    rw (both.0, first-of_parts cur rest both.1) c.first.ensures

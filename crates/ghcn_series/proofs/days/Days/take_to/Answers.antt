@@ -1,4 +1,5 @@
-use Rattle.std.proofs.Common.{◌≡◌, true, false, refl, ◌<◌, ◌++◌, List, sym, subst, length, FitsSigned, rules, w32}
+use Rattle.std.proofs.Common.{◌≡◌, refl, ◌<◌, ◌++◌, List, sym, subst, length, rules, w32}
+use Rattle.std.proofs.lemmas.Bool.{false≢true}
 use Rattle.std.proofs.lemmas.Int.{to_z-of_z}
 use Rattle.ghcn_series.specs.Series.{DayValue}
 use Rattle.ghcn_series.specs.Packed.{BeginsBy}
@@ -9,13 +10,11 @@ use Rattle.ghcn_series.proofs.days.Days.take_to.Goals.{then-is_empty+in-Some, el
 -- they come no later than the last one
 pub returns-clause-taken : goal.returns-clause-taken
 returns-clause-taken c =
-    let late : FitsSigned w32 c.args.last = search rules in
-    rw (to_z-of_z w32 c.args.last late) at c.take_to.ensures.taken
+    rw (to_z-of_z w32 c.args.last (search rules)) at c.take_to.ensures.taken
 
 -- and there is one if the first comes no later
 pub returns-clause-some : goal.returns-clause-some
 returns-clause-some c begins =
-    let late : FitsSigned w32 c.args.last = search rules in
     let cur : List DayValue = c.if-is_empty.self-inside.current in
     let rest : List DayValue = c.if-is_empty.self-inside.behind in
     let both : (c.args.self.now ≡ cur ++ rest) × (0 < length cur) = elim c.if-is_empty.branch [
@@ -26,12 +25,9 @@ returns-clause-some c begins =
             w.in-Some.ensures.day,
           )
       | else-is_empty w ↦
-          rw w.self-inside-is (
-            sym c.self.view_is,
-            some-day _
-                (λ none. let no : false ≡ true = w.if-is_empty.ensures.1 none in absurd cc),
-          )
+          rw w.self-inside-is
+          (sym c.self.view_is, some-day _ (λ none. false≢true (w.if-is_empty.ensures.1 none)))
     ] in
     begins-taken c.args.last cur rest c.take_to.result c.take_to.new.self both.1
     (subst (BeginsBy c.args.last) both.0 begins) c.take_to.ensures.parts
-    (rw (to_z-of_z w32 c.args.last late) at c.take_to.ensures.left)
+    (rw (to_z-of_z w32 c.args.last (search rules)) at c.take_to.ensures.left)

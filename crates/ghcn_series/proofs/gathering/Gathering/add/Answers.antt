@@ -1,6 +1,6 @@
-use Rattle.std.proofs.Common.{◌≡◌, ℕ, true, false, not, sym, ap, ◌∙◌}
+use Rattle.std.proofs.Common.{true, not, sym, ap, ◌∙◌}
 use Rattle.std.proofs.lemmas.Bool.{not-true}
-use Rattle.ghcn_series.specs.SeenMonths.{has_month, Adds}
+use Rattle.ghcn_series.specs.SeenMonths.{Adds}
 use Rattle.ghcn_series.specs.Gathered.{month_count}
 use Rattle.ghcn_series.proofs.SeenMonths.{gathering-more, month-new, seen-is, number_is}
 use Rattle.ghcn_series.proofs.gathering.Gathering.add.Goals as goal
@@ -9,9 +9,7 @@ use Rattle.ghcn_series.proofs.gathering.Gathering.add.Goals as goal
 pub returns-then-not-branch-clause-added : goal.returns-then-not-branch-clause-added
 returns-then-not-branch-clause-added c = λ m right of.
     let number = number_is true m c.args.row.now c.number_of.result of c.number_of.ensures in
-    let told : false ≡ not (has_month c.args.self.now.seen (month_count m)) =
-    sym c.if-not-branch.true ∙ c.in_ok-add.ensures.is_new
-    ∙ ap (λ (t : ℕ). not (has_month c.args.self.now.seen t)) number in
+    let told = sym c.if-not-branch.true ∙ (rw number at c.in_ok-add.ensures.is_new) in
     record {
       is_new = λ before is. told ∙ ap not (seen-is true c.args.self.now m before right is);
       holds = λ before is. tt;
@@ -21,18 +19,14 @@ returns-then-not-branch-clause-added c = λ m right of.
 pub add_days-requires-clause-fresh : goal.add_days-requires-clause-fresh
 add_days-requires-clause-fresh c = λ m right of.
     let number = number_is true m c.args.row.now c.number_of.result of c.number_of.ensures in
-    let told : true ≡ not (has_month c.args.self.now.seen (month_count m)) =
-    sym c.if-not-branch.false ∙ c.in_ok-add.ensures.is_new
-    ∙ ap (λ (t : ℕ). not (has_month c.args.self.now.seen t)) number in
+    let told = sym c.if-not-branch.false ∙ (rw number at c.in_ok-add.ensures.is_new) in
     month-new c.args.self.now m c.requires.gathered.0 right c.requires.gathered.1 (not-true _ (sym told))
 
 -- any other is added
 pub returns-clause-added : goal.returns-clause-added
 returns-clause-added c = λ m right of.
     let number = number_is true m c.args.row.now c.number_of.result of c.number_of.ensures in
-    let told : true ≡ not (has_month c.args.self.now.seen (month_count m)) =
-    sym c.if-not-branch.false ∙ c.in_ok-add.ensures.is_new
-    ∙ ap (λ (t : ℕ). not (has_month c.args.self.now.seen t)) number in
+    let told = sym c.if-not-branch.false ∙ (rw number at c.in_ok-add.ensures.is_new) in
     let adds : Adds c.args.self.now.seen c.add.new.self (month_count m) = rw number at c.in_ok-add.ensures.added in
     record {
       is_new = λ before is. told ∙ ap not (seen-is true c.args.self.now m before right is);

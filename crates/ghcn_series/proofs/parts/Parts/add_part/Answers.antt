@@ -43,11 +43,12 @@ returns-clause-parts c =
 pub returns-clause-joined : goal.returns-clause-joined
 returns-clause-joined c =
     let n : ℤ = c.args.number in
-    let vs : List (List ℤ) = c.args.self.now.values.items in
-    let row : List ℤ = c.args.values.now in
-    let numbers : c.push.new.self.items ≡ c.args.self.now.numbers.items ++ n ∷ [] =
-    rw (to_z-of_z w32 n c.ranges.number) at c.in_ok-push.ensures.items in
-    let values : c.push_reserved.new.self.items ≡ vs ++ row ∷ [] =
-    rw c.reserve.ensures.items at c.push_reserved.ensures.items in
-    rw (numbers, c.in_ok-push-2.ensures.items, values) (push-days c.args.self.now.numbers.items
-    c.args.self.now.words.items vs c.requires.parts.blocks n c.args.word row)
+    rw (
+      c.in_ok-push.ensures.items,
+      to_z-of_z w32 n c.ranges.number,
+      c.in_ok-push-2.ensures.items,
+      c.push_reserved.ensures.items,
+      c.reserve.ensures.items,
+    )
+    (push-days c.args.self.now.numbers.items c.args.self.now.words.items c.args.self.now.values.items
+    c.requires.parts.blocks n c.args.word c.args.values.now)

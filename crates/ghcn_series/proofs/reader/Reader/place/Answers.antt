@@ -9,5 +9,5 @@ pub returns-in-Some : goal.returns-in-Some
 returns-in-Some c =
     let here = sym c.at.ensures ∙ ap option_copied c.in-Some.is in
     let same = same_id-is c.in-Some.station.now.id c.args.id.now (sym c.is_same.ensures ∙ c.if-is_same.true) in
-    sym (place_of-at c.args.self.now.stations c.args.self.now.last c.in-Some.station.now c.args.id.now
+    sym (place_of-at c.args.self.now.stations c.last-last.result c.in-Some.station.now c.args.id.now
     c.requires.distinct here same)

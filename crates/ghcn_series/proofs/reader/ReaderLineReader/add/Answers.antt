@@ -1,6 +1,5 @@
 use Rattle.std.proofs.Common.{◌≡◌, Ok, None, inr, ◌∙◌}
 use Rattle.ghcn_files.specs.Months.{read_month}
-use Rattle.ghcn_files.specs.Rows.{IsOfLine}
 use Rattle.ghcn_series.specs.DailyFaults.{file_line}
 use Rattle.ghcn_series.proofs.AlikeMonths.{same_read}
 use Rattle.ghcn_series.proofs.ReadLines.{read-passed, read-month, refused-month, refused-line}
@@ -26,8 +25,7 @@ returns-in-Ok-None-clause-element c =
 -- a new month is read
 pub returns-in-Ok-true-clause-read : goal.returns-in-Ok-true-clause-read
 returns-in-Ok-true-clause-read c =
-    let is : IsOfLine c.args.self.now.keep c.args.bytes.now c.in-Ok-Some.row =
-    rw c.in-Ok-Some.field-0-is at c.in-Ok-Some.ensures in
+    let is = rw c.in-Ok-Some.field-0-is at c.in-Ok-Some.ensures in
     let adds = rw c.in-Ok-true.field-0-test at c.in-Ok-true.ensures.added in
     record {
       holds = λ like alike. record {
@@ -40,15 +38,13 @@ returns-in-Ok-true-clause-read c =
 -- of one of the elements
 pub returns-in-Ok-true-clause-element : goal.returns-in-Ok-true-clause-element
 returns-in-Ok-true-clause-element c =
-    let is : IsOfLine c.args.self.now.keep c.args.bytes.now c.in-Ok-Some.row =
-    rw c.in-Ok-Some.field-0-is at c.in-Ok-Some.ensures in
+    let is = rw c.in-Ok-Some.field-0-is at c.in-Ok-Some.ensures in
     element_code c.args.bytes.now is.month is.read
 
 -- a month of an earlier line is refused
 pub returns-in-Ok-false-clause-fault : goal.returns-in-Ok-false-clause-fault
 returns-in-Ok-false-clause-fault c =
-    let is : IsOfLine c.args.self.now.keep c.args.bytes.now c.in-Ok-Some.row =
-    rw c.in-Ok-Some.field-0-is at c.in-Ok-Some.ensures in
+    let is = rw c.in-Ok-Some.field-0-is at c.in-Ok-Some.ensures in
     let adds = rw c.in-Ok-false.field-0-test at c.in-Ok-false.ensures.added in
     rw c.refused-in-Ok-false.ensures (record {
       holds = λ like alike. record {

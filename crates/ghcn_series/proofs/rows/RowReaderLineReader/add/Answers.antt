@@ -3,8 +3,7 @@ use Rattle.ghcn_files.specs.Months.{read_month}
 use Rattle.ghcn_files.specs.Rows.{IsOfLine}
 use Rattle.ghcn_series.specs.DailyFaults.{file_line}
 use Rattle.ghcn_series.proofs.AlikeMonths.{same_read}
-use Rattle.ghcn_series.proofs.ReadLines.{read-passed, read-month, refused-month, refused-line}
-use Rattle.ghcn_series.proofs.ReadLines.{other_code, element_code}
+use Rattle.ghcn_series.proofs.ReadLines.{read-passed, read-month, refused-month, refused-line, other_code, element_code}
 use Rattle.ghcn_series.proofs.rows.RowReaderLineReader.add.Goals as goal
 
 -- a line of none of the elements is skipped

@@ -8,6 +8,6 @@ use Rattle.ghcn_series.proofs.station.StationGathering.into_series.Given as goal
 abbrev pub invariant-loop-gathering : goal.invariant-loop-gathering
 invariant-loop-gathering l = record {
   ready : AllByRecursion IsReady (into_iter_items l.gathering-iterator);
-  whole : l.series.items ++ filter_map (gathered_series l.fn.self.id) (into_iter_items l.gathering-iterator)
-      ≡ station_series l.fn.self;
+  whole : l.series.items ++ filter_map (gathered_series l.fn.id) (into_iter_items l.gathering-iterator)
+      ≡ station_series l.fn.id l.fn.self.by_element.items;
 }

@@ -1,5 +1,4 @@
-use Rattle.std.proofs.Common.{[], ◌∷◌, subst, sym, ◌∙◌}
-use Rattle.std.specs.List.{AllByRecursion}
+use Rattle.std.proofs.Common.{[], ◌∷◌, ◌∙◌}
 use Rattle.std.proofs.lemmas.List.{length-set}
 use Rattle.ghcn_series.specs.Parts.{AreEmpty}
 use Rattle.ghcn_series.proofs.ListFacts.{each-append}
@@ -9,18 +8,17 @@ use Rattle.ghcn_series.proofs.station.StationGathering.shrink_to_fit.Goals as go
 -- one gathering more is in memory of its own, and has the months that it had
 pub loop-place-preserved : goal.loop-place-preserved
 loop-place-preserved c = record {
-  id = c.loop-place.invariant.id;
+  place = c.loop-place.invariant.place;
   number =
       length-set c.loop-place.self.by_element.items c.loop-place.place c.shrink_to_fit.new.self
       ∙ c.loop-place.invariant.number;
   same = record {
-    holds = λ asked before is.
-        settled_at asked before c.loop-place.self.id c.loop-place.self.by_element.items c.loop-place.place
+    holds = λ asked before id is.
+        settled_at asked before id c.loop-place.self.by_element.items c.loop-place.place
         c.index_mut.result.now c.shrink_to_fit.new.self c.index_mut.ensures.value c.shrink_to_fit.ensures.element
-        c.in_ok-shrink_to_fit.ensures.same (c.loop-place.invariant.same.holds asked before is);
+        c.in_ok-shrink_to_fit.ensures.same (c.loop-place.invariant.same.holds asked before id is);
   };
-  spare =
-      subst (AllByRecursion AreEmpty) (sym c.in_ok-push.ensures.items)
+  spare = rw c.in_ok-push.ensures.items
       (each-append AreEmpty c.loop-place.spare.items (c.in_ok-shrink_to_fit.field-0 ∷ []) c.loop-place.invariant.spare
       (c.in_ok-shrink_to_fit.ensures.empty, tt));
 }

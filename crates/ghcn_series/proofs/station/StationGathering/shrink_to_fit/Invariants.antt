@@ -1,14 +1,14 @@
 use Rattle.std.proofs.Common.{◌≡◌, length}
 use Rattle.std.specs.List.{AllByRecursion}
 use Rattle.ghcn_series.specs.Parts.{AreEmpty}
-use Rattle.ghcn_series.specs.Steps.{StationKeepsMonths}
+use Rattle.ghcn_series.specs.Steps.{KeepsStation}
 use Rattle.ghcn_series.proofs.station.StationGathering.shrink_to_fit.Given as goal
 
 -- the station has the months that it had, and no days are in the memory that is spare
 abbrev pub invariant-loop-place : goal.invariant-loop-place
 invariant-loop-place l = record {
-  id : l.self.id ≡ l.fn.self.id;
+  place : l.self.place ≡ l.fn.self.place;
   number : length l.self.by_element.items ≡ length l.fn.self.by_element.items;
-  same : StationKeepsMonths l.fn.self l.self;
+  same : KeepsStation l.fn.self.by_element.items l.self.by_element.items;
   spare : AllByRecursion AreEmpty l.spare.items;
 }

@@ -1,7 +1,8 @@
 use Rattle.std.proofs.Common.{◌≡◌, [], ℤ, pos, ◌-ℤ◌, ◌<ℤ◌, w32, w64, to_z, of_z, FitsSigned, rules, sym, ap, ◌∙◌, subst}
 use Rattle.std.specs.List.{AllByRecursion}
+use Rattle.std.proofs.lemmas.Bool.{not-false}
 use Rattle.std.proofs.lemmas.Int.{to_z-of_z}
-use Rattle.rank_scores.proofs.LowDays.{highest-low, lowest-low, not-false}
+use Rattle.rank_scores.proofs.LowDays.{highest-low, lowest-low}
 use Rattle.rank_scores.proofs.extreme.Extreme.may_reach.Goals as goal
 use Rattle.rank_scores.proofs.extreme.Extreme.may_reach.Goals.{in-Highest, in-Lowest+in-Some}
 
