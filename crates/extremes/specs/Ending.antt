@@ -19,4 +19,4 @@ abbrev pub ending_of : Judgement → Ending
 ending_of (Whole verdicts.Accepted) = Done
 ending_of (Whole (verdicts.Refused paper line why)) = Refused
 ending_of (Part (parts.Accepted series lines)) = Done
-ending_of (Part (parts.Refused paper line why)) = Refused
+ending_of (Part (parts.Refused refusal)) = Refused

@@ -40,6 +40,6 @@ pub fn ending(judgement: &Judgement) -> Ending
         Judgement::Whole(Verdict::Accepted) => Ending::Done,
         Judgement::Whole(Verdict::Refused { .. }) => Ending::Refused,
         Judgement::Part(PartVerdict::Accepted { .. }) => Ending::Done,
-        Judgement::Part(PartVerdict::Refused { .. }) => Ending::Refused,
+        Judgement::Part(PartVerdict::Refused(_)) => Ending::Refused,
     }
 }

@@ -1,28 +1,26 @@
 -- A report and a certificate are accepted if and only if both are right.
-use Rattle.std.proofs.Common.{◌≡◌, inl, inr, ℕ, ◌≤◌, false, cond, map, subst, Option, true, List, [], ◌∷◌, ◌++◌, length}
-use Rattle.std.proofs.Common.{Ok, None, refl, sym, ap}
+use Rattle.std.proofs.Common.{◌≡◌, inl, inr, ℕ, ◌≤◌, false, cond, map, subst, Option, true, List, [], length}
+use Rattle.std.proofs.Common.{sym, ap}
 use Rattle.std.proofs.Common.{◌∙◌, ℤ}
-use Rattle.std.specs.Prelude.{codes, ◌==◌}
+use Rattle.std.specs.Prelude.{◌==◌}
 use Rattle.std.specs.List.{flat_map, enumerate_from, AllByRecursion, AllZip}
-use Rattle.std.specs.Cmp.Lexicographic.{bytes_decides}
 use Rattle.std.proofs.lemmas.Bool.{leb-true}
 use Rattle.std.proofs.lemmas.Slice.Zip.{AllZip-long}
 use Rattle.ghcn_series.specs.Series.{Contents}
 use Rattle.ghcn_series.specs.Held.{IsContents}
 use Rattle.rank_query.specs.Asked.{Asked, IsAsked}
-use Rattle.rank_query.specs.QueryTexts.{query_text}
 use Rattle.rank_scores.specs.QueryCandidates.{CandidatesAreApart}
 use Rattle.rank_scores.specs.declared.candidate.Candidate.{Candidate}
 use Rattle.rank_scores.specs.Morsels.{morsels, best_of_query, kth_of_query}
-use Rattle.rank_papers.specs.Report.{text_line, IsReport}
-use Rattle.rank_papers.specs.ReportLines.{Reported, IsReportOf, read_report, SaysRightReport}
-use Rattle.rank_papers.specs.Certificate.{Certified, Entry, title_line, certificate_text, kth_line, counted, entry_line}
-use Rattle.rank_papers.specs.Certificate.{end_line}
+use Rattle.rank_papers.specs.Report.{IsReport}
+use Rattle.rank_papers.specs.ReportLines.{Reported, IsReportOf, SaysRightReport}
+use Rattle.rank_papers.specs.Certificate.{Certified, Entry}
 use Rattle.rank_papers.specs.Certificate.{IsCount, AreCounts, IsCertificate, IsCertificateOf, IsRightEntry, count_of}
 use Rattle.rank_papers.specs.Certificate.{counts_of, SaysRightCertificate}
-use Rattle.rank_papers.specs.CertificateLines.{read_certificate}
 use Rattle.rank_papers.specs.Laws.{CertificatesAreRead, RightCertificatesSayRight, ReportsAreRead, RightReportsSayRight}
-use Rattle.rank_head.specs.HeadTests.{of_rows, same_query, same_score}
+use Rattle.rank_papers.proofs.SameQueries.{one_query, own_query, score_from, score_to}
+use Rattle.rank_papers.specs.Papers.{read_papers, of_rows}
+use Rattle.rank_papers.proofs.ReadBoth.{papers_read}
 use Rattle.rank_check.specs.declared.verdict.Verdict.TheVariants.{Accepted}
 use Rattle.rank_check.specs.Tests.{Test, row_tests, report_tests, entry_tests}
 use Rattle.rank_check.specs.Tests.{certificate_tests, verdict}
@@ -30,40 +28,8 @@ use Rattle.rank_check.specs.Laws.{AcceptedWhereRight}
 use Rattle.rank_check.proofs.Each.{each-append, each-parts}
 use Rattle.rank_check.proofs.Accepted.{Passes, accepted-pass, pass-accepted}
 use Rattle.rank_check.proofs.RightRows.{rows_best, rows_named, best_pass}
-use Rattle.rank_check.proofs.RightLines.{score_from, score_to, AreCounted, are_counted, lines_right, counts_are}
+use Rattle.rank_check.proofs.RightLines.{AreCounted, are_counted, lines_right, counts_are}
 use Rattle.rank_check.proofs.RightLines.{right_pass}
-
--- ---- queries with one text
-
-module _ (certificates : CertificatesAreRead) where
-  -- a certificate of a query that says nothing else
-  abbrev bare : Asked → Certified
-  bare q = record { version = 1; query = q; kth = None; entries = []; counts = [] }
-
-  -- its text is read as it
-  bare_read : (q : Asked) → IsAsked q → read_certificate (certificate_text (bare q)) ≡ Ok (bare q)
-  bare_read q asked = (certificates (certificate_text (bare q)) (bare q)).1
-      (record { can_be = record { asked = asked; kth = tt; entries = tt; counts = inl (refl, refl) }; text = refl })
-
-  -- queries that can be asked are the same if their texts are
-  pub one_query : (a b : Asked) → IsAsked a → IsAsked b → same_query a b ≡ true → a ≡ b
-  one_query a b can_a can_b e =
-      let texts : query_text a ≡ query_text b = (bytes_decides (query_text a) (query_text b)).0 e in
-      let papers : certificate_text (bare a) ≡ certificate_text (bare b) =
-      ap (λ (t : List ℕ). title_line 1
-      ++ text_line (codes "query" ∷ t ∷ [])
-      ++ kth_line None
-      ++ flat_map (entry_line 1) (counted [] [])
-      ++ end_line 0) texts in
-      let read_a = bare_read a can_a in
-      let read_b = bare_read b can_b in
-      let other : read_certificate (certificate_text (bare a)) ≡ Ok (bare b) = ap read_certificate papers ∙ read_b in
-      let same : bare a ≡ bare b = cc in
-      ap (λ (z : Certified). z.query) same
-
--- a query has one text
-own_query : (q : Asked) → same_query q q ≡ true
-own_query q = (bytes_decides (query_text q) (query_text q)).1 refl
 
 module _ (q : Asked) (c : Contents) (asked : IsAsked q) (right : IsContents c) (certificates : CertificatesAreRead)
     (apart : CandidatesAreApart) where
@@ -95,7 +61,7 @@ module _ (q : Asked) (c : Contents) (asked : IsAsked q) (right : IsContents c) (
   report_passes : (r : Reported) → SaysRightReport q c r → AllByRecursion Passes (report_tests q c r)
   report_passes r says =
       let pass = best_pass q c (apart q c right) r.rows says.best says.named in (
-        ap (λ (a : Asked). same_query a q) says.asked ∙ own_query q,
+        own_query r.query q says.asked,
         each-append Passes (tests_of_rows r) _ pass.0 (pass.1, tt),
       )
 
@@ -145,9 +111,9 @@ module _ (q : Asked) (c : Contents) (asked : IsAsked q) (right : IsContents c) (
       (subst (λ (k : Option ℤ). AllZip (IsRightEntry q k) z.entries (morsels q c)) (sym says.kth) says.entries)
       (subst (λ (ns : List ℕ). AreCounted rows ns z.entries) (sym says.counts)
       (best_counted rows z.version z.entries best)) in (
-        ap (λ (a : Asked). same_query a q) says.asked ∙ own_query q,
+        own_query z.query q says.asked,
         (
-          ap (λ (k : Option ℤ). same_score k (kth_of_query q c)) says.kth ∙ score_to (kth_of_query q c),
+          score_to z.kth (kth_of_query q c) says.kth,
           each-append Passes (tests_of_lines rows z) _ pass.0 (pass.1, tt),
         ),
       )
@@ -160,19 +126,18 @@ accepted_right certificates right_certificates reports right_reports apart q c r
   where
     accepted : verdict q c report certificate ≡ Accepted → IsReport q c report × IsCertificate q c certificate
     accepted e =
-        let pass = accepted-pass q c (read_report report) (read_certificate certificate) e in
-        let is_report = (reports report pass.report).0 pass.report_read in
-        let is_certificate = (certificates certificate pass.certificate).0 pass.certificate_read in
+        let pass = accepted-pass q c (read_papers report certificate) e in
+        let are = (papers_read reports certificates report certificate pass.report pass.certificate).0 pass.read in
         let rows : List Candidate = of_rows pass.report.rows in
         let parts = each-parts Passes (report_tests q c pass.report) (certificate_tests q c rows pass.certificate)
         pass.tests in
-        let says = report_right q c asked right certificates apart report pass.report is_report parts.0 in (
-          (right_reports q c report asked right).1 (pass.report, is_report, says),
+        let says = report_right q c asked right certificates apart report pass.report are.0 parts.0 in (
+          (right_reports q c report asked right).1 (pass.report, are.0, says),
           (right_certificates q c certificate asked right).1 (
             pass.certificate,
-            is_certificate,
+            are.1,
             certificate_right q c asked right certificates apart certificate rows pass.certificate says.best
-                is_certificate parts.1,
+                are.1 parts.1,
           ),
         )
 
@@ -180,11 +145,10 @@ accepted_right certificates right_certificates reports right_reports apart q c r
     both_right h =
         let r = (right_reports q c report asked right).0 h.0 in
         let z = (right_certificates q c certificate asked right).0 h.1 in
-        pass-accepted q c (read_report report) (read_certificate certificate) (record {
+        pass-accepted q c (read_papers report certificate) (record {
           report = r.0;
           certificate = z.0;
-          report_read = (reports report r.0).1 r.1;
-          certificate_read = (certificates certificate z.0).1 z.1;
+          read = (papers_read reports certificates report certificate r.0 z.0).1 (r.1, z.1);
           tests = each-append Passes (report_tests q c r.0) (certificate_tests q c (of_rows r.0.rows) z.0)
               (report_passes q c asked right certificates apart r.0 r.2)
               (certificate_passes q c asked right certificates apart (of_rows r.0.rows) z.0 r.2.best z.2);

@@ -1,9 +1,9 @@
 -- The first test that fails, of tests of elements one after the other.
-use Rattle.std.proofs.Common.{◌≡◌, ℕ, zero, suc, ◌+◌, ◌-◌, ◌<◌, Bool, true, false, cond, List, [], ◌∷◌, ◌++◌, length}
+use Rattle.std.proofs.Common.{◌≡◌, ℕ, zero, suc, ◌+◌, ◌-◌, ◌<◌, Bool, true, false, cond, List, [], ◌∷◌, length}
 use Rattle.std.proofs.Common.{take, map, Option, Some, None, refl, sym, ap, ◌∙◌, arith, append-nil, get_or}
 use Rattle.std.specs.Prelude.{slice_get, nat_le, int_le, ◌&&◌, ◌||◌, ◌==◌, not, ℤ}
 use Rattle.std.specs.List.{flat_map, enumerate_from, fold, list_all}
-use Rattle.std.specs.Option.{option_map, option_map_or, option_or, is_some}
+use Rattle.std.specs.Option.{option_map, option_map_or, is_some}
 use Rattle.std.proofs.lemmas.Bool.{lt-leb}
 use Rattle.ghcn_fields.specs.Faults.{first_failing}
 use Rattle.rank_scores.specs.declared.candidate.Candidate.{Candidate}
@@ -11,13 +11,15 @@ use Rattle.rank_scores.specs.Order.{precedes}
 use Rattle.rank_papers.specs.declared.paper.Row.{Row}
 use Rattle.rank_papers.specs.Report.{Named}
 use Rattle.rank_papers.specs.ReportLines.{named_in}
+use Rattle.rank_papers.proofs.FirstFailing.{behind_none, before_some, none_of}
+use Rattle.rank_papers.specs.Papers.{candidates_of}
 use Rattle.rank_check.specs.declared.tally.Met.{Met}
-use Rattle.rank_check.specs.declared.verdict.Verdict.{Verdict}
-use Rattle.rank_check.specs.Survey.{met, candidates_of, top, top_score}
+use Rattle.rank_check.specs.declared.refusal.Refusal.{Refusal}
+use Rattle.rank_check.specs.Survey.{met, top, top_score}
 use Rattle.rank_check.specs.declared.survey.Top.{Top}
-use Rattle.rank_check.specs.declared.verdict.Paper.TheVariants.{Certificate}
+use Rattle.rank_papers.specs.declared.fault.Paper.TheVariants.{Certificate}
 use Rattle.rank_check.specs.declared.verdict.Why.TheVariants.{OtherSeries, NoBound, NotBelow, NotCounted}
-use Rattle.rank_check.specs.declared.verdict.Verdict.TheVariants.{Refused}
+use Rattle.rank_check.specs.Tests.{refusal}
 use Rattle.ghcn_files.specs.Ids.{same_id}
 use Rattle.ghcn_files.proofs.IdLaws.{same_id-turned}
 use Rattle.rank_scores.specs.Morsels.{morsels}
@@ -32,50 +34,9 @@ use Rattle.std.proofs.Math.Bool.{and-true}
 use Rattle.std.proofs.lemmas.Option.{slice_get-map, slice_get-get_or}
 use Rattle.rank_check.specs.Tests.{Test, follows, is_counted, line_tests, entry_tests}
 
--- if none of some tests fails, the first that fails is among those after
-pub behind_none : (ts us : List Test) → first_failing ts ≡ None → first_failing (ts ++ us) ≡ first_failing us
-behind_none [] us e = refl
-behind_none (t ∷ ts) us e =
-    elim (t.0) as (λ b. cond b (first_failing ts) (Some t.1) ≡ None
-    → cond b (first_failing (ts ++ us)) (Some t.1) ≡ first_failing us) [
-      | true ↦ λ f. behind_none ts us f
-      | false ↦ λ f. absurd cc
-    ] e
-
--- if one of some tests fails, those after make no difference
-pub before_some : (ts us : List Test) (v : Verdict) → first_failing ts ≡ Some v → first_failing (ts ++ us) ≡ Some v
-before_some [] us v e = absurd cc
-before_some (t ∷ ts) us v e =
-    elim (t.0) as (λ b. cond b (first_failing ts) (Some t.1) ≡ Some v
-    → cond b (first_failing (ts ++ us)) (Some t.1) ≡ Some v) [
-      | true ↦ λ f. before_some ts us v f
-      | false ↦ λ f. f
-    ] e
-
--- the first of two lists that fails is the first of the one, or otherwise of the other
-pub first_failing-append : (ts us : List Test)
-    → option_or (first_failing ts) (first_failing us) ≡ first_failing (ts ++ us)
-first_failing-append [] us = refl
-first_failing-append (t ∷ ts) us =
-    elim (t.0) as (λ b. option_or (cond b (first_failing ts) (Some t.1)) (first_failing us)
-    ≡ cond b (first_failing (ts ++ us)) (Some t.1)) [
-      | true ↦ first_failing-append ts us
-      | false ↦ refl
-    ]
-
--- if none of two lists fails, none of either does
-none_of_first : (ts us : List Test) → first_failing (ts ++ us) ≡ None → first_failing ts ≡ None
-none_of_first [] us e = refl
-none_of_first (t ∷ ts) us e =
-    elim (t.0) as (λ b. cond b (first_failing (ts ++ us)) (Some t.1) ≡ None
-    → cond b (first_failing ts) (Some t.1) ≡ None) [
-      | true ↦ λ f. none_of_first ts us f
-      | false ↦ λ f. f
-    ] e
-
 module _ {X : Type 0} (tests : ℕ × X → List Test) where
   -- the first of the tests of elements with their numbers that fails
-  abbrev pub first_of : ℕ → List X → Option Verdict
+  abbrev pub first_of : ℕ → List X → Option Refusal
   first_of n xs = first_failing (flat_map tests (enumerate_from n xs))
 
   -- one element more, whose tests pass
@@ -88,14 +49,14 @@ module _ {X : Type 0} (tests : ℕ × X → List Test) where
       ap first_failing (append-nil (tests (n, y))) ∙ ap (λ (z : X). first_failing (tests (n, z))) same
       ∙ ap (λ (m : ℕ). first_failing (tests (m, x))) number ∙ here
   none-more n (y ∷ ys) (suc i) x at none here =
-      let first : first_failing (tests (n, y)) ≡ None = none_of_first (tests (n, y)) _ none in
+      let first : first_failing (tests (n, y)) ≡ None = (none_of (tests (n, y)) _ none).0 in
       let number : n + 1 + i ≡ n + suc i = omega arith in
       behind_none (tests (n, y)) _ first
       ∙ none-more (n + 1) ys i x at (sym (behind_none (tests (n, y)) _ first) ∙ none)
       (ap (λ (m : ℕ). first_failing (tests (m, x))) number ∙ here)
 
   -- the first element of which a test fails
-  pub some_at : (n : ℕ) (xs : List X) (i : ℕ) (x : X) (v : Verdict) → slice_get xs i ≡ Some x
+  pub some_at : (n : ℕ) (xs : List X) (i : ℕ) (x : X) (v : Refusal) → slice_get xs i ≡ Some x
       → first_of n (take i xs) ≡ None → first_failing (tests (n + i, x)) ≡ Some v → first_of n xs ≡ Some v
   some_at n [] i x v at none here = absurd cc
   some_at n (y ∷ ys) zero x v at none here =
@@ -104,21 +65,21 @@ module _ {X : Type 0} (tests : ℕ × X → List Test) where
       before_some (tests (n, y)) _ v (ap (λ (z : X). first_failing (tests (n, z))) same
       ∙ ap (λ (m : ℕ). first_failing (tests (m, x))) number ∙ here)
   some_at n (y ∷ ys) (suc i) x v at none here =
-      let first : first_failing (tests (n, y)) ≡ None = none_of_first (tests (n, y)) _ none in
+      let first : first_failing (tests (n, y)) ≡ None = (none_of (tests (n, y)) _ none).0 in
       let number : n + 1 + i ≡ n + suc i = omega arith in
       behind_none (tests (n, y)) _ first
       ∙ some_at (n + 1) ys i x v at (sym (behind_none (tests (n, y)) _ first) ∙ none)
       (ap (λ (m : ℕ). first_failing (tests (m, x))) number ∙ here)
 
   -- what an element's tests say is what all say, if it is the first with one that fails
-  pub fault_here : (n : ℕ) (xs : List X) (i m : ℕ) (x : X) (o : Option Verdict) → m ≡ n + i → is_some o ≡ true
+  pub fault_here : (n : ℕ) (xs : List X) (i m : ℕ) (x : X) (o : Option Refusal) → m ≡ n + i → is_some o ≡ true
       → slice_get xs i ≡ Some x → first_of n (take i xs) ≡ None → o ≡ first_failing (tests (m, x)) → o ≡ first_of n xs
   fault_here n xs i m x None number some at none here = absurd cc
   fault_here n xs i m x (Some v) number some at none here =
       sym (some_at n xs i x v at none (ap (λ (k : ℕ). first_failing (tests (k, x))) (sym number) ∙ sym here))
 
   -- and none fails so far, if none of its tests does
-  pub none_here : (n : ℕ) (xs : List X) (i m : ℕ) (x : X) (o : Option Verdict) → m ≡ n + i → is_some o ≡ false
+  pub none_here : (n : ℕ) (xs : List X) (i m : ℕ) (x : X) (o : Option Refusal) → m ≡ n + i → is_some o ≡ false
       → slice_get xs i ≡ Some x → first_of n (take i xs) ≡ None → o ≡ first_failing (tests (m, x))
       → first_of n (take (i + 1) xs) ≡ None
   none_here n xs i m x None number some at none here =
@@ -179,7 +140,7 @@ watched_at cs rows found i m e lt is =
 
 -- the error of a line is that of the line at its place
 pub fault-placed : (q : Asked) (kth : Option ℤ) (rows : List Candidate) (counts : List ℕ) (lines : List Entry) (i : ℕ)
-    (line : Entry) (count : Option ℕ) (s : Option Usable) (o : Option Verdict)
+    (line : Entry) (count : Option ℕ) (s : Option Usable) (o : Option Refusal)
     → o ≡ first_failing (line_tests q kth rows (i + 4) line count s) → count ≡ slice_get counts i
     → slice_get lines i ≡ Some line
     → option_map (λ l. first_failing (line_tests q kth rows (i + 4) l (slice_get counts i) s)) (slice_get lines i) ≡
@@ -187,7 +148,7 @@ pub fault-placed : (q : Asked) (kth : Option ℤ) (rows : List Candidate) (count
 fault-placed q kth rows counts lines i line count s o said own there =
     ap (option_map (λ (l : Entry). first_failing (line_tests q kth rows (i + 4) l (slice_get counts i) s))) there
     ∙ ap (λ (n : Option ℕ). Some (first_failing (line_tests q kth rows (i + 4) line n s))) (sym own)
-    ∙ ap (λ (v : Option Verdict). Some v) (sym said)
+    ∙ ap (λ (v : Option Refusal). Some v) (sym said)
 
 -- a count is the number of rows, if that is this number, if and only if it is this number
 pub counted_there : (rows : List Candidate) (e : Entry) (wanted : ℕ) (count : Option ℕ) → wanted ≡ count_of rows e
@@ -237,11 +198,11 @@ top-bounded bound [] = refl
 top-bounded bound (c ∷ cs) = sym (fold-bounded c.score bound cs)
 
 -- the error of a line by what its four tests come to
-abbrev fault_by : ℕ → Bool → Bool → Bool → Bool → Option Verdict
+abbrev fault_by : ℕ → Bool → Bool → Bool → Bool → Option Refusal
 fault_by number own above below counted =
-    cond own (cond above (cond below (cond counted None (Some (Refused Certificate number NotCounted)))
-    (Some (Refused Certificate number NotBelow))) (Some (Refused Certificate number NoBound)))
-    (Some (Refused Certificate number OtherSeries))
+    cond own (cond above (cond below (cond counted None (Some (refusal Certificate number NotCounted)))
+    (Some (refusal Certificate number NotBelow))) (Some (refusal Certificate number NoBound)))
+    (Some (refusal Certificate number OtherSeries))
 
 -- no candidate is above a bound, by the greatest score
 abbrev pub is_low : ℤ → Option ℤ → Bool
@@ -273,19 +234,19 @@ module _ (q : Asked) (kth : Option ℤ) (rows : List Candidate) (number : ℕ) (
 
   -- a candidate is above the bound
   pub no_bound : is_low e.bound t.highest ≡ false
-      → Some (Refused Certificate number NoBound) ≡ first_failing (line_tests q kth rows number e count s)
+      → Some (refusal Certificate number NoBound) ≡ first_failing (line_tests q kth rows number e count s)
   no_bound f =
       sym (by_three false (not e.skipped || bound_is_below kth e.bound) (is_counted rows e count) f refl refl)
 
   -- a skip isn't below
   pub not_below : is_low e.bound t.highest ≡ true → (not e.skipped || bound_is_below kth e.bound) ≡ false
-      → Some (Refused Certificate number NotBelow) ≡ first_failing (line_tests q kth rows number e count s)
+      → Some (refusal Certificate number NotBelow) ≡ first_failing (line_tests q kth rows number e count s)
   not_below f g = sym (by_three true false (is_counted rows e count) f g refl)
 
   -- a count is wrong
   pub not_counted : is_low e.bound t.highest ≡ true → (not e.skipped || bound_is_below kth e.bound) ≡ true
       → is_counted rows e count ≡ false
-      → Some (Refused Certificate number NotCounted) ≡ first_failing (line_tests q kth rows number e count s)
+      → Some (refusal Certificate number NotCounted) ≡ first_failing (line_tests q kth rows number e count s)
   not_counted f g h = sym (by_three true true false f g h)
 
   -- no test fails
@@ -294,13 +255,13 @@ module _ (q : Asked) (kth : Option ℤ) (rows : List Candidate) (number : ℕ) (
   none_fails_there f g h = sym (by_three true true true f g h)
 
 -- the error of a line by its number and its place
-abbrev fault_at : Asked → Contents → Option ℤ → List Candidate → List ℕ → Entry → ℕ → ℕ → Option Verdict
+abbrev fault_at : Asked → Contents → Option ℤ → List Candidate → List ℕ → Entry → ℕ → ℕ → Option Refusal
 fault_at q c kth rows counts e number place =
     first_failing (line_tests q kth rows number e (slice_get counts place) (slice_get (morsels q c) place))
 
 -- what is said of the line at a place
 pub line_there : (q : Asked) (c : Contents) (kth : Option ℤ) (rows : List Candidate) (counts : List ℕ)
-    (es : List Entry) (i : ℕ) (o : Option Verdict)
+    (es : List Entry) (i : ℕ) (o : Option Refusal)
     → option_map (λ e. first_failing (line_tests q kth rows (i + 4) e (slice_get counts i) (slice_get (morsels q c) i)))
     (slice_get es i) ≡ Some o
     → (e : Entry) × (slice_get es i ≡ Some e) × (o ≡ first_failing (entry_tests q c kth rows counts (i + 1, e)))

@@ -11,15 +11,14 @@ use Rattle.rank_scores.specs.declared.candidate.Candidate.{Candidate}
 use Rattle.rank_scores.specs.Order.{AreApart, best, kth_score}
 use Rattle.rank_scores.specs.Morsels.{all_candidates, kth_of_query}
 use Rattle.rank_scores.proofs.Ranks.{of_rank-is}
-use Rattle.rank_papers.specs.declared.paper.Row.{Row}
 use Rattle.rank_papers.specs.Certificate.{kth_of_best}
-use Rattle.rank_papers.specs.ReportLines.{Reported, IsReported, named_in}
+use Rattle.rank_papers.specs.ReportLines.{Reported, IsReported}
 use Rattle.rank_papers.specs.Laws.{CertificatesAreRead}
-use Rattle.rank_check.specs.Survey.{candidates_of}
+use Rattle.rank_papers.proofs.FirstFailing.{none_fails}
+use Rattle.rank_papers.proofs.SameQueries.{one_query}
 use Rattle.rank_check.specs.Tests.{report_tests, tests_of_rows}
 use Rattle.rank_check.proofs.Each.{each-parts}
-use Rattle.rank_check.proofs.Accepted.{Passes, none_fails}
-use Rattle.rank_check.proofs.AcceptedWhereRight.{one_query}
+use Rattle.rank_check.proofs.Accepted.{Passes}
 use Rattle.rank_check.proofs.RightRows.{rows_best}
 use Rattle.rank_check.proofs.SortedCandidates.{in_order, ordered-permutation, ordered-descends, best_first}
 
@@ -41,11 +40,6 @@ kth-best (suc n) all apart some =
     ∙ ap (option_map (λ (c : Candidate). c.score)) (last_taken n (in_order all))
     ∙ ap (option_map (λ (c : Candidate). c.score))
     (sym (of_rank-is all (in_order all) (ordered-permutation all) (ordered-descends all apart) n))
-
--- the candidates of rows
-pub candidates_named : (rows : List Row) → candidates_of rows ≡ map (λ row. row.0) (map named_in rows)
-candidates_named [] = refl
-candidates_named (r ∷ rows) = ap (λ (l : List Candidate). r.candidate ∷ l) (candidates_named rows)
 
 -- so it is with the rows of a report none of whose tests fails
 pub kth_known : CertificatesAreRead → (q : Asked) (c : Contents) → IsAsked q → AreApart (all_candidates q c)

@@ -21,8 +21,3 @@ pub mod Piecing
 pub mod Members
 pub mod QueryMembers
 pub mod RowsWithin
-pub mod RisingIds
-pub mod PiecesSay
-pub mod StationRows
-pub mod SaidInPieces
-pub mod EntryLists

@@ -11,7 +11,7 @@ use Rattle.rank_query.specs.declared.score.Score.TheVariants.{Cold}
 use Rattle.rank_query.specs.Asked.{top}
 use Rattle.rank_query.specs.Words.{says}
 use Rattle.rank_query.specs.Readers.{keyword}
-use Rattle.rank_query.specs.WordValues.{number, element, heat}
+use Rattle.rank_query.specs.WordValues.{number, heat}
 use Rattle.rank_query.specs.Reading.{no_score_at, score_at, region_at, season_at, period_at, per_at, read_words}
 use Rattle.rank_query.specs.Reading.{read_query}
 use Rattle.rank_check.specs.declared.verdict.Why.{Why}
@@ -26,7 +26,7 @@ use Rattle.rank_papers.specs.Report.{Named}
 use Rattle.rank_papers.specs.Certificate.{Entry}
 use Rattle.rank_check.specs.Tests.{verdict}
 use Rattle.rank_check.specs.Pieces.{is_morsel, piece_tests}
-use Rattle.rank_check.proofs.Examples.{warm, ask, text, report, certificate}
+use Rattle.rank_check.proofs.Examples.{warm, ask, text}
 
 -- ---- pieces
 

@@ -21,7 +21,8 @@ use Rattle.rank_scores.specs.Candidates.{candidates}
 use Rattle.rank_scores.specs.Order.{bound_is_below}
 use Rattle.rank_papers.specs.Report.{Named, trimmed}
 use Rattle.rank_papers.specs.Certificate.{Entry}
-use Rattle.rank_head.specs.HeadTests.{of_rows}
+use Rattle.rank_papers.specs.Papers.{of_rows}
+use Rattle.rank_papers.proofs.FirstFailing.{none_fails, all_pass}
 use Rattle.rank_check.specs.declared.verdict.Why.{Why}
 use Rattle.rank_check.specs.declared.verdict.Why.TheVariants.{NotACandidate, OtherSeries, NotCounted, NotBest}
 use Rattle.rank_check.specs.declared.verdict.Why.TheVariants.{NoBound, NotBelow}
@@ -32,22 +33,6 @@ use Rattle.rank_check.specs.Survey.{top_score}
 use Rattle.rank_check.proofs.Failing.{is_low, top-bounded}
 use Rattle.rank_check.proofs.Members.{among_in, in_among}
 use Rattle.rank_check.proofs.RightLines.{above_from, above_to, below_from, below_to}
-
--- ---- tests of any kind
-
--- none of some tests fails if and only if each passes
-pub passing : {W : Type 0} (ts : List (Bool × W)) → first_failing ts ≡ None → AllByRecursion (λ t. t.0 ≡ true) ts
-passing [] e = tt
-passing (t ∷ ts) e = elim (t.0) as (λ b. t.0 ≡ b → cond b (first_failing ts) (Some t.1) ≡ None
-    → AllByRecursion (λ x. x.0 ≡ true) (t ∷ ts)) [
-      | true ↦ λ p f. (p, passing ts f)
-      | false ↦ λ p f. absurd cc
-    ] refl e
-
--- and back
-pub none_failing : {W : Type 0} (ts : List (Bool × W)) → AllByRecursion (λ t. t.0 ≡ true) ts → first_failing ts ≡ None
-none_failing [] h = refl
-none_failing (t ∷ ts) h = ap (λ (b : Bool). cond b (first_failing ts) (Some t.1)) h.0 ∙ none_failing ts h.1
 
 -- ---- a piece by its first three tests
 
@@ -219,6 +204,6 @@ pub right_piece : (q : Asked) (st : Station) (s : Option Usable) (e : Entry) (pr
     (worst : Option Candidate) → AreRowsWithin worst (of_rows rows)
     → (first_failing (piece_tests q st s e printed rows worst) ≡ None) ↔ IsRightPiece q st s e printed rows worst
 right_piece q st s e printed rows worst within = (
-  λ f. right_from q st e printed rows worst within s (passing (piece_tests q st s e printed rows worst) f),
-  λ h. none_failing (piece_tests q st s e printed rows worst) (passes_where q st e printed rows worst within s h),
+  λ f. right_from q st e printed rows worst within s (none_fails (piece_tests q st s e printed rows worst) f),
+  λ h. all_pass (piece_tests q st s e printed rows worst) (passes_where q st e printed rows worst within s h),
 )

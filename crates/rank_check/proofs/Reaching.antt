@@ -8,9 +8,10 @@ use Rattle.std.proofs.lemmas.List.Folds.{list_any-append}
 use Rattle.rank_scores.specs.declared.candidate.Candidate.{Candidate}
 use Rattle.rank_scores.specs.Order.{full_cmp}
 use Rattle.rank_papers.specs.declared.paper.Row.{Row}
+use Rattle.rank_papers.specs.Papers.{candidates_of}
 use Rattle.rank_check.specs.declared.pieces.Wanted.{Wanted}
 use Rattle.rank_check.specs.declared.pieces.Reached.{Reached}
-use Rattle.rank_check.specs.Survey.{top_score, candidates_of}
+use Rattle.rank_check.specs.Survey.{top_score}
 use Rattle.rank_check.specs.Tests.{is_one_of}
 use Rattle.rank_check.specs.Pieces.{is_within_worst}
 use Rattle.rank_check.specs.Reach.{wanted_by, is_printed, is_missing, reached_by}

@@ -1,11 +1,11 @@
 -- The tests of a certificate's lines pass if and only if each is a right entry of its morsel.
 use Rattle.std.proofs.Common.{◌≡◌, ℕ, suc, ◌+◌, ◌-◌, ◌≤◌, Bool, true, false, not, List, [], ◌∷◌, length, map, Option}
-use Rattle.std.proofs.Common.{Some, None, refl, sym, ap, ◌∙◌, arith, ℤ, ◌≤ℤ◌, ◌||◌}
+use Rattle.std.proofs.Common.{Some, refl, sym, ap, ◌∙◌, arith, ℤ, ◌≤ℤ◌, ◌||◌}
 use Rattle.std.specs.Prelude.{slice_get, nat_le, int_le, ◌&&◌, ⊤}
 use Rattle.std.specs.List.{flat_map, enumerate_from, list_all, AllByRecursion, AllZip}
 use Rattle.std.specs.Option.{option_map_or}
 use Rattle.std.proofs.lemmas.Bool.{and_parts, leb-true, le-leb, eqb-true}
-use Rattle.std.proofs.lemmas.Bool.Decides.{Decides-int_eq, nat_tests}
+use Rattle.std.proofs.lemmas.Bool.Decides.{nat_tests}
 use Rattle.std.proofs.lemmas.Slice.Zip.{AllZip-long}
 use Rattle.std.proofs.lemmas.Int.{ints}
 use Rattle.ghcn_files.specs.declared.station.StationId.{StationId}
@@ -18,7 +18,6 @@ use Rattle.rank_scores.specs.Candidates.{candidates}
 use Rattle.rank_scores.specs.Order.{bound_is_below}
 use Rattle.rank_scores.specs.Morsels.{morsels}
 use Rattle.rank_papers.specs.Certificate.{Entry, IsEntry, IsRightEntry, count_of}
-use Rattle.rank_head.specs.HeadTests.{same_score}
 use Rattle.rank_check.specs.Tests.{is_above, is_counted, entry_tests}
 use Rattle.rank_check.proofs.Accepted.{Passes}
 
@@ -47,18 +46,6 @@ above_to bound [] h = refl
 above_to bound (c ∷ cs) h =
     ap (λ (b : Bool). b && list_all (λ d. int_le d.score bound) cs) (le_to c.score bound h.0)
     ∙ above_to bound cs h.1
-
--- k-th scores that are the same are equal
-pub score_from : (a b : Option ℤ) → same_score a b ≡ true → a ≡ b
-score_from None None e = refl
-score_from None (Some b) e = absurd cc
-score_from (Some a) None e = absurd cc
-score_from (Some a) (Some b) e = ap (λ (z : ℤ). Some z) ((Decides-int_eq a b).0 e)
-
--- and back
-pub score_to : (a : Option ℤ) → same_score a a ≡ true
-score_to None = refl
-score_to (Some a) = (Decides-int_eq a a).1 refl
 
 -- ---- entries
 

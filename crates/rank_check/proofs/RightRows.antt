@@ -17,6 +17,7 @@ use Rattle.rank_scores.specs.Order.{precedes, rank_in, AreApart}
 use Rattle.rank_scores.specs.Morsels.{all_candidates, best_of_query}
 use Rattle.rank_papers.specs.Report.{Named, trimmed}
 use Rattle.rank_papers.specs.ReportLines.{name_of}
+use Rattle.rank_papers.specs.Papers.{of_rows}
 use Rattle.rank_check.specs.Tests.{is_one_of, is_named, row_before, row_tests, are_enough}
 use Rattle.std.proofs.lemmas.List.{take_all}
 use Rattle.std.proofs.lemmas.Option.{slice_get-map}
@@ -100,14 +101,10 @@ module _ (q : Asked) (c : Contents) (apart : AreApart (all_candidates q c)) (row
   abbrev all : List Candidate
   all = all_candidates q c
 
-  -- the candidates of some rows
-  abbrev candidates_of : List Named → List Candidate
-  candidates_of some = map (λ row. row.0) some
-
   -- rows whose tests pass are the candidates from a place on
   rows_stand : (n : ℕ) (some : List Named)
       → AllByRecursion Passes (flat_map (row_tests q c rows) (enumerate_from (n + 1) some))
-      → candidates_of some ≡ take (length some) (drop n (in_order all))
+      → of_rows some ≡ take (length some) (drop n (in_order all))
   rows_stand n [] h = refl
   rows_stand n (row ∷ some) h =
       let two : (is_one_of all row.0 ≡ true) × (is_named c.stations row ≡ true) =
@@ -117,7 +114,7 @@ module _ (q : Asked) (c : Contents) (apart : AreApart (all_candidates q c)) (row
       ap (λ (m : ℕ). rank_in all row.0 == m) (sym place) ∙ h.1.1.0 in
       let here : slice_get (in_order all) n ≡ Some row.0 = at_rank all apart n row.0 two.0 rank in
       let next : n + 1 ≡ suc n = omega arith in
-      let behind : candidates_of some ≡ take (length some) (drop (n + 1) (in_order all)) =
+      let behind : of_rows some ≡ take (length some) (drop (n + 1) (in_order all)) =
       rows_stand (n + 1) some h.1.1.1 in
       ap (λ (l : List Candidate). row.0 ∷ l) behind
       ∙ ap (λ (m : ℕ). row.0 ∷ take (length some) (drop m (in_order all))) next
@@ -134,20 +131,20 @@ module _ (q : Asked) (c : Contents) (apart : AreApart (all_candidates q c)) (row
 
   -- rows whose tests pass are the best, if there are enough
   pub rows_best : length rows ≤ q.k → AllByRecursion Passes (flat_map (row_tests q c rows) (enumerate_from 1 rows))
-      → are_enough q.k (length all) (length rows) ≡ true → candidates_of rows ≡ best_of_query q c
+      → are_enough q.k (length all) (length rows) ≡ true → of_rows rows ≡ best_of_query q c
   rows_best few h enough =
-      let stand : candidates_of rows ≡ take (length rows) (in_order all) = rows_stand 0 rows h in
+      let stand : of_rows rows ≡ take (length rows) (in_order all) = rows_stand 0 rows h in
       let long : (nat_le q.k (length rows) || nat_le (length (in_order all)) (length rows)) ≡ true =
       ap (λ (m : ℕ). nat_le q.k (length rows) || nat_le m (length rows)) (ordered-length all apart) ∙ enough in
       stand ∙ taken-enough q.k (length rows) (in_order all) few long ∙ sym (best_first all apart q.k)
 
   -- ---- and back
 
-  module _ (best_are : candidates_of rows ≡ best_of_query q c) where
+  module _ (best_are : of_rows rows ≡ best_of_query q c) where
     -- what is among the rows is there in order
     row_at : (i : ℕ) (row : Named) → slice_get rows i ≡ Some row → slice_get (in_order all) i ≡ Some row.0
     row_at i row e =
-        let made : slice_get (candidates_of rows) i ≡ Some row.0 = made_from (λ r. r.0) rows i row e in
+        let made : slice_get (of_rows rows) i ≡ Some row.0 = made_from (λ r. r.0) rows i row e in
         let first : slice_get (take q.k (in_order all)) i ≡ Some row.0 =
         ap (λ (l : List Candidate). slice_get l i) (sym (best_are ∙ best_first all apart q.k)) ∙ made in
         from_first q.k (in_order all) i row.0 first
@@ -198,7 +195,7 @@ module _ (q : Asked) (c : Contents) (apart : AreApart (all_candidates q c)) (row
     -- there are enough rows
     enough : are_enough q.k (length all) (length rows) ≡ true
     enough =
-        let firsts : candidates_of rows ≡ take q.k (in_order all) = best_are ∙ best_first all apart q.k in
+        let firsts : of_rows rows ≡ take q.k (in_order all) = best_are ∙ best_first all apart q.k in
         let many : length rows ≡ length (take q.k (in_order all)) =
         sym (length-map rows (λ (r : Named). r.0)) ∙ ap (λ (l : List Candidate). length l) firsts in
         ap (λ (m : ℕ). nat_le q.k (length rows) || nat_le m (length rows)) (sym (ordered-length all apart))

@@ -15,10 +15,8 @@ use Rattle.rank_scores.specs.declared.candidate.Candidate.{Candidate}
 use Rattle.rank_scores.specs.Order.{precedes, full_cmp}
 use Rattle.rank_scores.proofs.Ranks.{rank_cmp_total, Descends}
 use Rattle.ghcn_files.proofs.Ordered as ordered
-use Rattle.rank_papers.specs.Report.{Named}
-use Rattle.rank_head.specs.HeadTests.{of_rows}
-use Rattle.rank_head.specs.RightHead as head
-use Rattle.rank_check.specs.Pieces.{is_within_worst, AreInOrder}
+use Rattle.rank_papers.specs.Papers.{AreInOrder}
+use Rattle.rank_check.specs.Pieces.{is_within_worst}
 use Rattle.ghcn_series.proofs.Members.{In, of_one, for_each}
 use Rattle.rank_check.proofs.SortedCandidates.{same_from_tie, own_tie}
 
@@ -85,24 +83,6 @@ order_descends (c ∷ []) h = (tt, tt)
 order_descends (c ∷ d ∷ cs) h =
     let rest = order_descends (d ∷ cs) h.1 in
     ((h.0, precede_all c d cs h.0 rest.0), rest)
-
--- and back
-pub descends_order : (cs : List Candidate) → Descends cs → AreInOrder cs
-descends_order [] h = tt
-descends_order (c ∷ []) h = tt
-descends_order (c ∷ d ∷ cs) h = (h.0.0, descends_order (d ∷ cs) h.1)
-
--- the candidates of rows in order are in order
-pub rows_in_order : (rows : List Named) → head.AreInOrder rows → AreInOrder (of_rows rows)
-rows_in_order [] h = tt
-rows_in_order (r ∷ []) h = tt
-rows_in_order (r ∷ s ∷ rows) h = (h.0, rows_in_order (s ∷ rows) h.1)
-
--- and back
-pub order_rows : (rows : List Named) → AreInOrder (of_rows rows) → head.AreInOrder rows
-order_rows [] h = tt
-order_rows (r ∷ []) h = tt
-order_rows (r ∷ s ∷ rows) h = (h.0, order_rows (s ∷ rows) h.1)
 
 -- what holds of each holds of those that are kept
 each_kept : (P : Candidate → Type 0) (test : Candidate → Bool) (cs : List Candidate) → AllByRecursion P cs

@@ -4,6 +4,5 @@ pub mod Marks
 pub mod FoundFaults
 pub mod Pieces
 pub mod Reach
-pub mod InPieces
 pub mod Texts
 pub mod Laws

@@ -2,7 +2,7 @@
 -- in any order.
 use Rattle.std.specs.Prelude.{◌≡◌, ◌↔◌, ℕ, ◌==◌, Bool, true, false, ◌&&◌, ◌||◌, not, List, [], ◌∷◌, length, Option}
 use Rattle.std.specs.Prelude.{None}
-use Rattle.std.specs.Prelude.{Some, ⊤, ℤ}
+use Rattle.std.specs.Prelude.{Some, ℤ}
 use Rattle.std.specs.List.{list_all, Contains, AllByRecursion}
 use Rattle.std.specs.Option.{option_map, option_map_or}
 use Rattle.std.specs.Ordering.{is_eq}
@@ -18,7 +18,7 @@ use Rattle.rank_scores.specs.Order.{full_cmp, precedes, bound_is_below}
 use Rattle.rank_scores.specs.Morsels.{has_admitted, IsAbove}
 use Rattle.rank_papers.specs.Report.{Named, trimmed}
 use Rattle.rank_papers.specs.Certificate.{Entry}
-use Rattle.rank_head.specs.HeadTests.{of_rows}
+use Rattle.rank_papers.specs.Papers.{of_rows, AreInOrder}
 use Rattle.rank_check.specs.declared.verdict.Why.{Why}
 use Rattle.rank_check.specs.declared.verdict.Why.TheVariants.{NotACandidate, NotBest, OtherSeries, NoBound, NotBelow}
 use Rattle.rank_check.specs.declared.verdict.Why.TheVariants.{NotCounted}
@@ -39,12 +39,6 @@ is_within_worst (Some worst) c = precedes c worst || is_eq (full_cmp c worst)
 -- the k-th score: that of the worst row, if there is one
 abbrev pub score_of : Option Candidate → Option ℤ
 score_of worst = option_map (λ c. c.score) worst
-
--- each row precedes the next
-abbrev pub AreInOrder : List Candidate → Type 0
-AreInOrder [] = ⊤
-AreInOrder (c ∷ []) = ⊤
-AreInOrder (c ∷ d ∷ cs) = (precedes c d ≡ true) × AreInOrder (d ∷ cs)
 
 -- rows of one report: each precedes the next, and none comes after the worst
 pub record AreRowsWithin (worst : Option Candidate) (rows : List Candidate) : Type 0 where

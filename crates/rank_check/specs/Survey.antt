@@ -12,7 +12,6 @@ use Rattle.rank_scores.specs.declared.candidate.Candidate.{Candidate}
 use Rattle.rank_scores.specs.Candidates.{candidates}
 use Rattle.rank_scores.specs.Order.{full_cmp, precedes, rank_in}
 use Rattle.rank_scores.specs.Morsels.{all_candidates, morsels}
-use Rattle.rank_papers.specs.declared.paper.Row.{Row}
 use Rattle.rank_check.specs.declared.tally.Met.{Met}
 use Rattle.rank_check.specs.declared.survey.Top.{Top}
 use Rattle.rank_check.specs.declared.survey.Findings.{Findings}
@@ -83,10 +82,6 @@ later (Some last) c = if is_le (full_cmp c last) then last else c
 -- no row comes after the last one
 abbrev pub IsLast : Option Candidate → List Candidate → Type 0
 IsLast last rows = AllByRecursion (λ c. reaches last c ≡ true) rows
-
--- the candidates of rows
-abbrev pub candidates_of : List Row → List Candidate
-candidates_of rows = map (λ row. row.candidate) rows
 
 -- ---- series
 

@@ -2,8 +2,8 @@
 use Rattle.std.specs.Prelude.{ℕ, ◌+◌, ◌-◌, ◌==◌, Bool, true, false, ◌&&◌, ◌||◌, not, nat_le, if◌then◌else◌, List, []}
 use Rattle.std.specs.Prelude.{◌∷◌, ◌++◌, length, Option, None, Some, Result, Ok, Err, ℤ, int_le, slice_get}
 use Rattle.std.specs.List.{flat_map, list_all, list_any, find, enumerate_from}
-use Rattle.std.specs.Option.{option_map_or}
-use Rattle.std.specs.Ordering.{is_eq}
+use Rattle.std.specs.Option.{option_eq, option_map_or}
+use Rattle.std.specs.Ordering.{is_eq, int_eq}
 use Rattle.ghcn_fields.specs.Bytes.{same_bytes}
 use Rattle.ghcn_fields.specs.Faults.{first_failing}
 use Rattle.ghcn_files.specs.declared.station.Station.{Station}
@@ -15,21 +15,27 @@ use Rattle.rank_scores.specs.declared.candidate.Candidate.{Candidate}
 use Rattle.rank_scores.specs.Candidates.{candidates}
 use Rattle.rank_scores.specs.Order.{full_cmp, precedes, rank_in, bound_is_below}
 use Rattle.rank_scores.specs.Morsels.{all_candidates, morsels, kth_of_query}
+use Rattle.rank_papers.specs.Papers.{read_papers, same_query, of_rows}
 use Rattle.rank_papers.specs.Report.{Named, trimmed}
-use Rattle.rank_papers.specs.ReportLines.{Reported, read_report}
+use Rattle.rank_papers.specs.ReportLines.{Reported}
 use Rattle.rank_papers.specs.Certificate.{Entry, Certified, count_of}
-use Rattle.rank_papers.specs.CertificateLines.{read_certificate}
-use Rattle.rank_head.specs.HeadTests.{of_rows, same_query, same_score}
-use Rattle.rank_check.specs.declared.verdict.Paper.TheVariants.{Report, Certificate}
+use Rattle.rank_papers.specs.declared.fault.Paper.{Paper}
+use Rattle.rank_papers.specs.declared.fault.Paper.TheVariants.{Report, Certificate}
+use Rattle.rank_check.specs.declared.verdict.Why.{Why}
 use Rattle.rank_check.specs.declared.verdict.Why.TheVariants.{Form, OtherQuery, NotACandidate, OutOfOrder, NotBest}
 use Rattle.rank_check.specs.declared.verdict.Why.TheVariants.{TooFew, OtherSeries, NoBound, NotBelow, NotCounted}
 use Rattle.rank_check.specs.declared.verdict.Why.TheVariants.{OtherFloor}
 use Rattle.rank_check.specs.declared.verdict.Verdict.{Verdict}
 use Rattle.rank_check.specs.declared.verdict.Verdict.TheVariants.{Accepted, Refused}
+use Rattle.rank_check.specs.declared.refusal.Refusal.{Refusal}
 
--- a test that may fail, and the verdict if it does
+-- the refusal of a line for a reason
+abbrev pub refusal : Paper → ℕ → Why → Refusal
+refusal paper line why = record { paper = paper; line = line; why = why }
+
+-- a test that may fail, and the refusal if it does
 abbrev pub Test : Type 0
-Test = Bool × Verdict
+Test = Bool × Refusal
 
 -- ---- rows
 
@@ -54,9 +60,9 @@ follows rows i row = option_map_or (λ r. precedes r.0 row.0) (row_before rows i
 abbrev pub row_tests : Asked → Contents → List Named → ℕ × Named → List Test
 row_tests q c rows row =
     let candidate = row.1.0 in
-    (is_one_of (all_candidates q c) candidate && is_named c.stations row.1, Refused Report (row.0 + 2) NotACandidate)
-    ∷ (follows rows row.0 row.1, Refused Report (row.0 + 2) OutOfOrder)
-    ∷ (rank_in (all_candidates q c) candidate == row.0 - 1, Refused Report (row.0 + 2) NotBest)
+    (is_one_of (all_candidates q c) candidate && is_named c.stations row.1, refusal Report (row.0 + 2) NotACandidate)
+    ∷ (follows rows row.0 row.1, refusal Report (row.0 + 2) OutOfOrder)
+    ∷ (rank_in (all_candidates q c) candidate == row.0 - 1, refusal Report (row.0 + 2) NotBest)
     ∷ []
 
 -- the tests of all rows
@@ -69,12 +75,12 @@ are_enough k candidates rows = nat_le k rows || nat_le candidates rows
 
 -- the test of the number of rows
 abbrev pub number_test : ℕ → ℕ → ℕ → Test
-number_test k candidates rows = (are_enough k candidates rows, Refused Report (rows + 3) TooFew)
+number_test k candidates rows = (are_enough k candidates rows, refusal Report (rows + 3) TooFew)
 
 -- the tests of a report that was read
 abbrev pub report_tests : Asked → Contents → Reported → List Test
 report_tests q c r =
-    (same_query r.query q, Refused Report 2 OtherQuery)
+    (same_query r.query q, refusal Report 2 OtherQuery)
     ∷ tests_of_rows q c r.rows
     ++ number_test q.k (length (all_candidates q c)) (length r.rows)
     ∷ []
@@ -93,10 +99,10 @@ is_counted rows e count = option_map_or (λ n. n == count_of rows e) count true
 -- score, the report these rows, and the line this count, if it has one
 abbrev pub line_tests : Asked → Option ℤ → List Candidate → ℕ → Entry → Option ℕ → Option Usable → List Test
 line_tests q kth rows number e count morsel =
-    (option_map_or (λ s. same_id e.id s.id) morsel false, Refused Certificate number OtherSeries)
-    ∷ (option_map_or (is_above q e.bound) morsel true, Refused Certificate number NoBound)
-    ∷ (not e.skipped || bound_is_below kth e.bound, Refused Certificate number NotBelow)
-    ∷ (is_counted rows e count, Refused Certificate number NotCounted)
+    (option_map_or (λ s. same_id e.id s.id) morsel false, refusal Certificate number OtherSeries)
+    ∷ (option_map_or (is_above q e.bound) morsel true, refusal Certificate number NoBound)
+    ∷ (not e.skipped || bound_is_below kth e.bound, refusal Certificate number NotBelow)
+    ∷ (is_counted rows e count, refusal Certificate number NotCounted)
     ∷ []
 
 -- the tests of the j-th line, from 1, of a certificate with these counts
@@ -110,31 +116,34 @@ tests_of_lines q c kth rows counts es = flat_map (entry_tests q c kth rows count
 
 -- the test of the number of lines: there are as many as morsels
 abbrev pub length_test : ℕ → ℕ → Test
-length_test morsels lines = (nat_le morsels lines, Refused Certificate (lines + 4) OtherSeries)
+length_test morsels lines = (nat_le morsels lines, refusal Certificate (lines + 4) OtherSeries)
 
 -- the tests of a certificate that was read, beside a report with these rows
 abbrev pub certificate_tests : Asked → Contents → List Candidate → Certified → List Test
 certificate_tests q c rows z =
-    (same_query z.query q, Refused Certificate 2 OtherQuery)
-    ∷ (same_score z.kth (kth_of_query q c), Refused Certificate 3 OtherFloor)
+    (same_query z.query q, refusal Certificate 2 OtherQuery)
+    ∷ (option_eq int_eq z.kth (kth_of_query q c), refusal Certificate 3 OtherFloor)
     ∷ tests_of_lines q c z.kth rows z.counts z.entries
     ++ length_test (length (morsels q c)) (length z.entries)
     ∷ []
 
 -- ---- the verdict
 
--- the verdict of the first test that fails, and acceptance if none does
-abbrev pub or_accepted : Option Verdict → Verdict
-or_accepted None = Accepted
-or_accepted (Some v) = v
+-- the tests of a report and a certificate that were read, in their order
+abbrev pub all_tests : Asked → Contents → Reported → Certified → List Test
+all_tests q c r z = report_tests q c r ++ certificate_tests q c (of_rows r.rows) z
 
--- the verdict on what the report and the certificate say, once both have been read
-abbrev pub judged : Asked → Contents → Result Reported ℕ → Result Certified ℕ → Verdict
-judged q c (Err line) z = Refused Report line Form
-judged q c (Ok r) (Err line) = Refused Certificate line Form
-judged q c (Ok r) (Ok z) =
-    or_accepted (first_failing (report_tests q c r ++ certificate_tests q c (of_rows r.rows) z))
+-- the refusal of what the report and the certificate say: of the first line that doesn't match the format there, or
+-- otherwise by the first test that fails
+abbrev pub refused : Asked → Contents → Result (Reported × Certified) (Paper × ℕ) → Option Refusal
+refused q c (Err bad) = Some (refusal bad.0 bad.1 Form)
+refused q c (Ok both) = first_failing (all_tests q c both.0 both.1)
+
+-- acceptance, if nothing is refused
+abbrev pub verdict_of : Option Refusal → Verdict
+verdict_of None = Accepted
+verdict_of (Some r) = Refused r.paper r.line r.why
 
 -- the verdict on the texts of a report and a certificate
 abbrev pub verdict : Asked → Contents → List ℕ → List ℕ → Verdict
-verdict q c report certificate = judged q c (read_report report) (read_certificate certificate)
+verdict q c report certificate = verdict_of (refused q c (read_papers report certificate))

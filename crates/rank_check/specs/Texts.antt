@@ -1,19 +1,15 @@
 -- The line that a verdict prints.
 use Rattle.std.specs.Prelude.{ℕ, List, ◌++◌, codes}
 use Rattle.std.specs.Fmt.{decimal}
-use Rattle.rank_check.specs.declared.verdict.Paper.{Paper}
-use Rattle.rank_check.specs.declared.verdict.Paper.TheVariants.{Report, Certificate}
+use Rattle.rank_papers.specs.Papers.{paper_text}
 use Rattle.rank_check.specs.declared.verdict.Why.{Why}
 use Rattle.rank_check.specs.declared.verdict.Why.TheVariants.{Form, OtherQuery, NotACandidate, OutOfOrder, NotBest}
 use Rattle.rank_check.specs.declared.verdict.Why.TheVariants.{TooFew, OtherSeries, NoBound, NotBelow, NotCounted}
 use Rattle.rank_check.specs.declared.verdict.Why.TheVariants.{OtherFloor}
+use Rattle.rank_check.specs.declared.refusal.Refusal.{Refusal}
 use Rattle.rank_check.specs.declared.verdict.Verdict.{Verdict}
 use Rattle.rank_check.specs.declared.verdict.Verdict.TheVariants.{Accepted, Refused}
-
--- the word for a report or a certificate
-abbrev pub paper_text : Paper → List ℕ
-paper_text Report = codes "report"
-paper_text Certificate = codes "certificate"
+use Rattle.rank_check.specs.Tests.{refusal}
 
 -- the word for a reason
 abbrev pub why_text : Why → List ℕ
@@ -29,8 +25,12 @@ why_text NotBelow = codes "NotBelow"
 why_text NotCounted = codes "NotCounted"
 why_text OtherFloor = codes "OtherFloor"
 
+-- the line of a refusal, without its line feed
+abbrev pub refusal_text : Refusal → List ℕ
+refusal_text r =
+    codes "refused " ++ paper_text r.paper ++ codes " line " ++ decimal r.line ++ codes " " ++ why_text r.why
+
 -- the line of a verdict, without its line feed
 abbrev pub verdict_text : Verdict → List ℕ
 verdict_text Accepted = codes "accepted"
-verdict_text (Refused paper line why) =
-    codes "refused " ++ paper_text paper ++ codes " line " ++ decimal line ++ codes " " ++ why_text why
+verdict_text (Refused paper line why) = refusal_text (refusal paper line why)

@@ -1,40 +1,43 @@
-//! The verdict on a report and a certificate that were read.
+//! The first test that a report and a certificate that were read fail.
 
-ghost use Rattle.std.specs.Prelude.{◌≡◌, true, [], ◌∷◌, Ok, Some, IfOk, nat_le, length, map};
+ghost use Rattle.std.specs.Prelude.{◌≡◌, true, [], ◌∷◌, IfOk, nat_le, length, map};
 ghost use Rattle.ghcn_fields.specs.Faults.{first_failing};
 ghost use Rattle.rank_papers.specs.ReportLines.{reported_in, IsReported};
 ghost use Rattle.rank_papers.specs.Certificate.{count_of};
 ghost use Rattle.rank_papers.specs.CertificateLines.{certified_in};
-ghost use Rattle.rank_head.specs.HeadTests as head;
+ghost use Rattle.rank_papers.specs.Papers.{same_query};
+ghost use Rattle.rank_papers.specs.Papers as read;
 ghost use Rattle.rank_check.specs.FoundFaults.{IsFaultOfCertificate};
-ghost use Rattle.rank_check.specs.Survey.{AreFindings, candidates_of};
+ghost use Rattle.rank_check.specs.Survey.{AreFindings};
 ghost use Rattle.rank_check.specs.Tests as tests;
 
 use crate::lines::lines_fault;
+use crate::refusal::Refusal;
 use crate::rows::rows_fault;
 use crate::survey::{Findings, Top, survey};
-use crate::tally::candidates_of;
-use crate::verdict::{Paper, Verdict, Why};
+use crate::verdict::Why;
 use ghcn_fields::Memory;
 use ghcn_series::Data;
-use rank_head::{is_same_query, kth_score};
-use rank_papers::{Certificate, Line, Report, Row, certificates_are_read, row_counts};
+use rank_papers::{
+    Certificate, Line, Paper, Report, Row, candidates_of, certificates_are_read, is_same_query,
+    kth_score, row_counts,
+};
 use rank_query::Query;
 use rank_scores::candidates_of_queries;
 use std::alloc::Global;
 
-/// The verdict of the first test that fails, after one pass over the data, if the report has this
-/// query.
+/// The first test that a report and a certificate fail, after one pass over the data, if the report
+/// has this query.
 pub(crate) fn judge(
     alloc: Global,
     dataset: &Data,
     query: &Query,
     report: &Report,
     certificate: &Certificate,
-) -> Result<Verdict, Memory>
+) -> Result<Option<Refusal>, Memory>
     requires { IsReported (reported_in report.now) }
-    ensures { IfOk result (λ verdict. verdict ≡ tests.judged query.now dataset.now
-        (Ok (reported_in report.now)) (Ok (certified_in certificate.now))) }
+    ensures { IfOk result (λ fault. fault ≡ first_failing (tests.all_tests query.now dataset.now
+        (reported_in report.now) (certified_in certificate.now))) }
 {
     // The k-th row has the k-th score, since no two candidates of right data belong to one station and begin on one
     // day.
@@ -42,31 +45,23 @@ pub(crate) fn judge(
     certificates_are_read();
     let _stations = dataset.stations();
     if !is_same_query(alloc, &report.query, query)? {
-        return Ok(Verdict::Refused {
-            paper: Paper::Report,
-            line: 2,
-            why: Why::OtherQuery,
-        });
+        return Ok(Some(Refusal::new(Paper::Report, 2, Why::OtherQuery)));
     }
     let found = survey(alloc, dataset, query, report.rows.as_slice())?;
-    if let Some(fault) = report_fault(dataset, query, report, &found) {
+    let fault = report_fault(dataset, query, report, &found);
+    if fault.is_some() {
         return Ok(fault);
     }
     let rows = report.rows.as_slice();
     let kth = kth_score(query, rows);
-    Ok(
-        match certificate_fault(alloc, query, kth, rows, certificate, &found)? {
-            Some(fault) => fault,
-            None => Verdict::Accepted,
-        },
-    )
+    certificate_fault(alloc, query, kth, rows, certificate, &found)
 }
 
 /// The first test that a report of this query fails.
-fn report_fault(dataset: &Data, query: &Query, report: &Report, found: &Findings) -> Option<Verdict>
+fn report_fault(dataset: &Data, query: &Query, report: &Report, found: &Findings) -> Option<Refusal>
     requires can_be { IsReported (reported_in report.now) }
-    requires same { head.same_query report.now.query query.now ≡ true }
-    requires found { AreFindings query.now dataset.now (candidates_of report.now.rows.items) found.now }
+    requires same { same_query report.now.query query.now ≡ true }
+    requires found { AreFindings query.now dataset.now (read.candidates_of report.now.rows.items) found.now }
     ensures { result ≡ first_failing (tests.report_tests query.now dataset.now (reported_in report.now)) }
 {
     let rows = report.rows.as_slice();
@@ -75,14 +70,15 @@ fn report_fault(dataset: &Data, query: &Query, report: &Report, found: &Findings
 }
 
 /// The refusal of a report with too few rows.
-fn number_fault(query: &Query, rows: &[Row], found: &Findings) -> Option<Verdict>
+fn number_fault(query: &Query, rows: &[Row], found: &Findings) -> Option<Refusal>
     ensures { result
         ≡ first_failing (tests.number_test query.now.k found.now.count (length rows.now) ∷ []) }
 {
     if are_enough(query, rows.len() as u64, found.count) {
         return None;
     }
-    refused(Paper::Report, rows.len() as u64 + 3, Why::TooFew)
+    let line = rows.len() as u64 + 3;
+    Some(Refusal::new(Paper::Report, line, Why::TooFew))
 }
 
 /// Whether there are k rows, or a row for each candidate.
@@ -101,15 +97,15 @@ fn certificate_fault(
     rows: &[Row],
     certificate: &Certificate,
     found: &Findings,
-) -> Result<Option<Verdict>, Memory>
-    ensures { IfOk result (IsFaultOfCertificate query.now kth (candidates_of rows.now)
+) -> Result<Option<Refusal>, Memory>
+    ensures { IfOk result (IsFaultOfCertificate query.now kth (read.candidates_of rows.now)
         (certified_in certificate.now) found.now.tops.items) }
 {
     if !is_same_query(alloc, &certificate.query, query)? {
-        return Ok(refused(Paper::Certificate, 2, Why::OtherQuery));
+        return Ok(Some(Refusal::new(Paper::Certificate, 2, Why::OtherQuery)));
     }
-    if !is_same_score(certificate.kth, kth) {
-        return Ok(refused(Paper::Certificate, 3, Why::OtherFloor));
+    if certificate.kth != kth {
+        return Ok(Some(Refusal::new(Paper::Certificate, 3, Why::OtherFloor)));
     }
     let (lines, counts) = (certificate.lines.as_slice(), certificate.counts.as_slice());
     let wanted = wanted_counts(alloc, rows, lines)?;
@@ -120,31 +116,21 @@ fn certificate_fault(
 
 /// How many rows of a report belong to the station of each line.
 fn wanted_counts(alloc: Global, rows: &[Row], lines: &[Line]) -> Result<Vec<u64>, Memory>
-    ensures { IfOk result (λ wanted. wanted.items ≡ map (count_of (candidates_of rows.now)) lines.now) }
+    ensures { IfOk result (λ wanted. wanted.items ≡ map (count_of (read.candidates_of rows.now)) lines.now) }
 {
     let candidates = candidates_of(alloc, rows)?;
     row_counts(alloc, candidates.as_slice(), lines)
 }
 
 /// The refusal of a certificate with fewer lines than morsels.
-fn length_fault(tops: &[Top], lines: &[Line]) -> Option<Verdict>
+fn length_fault(tops: &[Top], lines: &[Line]) -> Option<Refusal>
     ensures { result ≡ first_failing (tests.length_test (length tops.now) (length lines.now) ∷ []) }
 {
     if are_all(tops, lines) {
         return None;
     }
-    refused(Paper::Certificate, lines.len() as u64 + 4, Why::OtherSeries)
-}
-
-/// Whether two scores are the same, or both are absent.
-fn is_same_score(a: Option<i64>, b: Option<i64>) -> bool
-    ensures { result ≡ head.same_score a b }
-{
-    match (a, b) {
-        (None, None) => true,
-        (Some(a), Some(b)) => a == b,
-        _ => false,
-    }
+    let line = lines.len() as u64 + 4;
+    Some(Refusal::new(Paper::Certificate, line, Why::OtherSeries))
 }
 
 /// Whether there are at least as many lines as morsels.
@@ -152,11 +138,4 @@ fn are_all(tops: &[Top], lines: &[Line]) -> bool
     ensures { result ≡ nat_le (length tops.now) (length lines.now) }
 {
     tops.len() <= lines.len()
-}
-
-/// A refusal.
-fn refused(paper: Paper, line: u64, why: Why) -> Option<Verdict>
-    ensures { result ≡ Some (Verdict.Refused paper line why) }
-{
-    Some(Verdict::Refused { paper, line, why })
 }

@@ -1,6 +1,5 @@
 //! What a verdict guarantees, as a law over the definitions.
 
-ghost use Rattle.rank_check.specs.InPieces as pieces;
 ghost use Rattle.rank_check.specs.Laws as laws;
 
 use rank_papers::{certificates_are_read, reports_are_read};
@@ -23,18 +22,4 @@ pub fn verdict_of_one_element()
 {
     // Each definition that a verdict rests on stays.
     one_element_is_enough();
-}
-
-/// A report and a certificate of version 2 say what is right if and only if the head is right, each line is
-/// accepted by itself, and each listed station without a line is accepted by itself. The pieces may be checked in
-/// any order. So `check` accepts the two if and only if their pieces are accepted.
-pub fn right_in_pieces()
-    ensures says { pieces.RightInPieces }
-    ensures accepted { pieces.AcceptedInPieces }
-{
-    // What is accepted is right, and what is right can be cut into pieces.
-    accepted_where_right();
-    candidates_of_queries();
-    certificates_are_read();
-    reports_are_read();
 }

@@ -9,13 +9,16 @@ mod laws;
 mod lines;
 mod papers;
 mod pieces;
+mod refusal;
 mod rows;
 mod survey;
 mod tally;
 mod text;
 mod verdict;
 
-pub use laws::{accepted_where_right, right_in_pieces, verdict_of_one_element};
+pub use laws::{accepted_where_right, verdict_of_one_element};
 pub use papers::check;
 pub use pieces::{check_absent, check_line};
-pub use verdict::{Paper, Verdict, Why};
+pub use rank_papers::Paper;
+pub use refusal::Refusal;
+pub use verdict::{Verdict, Why};

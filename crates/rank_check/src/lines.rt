@@ -5,9 +5,10 @@ ghost use Rattle.std.specs.Option.{option_copied, option_map_or};
 ghost use Rattle.rank_scores.specs.Order as order;
 ghost use Rattle.rank_check.specs.FoundFaults.{IsFaultOfLine, IsFaultOfLineAt, IsFaultOfLines};
 
+use crate::refusal::Refusal;
 use crate::survey::Top;
-use crate::verdict::{Paper, Verdict, Why};
-use rank_papers::Line;
+use crate::verdict::Why;
+use rank_papers::{Line, Paper};
 use rank_scores::bound_is_below;
 
 /// The first test that a line fails, after the lines before it, if the certificate has this k-th
@@ -18,7 +19,7 @@ pub(crate) fn lines_fault(
     counts: &[u64],
     lines: &[Line],
     tops: &[Top],
-) -> Option<Verdict>
+) -> Option<Refusal>
     requires { length wanted.now ≡ length lines.now }
     ensures { IsFaultOfLines kth wanted.now counts.now lines.now tops.now result }
 {
@@ -53,7 +54,7 @@ fn fault_at(
     lines: &[Line],
     place: usize,
     top: Option<&Top>,
-) -> Option<Verdict>
+) -> Option<Refusal>
     requires within { place < length lines.now }
     requires many { length wanted.now ≡ length lines.now }
     ensures { IsFaultOfLineAt kth wanted.now counts.now lines.now place
@@ -79,21 +80,23 @@ fn line_fault(
     number: u64,
     count: Option<u64>,
     top: Option<&Top>,
-) -> Option<Verdict>
+) -> Option<Refusal>
     ensures { IsFaultOfLine kth wanted number line.now count (option_copied top.entry) result }
 {
     let top = match top {
         Some(top) if top.id == line.id => top,
-        _ => return refused(number, Why::OtherSeries),
+        _ => {
+            return Some(Refusal::new(Paper::Certificate, number, Why::OtherSeries));
+        }
     };
     if !is_at_most(top, line) {
-        return refused(number, Why::NoBound);
+        return Some(Refusal::new(Paper::Certificate, number, Why::NoBound));
     }
     if !may_stand(kth, line) {
-        return refused(number, Why::NotBelow);
+        return Some(Refusal::new(Paper::Certificate, number, Why::NotBelow));
     }
     if !is_counted(wanted, count) {
-        return refused(number, Why::NotCounted);
+        return Some(Refusal::new(Paper::Certificate, number, Why::NotCounted));
     }
     None
 }
@@ -106,17 +109,6 @@ fn is_counted(wanted: u64, count: Option<u64>) -> bool
         Some(count) => count == wanted,
         None => true,
     }
-}
-
-/// A refusal of a line of the certificate.
-fn refused(line: u64, why: Why) -> Option<Verdict>
-    ensures { result ≡ Some (Verdict.Refused Paper.Certificate line why) }
-{
-    Some(Verdict::Refused {
-        paper: Paper::Certificate,
-        line,
-        why,
-    })
 }
 
 /// Whether no candidate of a morsel is above a line's bound.

@@ -5,14 +5,16 @@ ghost use Rattle.ghcn_series.specs.Held.{IsContents};
 ghost use Rattle.rank_query.specs.Asked.{IsAsked};
 ghost use Rattle.rank_papers.specs.Report.{IsReport};
 ghost use Rattle.rank_papers.specs.Certificate.{IsCertificate};
+ghost use Rattle.rank_papers.specs.Papers as papers;
 ghost use Rattle.rank_check.specs.Tests as tests;
 
 use crate::judge::judge;
 use crate::laws::accepted_where_right;
-use crate::verdict::{Paper, Verdict, Why};
+use crate::refusal::Refusal;
+use crate::verdict::{Verdict, Why};
 use ghcn_fields::Memory;
 use ghcn_series::Data;
-use rank_papers::{PaperFault, read_certificate, read_report};
+use rank_papers::read_papers;
 use rank_query::Query;
 use std::alloc::Global;
 
@@ -37,7 +39,8 @@ pub fn check(
     // Clause `accepted` is the law, which asks for a right query and right data.
     accepted_where_right();
     are_right(dataset, query);
-    judge_texts(alloc, dataset, query, report, certificate)
+    let fault = papers_fault(alloc, dataset, query, report, certificate)?;
+    Ok(verdict_of(fault))
 }
 
 /// What holds of all queries and of all data.
@@ -49,39 +52,29 @@ fn are_right(dataset: &Data, query: &Query)
     let (_stations, _k) = (dataset.stations(), query.k());
 }
 
-/// The verdict of the first test that fails.
-fn judge_texts(
+/// The verdict of the first test that fails, if one does.
+fn verdict_of(fault: Option<Refusal>) -> Verdict
+    ensures { result ≡ tests.verdict_of fault }
+{
+    match fault {
+        None => Verdict::Accepted,
+        Some(Refusal { paper, line, why }) => Verdict::Refused { paper, line, why },
+    }
+}
+
+/// The first test that the texts of a report and a certificate fail.
+fn papers_fault(
     alloc: Global,
     dataset: &Data,
     query: &Query,
     report: &[u8],
     certificate: &[u8],
-) -> Result<Verdict, Memory>
-    ensures { IfOk result (λ found.
-        found ≡ tests.verdict query.now dataset.now report.now certificate.now) }
+) -> Result<Option<Refusal>, Memory>
+    ensures { IfOk result (λ fault.
+        fault ≡ tests.refused query.now dataset.now (papers.read_papers report.now certificate.now)) }
 {
-    let report = match read_report(alloc, report) {
-        Ok(report) => report,
-        Err(PaperFault::BadReport { line }) => return Ok(bad_form(Paper::Report, line)),
-        Err(PaperFault::BadCertificate { .. }) => unreachable!(),
-        Err(PaperFault::Memory(memory)) => return Err(memory),
-    };
-    let certificate = match read_certificate(alloc, certificate) {
-        Ok(certificate) => certificate,
-        Err(PaperFault::BadReport { .. }) => unreachable!(),
-        Err(PaperFault::BadCertificate { line }) => return Ok(bad_form(Paper::Certificate, line)),
-        Err(PaperFault::Memory(memory)) => return Err(memory),
-    };
-    judge(alloc, dataset, query, &report, &certificate)
-}
-
-/// A refusal of a line that doesn't match the format there.
-fn bad_form(paper: Paper, line: u64) -> Verdict
-    ensures { result ≡ Verdict.Refused paper line Why.Form }
-{
-    Verdict::Refused {
-        paper,
-        line,
-        why: Why::Form,
+    match read_papers(alloc, report, certificate)? {
+        Ok((report, certificate)) => judge(alloc, dataset, query, &report, &certificate),
+        Err((paper, line)) => Ok(Some(Refusal::new(paper, line, Why::Form))),
     }
 }

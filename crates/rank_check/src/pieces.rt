@@ -6,6 +6,7 @@ ghost use Rattle.std.specs.List.{list_all};
 ghost use Rattle.std.specs.Option.{option_copied};
 ghost use Rattle.ghcn_fields.specs.Faults.{first_failing};
 ghost use Rattle.rank_papers.specs.ReportLines.{named_in};
+ghost use Rattle.rank_papers.specs.Papers.{candidates_of};
 ghost use Rattle.rank_scores.specs.Candidates.{candidates};
 ghost use Rattle.rank_check.specs.Pieces as pieces;
 ghost use Rattle.rank_check.specs.Reach as reach;
@@ -37,7 +38,7 @@ pub fn check_line(
     rows: &[Row],
     worst: Option<&Candidate>,
 ) -> Option<Why>
-    requires { pieces.AreRowsWithin (option_copied worst) (survey.candidates_of rows.now) }
+    requires { pieces.AreRowsWithin (option_copied worst) (candidates_of rows.now) }
     ensures first { result ≡ first_failing (pieces.piece_tests query.now station.now (option_copied series.entry)
         line.now printed (map named_in rows.now) (option_copied worst.entry)) }
     ensures accepted { (result ≡ None) ↔ pieces.IsRightPiece query.now station.now (option_copied series.entry)
@@ -81,7 +82,7 @@ fn line_fault(
     worst: Option<&Candidate>,
 ) -> Option<Why>
     ensures { result ≡ first_failing (pieces.last_tests query.now series.now line.now
-        (survey.candidates_of rows.now) (option_copied worst.entry)) }
+        (candidates_of rows.now) (option_copied worst.entry)) }
 {
     let found = reach(query, series, rows, worst.copied());
     if found.left_out {
@@ -183,7 +184,7 @@ fn reach<'a>(
     worst: Option<Candidate>,
 ) -> Reached<'a>
     ensures left_out { result.left_out
-        ≡ not (pieces.has_all query.now worst (survey.candidates_of rows.now) series.now) }
+        ≡ not (pieces.has_all query.now worst (candidates_of rows.now) series.now) }
     ensures highest { result.highest ≡ survey.top_score (candidates query.now series.now) }
 {
     let mut found = Reached {

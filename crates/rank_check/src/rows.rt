@@ -6,15 +6,16 @@ ghost use Rattle.rank_papers.specs.ReportLines.{named_in};
 ghost use Rattle.rank_check.specs.FoundFaults.{IsFaultOfRow, IsFaultOfRows};
 ghost use Rattle.rank_check.specs.Tests as tests;
 
+use crate::refusal::Refusal;
 use crate::survey::Findings;
 use crate::tally::Met;
-use crate::verdict::{Paper, Verdict, Why};
+use crate::verdict::Why;
 use ghcn_files::Stations;
-use rank_papers::{Row, trimmed};
+use rank_papers::{Paper, Row, trimmed};
 use rank_scores::precedes;
 
 /// The first test that a row fails, after the rows before it.
-pub(crate) fn rows_fault(stations: &Stations, rows: &[Row], found: &Findings) -> Option<Verdict>
+pub(crate) fn rows_fault(stations: &Stations, rows: &[Row], found: &Findings) -> Option<Refusal>
     requires few { length rows.now ≤ 1000 }
     requires many { length found.now.rows.items ≡ length rows.now }
     ensures { IsFaultOfRows stations.now rows.now found.now result }
@@ -29,7 +30,7 @@ pub(crate) fn rows_fault(stations: &Stations, rows: &[Row], found: &Findings) ->
 }
 
 /// The first test that the row at a place fails.
-fn row_fault(stations: &Stations, rows: &[Row], place: usize, met: &Met) -> Option<Verdict>
+fn row_fault(stations: &Stations, rows: &[Row], place: usize, met: &Met) -> Option<Refusal>
     requires few { length rows.now ≤ 1000 }
     requires within { place < length rows.now }
     ensures { IsFaultOfRow stations.now rows.now place met.now result }
@@ -37,26 +38,15 @@ fn row_fault(stations: &Stations, rows: &[Row], place: usize, met: &Met) -> Opti
     let row = &rows[place];
     let line = place as u64 + 3;
     if !(met.present && is_named(stations, row)) {
-        return refused(line, Why::NotACandidate);
+        return Some(Refusal::new(Paper::Report, line, Why::NotACandidate));
     }
     if !follows(rows, place) {
-        return refused(line, Why::OutOfOrder);
+        return Some(Refusal::new(Paper::Report, line, Why::OutOfOrder));
     }
     if met.ahead != place as u64 {
-        return refused(line, Why::NotBest);
+        return Some(Refusal::new(Paper::Report, line, Why::NotBest));
     }
     None
-}
-
-/// A refusal of a line of the report.
-fn refused(line: u64, why: Why) -> Option<Verdict>
-    ensures { result ≡ Some (Verdict.Refused Paper.Report line why) }
-{
-    Some(Verdict::Refused {
-        paper: Paper::Report,
-        line,
-        why,
-    })
 }
 
 /// Whether the row before the one at a place precedes it, if there is one.

@@ -4,8 +4,9 @@ ghost use Rattle.std.specs.Prelude.{◌≡◌, map, filter, length, IfOk};
 ghost use Rattle.ghcn_series.specs.Held.{IsContents};
 ghost use Rattle.ghcn_series.specs.Says.{in_64_bits};
 ghost use Rattle.rank_scores.specs.Morsels.{admitted_series, has_admitted};
+ghost use Rattle.rank_papers.specs.Papers.{candidates_of};
 ghost use Rattle.rank_check.specs.Survey as survey;
-ghost use Rattle.rank_check.specs.Survey.{candidates_in, candidates_of, met};
+ghost use Rattle.rank_check.specs.Survey.{candidates_in, met};
 
 use crate::tally::{Met, Tally};
 use ghcn_fields::Memory;

@@ -6,12 +6,13 @@
 ghost use Rattle.std.specs.Prelude.{◌≡◌, ◌≤◌, true, false, [], map, fold, length, None, IfOk, IfSome, IfNone};
 ghost use Rattle.ghcn_series.specs.Says.{in_64_bits};
 ghost use Rattle.rank_scores.specs.Candidates.{candidates};
+ghost use Rattle.rank_papers.specs.Papers as read;
 ghost use Rattle.rank_check.specs.Survey as survey;
 ghost use Rattle.rank_check.specs.Marks as order;
 
 use ghcn_fields::Memory;
 use ghcn_series::Series;
-use rank_papers::Row;
+use rank_papers::{Row, candidates_of};
 use rank_query::Query;
 use rank_scores::{Candidate, FloorSink, Sink, precedes, scan_to_floor};
 use std::alloc::Global;
@@ -85,7 +86,7 @@ impl Model for Tally {
 impl Tally {
     /// The rows before any candidate.
     pub(crate) fn of(alloc: Global, rows: &[Row]) -> Result<Tally, Memory>
-        ensures { IfOk result (λ made. made ≡ survey.nothing_offered (survey.candidates_of rows.now)) }
+        ensures { IfOk result (λ made. made ≡ survey.nothing_offered (read.candidates_of rows.now)) }
     {
         let rows = candidates_of(alloc, rows)?;
         let marks = marks_of(alloc, rows.as_slice())?;
@@ -255,17 +256,6 @@ pub(crate) fn raised(highest: Option<i64>, score: i64) -> i64
         Some(highest) => highest.max(score),
         None => score,
     }
-}
-
-/// The candidates of rows.
-pub(crate) fn candidates_of(alloc: Global, rows: &[Row]) -> Result<Vec<Candidate>, Memory>
-    ensures { IfOk result (λ found. found.items ≡ survey.candidates_of rows.now) }
-{
-    let mut found = Vec::new(alloc);
-    for row in rows {
-        found.push(row.candidate)?;
-    }
-    Ok(found)
 }
 
 /// Marks for candidates, of which nothing is known yet.

@@ -1,22 +1,8 @@
 //! The line that a verdict prints: `accepted`, `refused report line L WHY` or `refused certificate
 //! line L WHY`.
 
-use crate::{Paper, Verdict, Why};
+use crate::{Refusal, Verdict, Why};
 use std::fmt;
-
-impl fmt::Display for Paper {
-    ghost use Rattle.std.specs.Prelude.{Some};
-    ghost use Rattle.rank_check.specs.Texts.{paper_text};
-
-    ghost output = { λ paper. Some (paper_text paper) };
-
-    fn fmt<W: fmt::Write>(&self, f: &mut fmt::Formatter<W>) -> fmt::Result {
-        f.write_str(match self {
-            Paper::Report => "report",
-            Paper::Certificate => "certificate",
-        })
-    }
-}
 
 impl fmt::Display for Why {
     ghost use Rattle.std.specs.Prelude.{Some};
@@ -41,6 +27,18 @@ impl fmt::Display for Why {
     }
 }
 
+impl fmt::Display for Refusal {
+    ghost use Rattle.std.specs.Prelude.{Some};
+    ghost use Rattle.rank_check.specs.Texts.{refusal_text};
+
+    ghost output = { λ refusal. Some (refusal_text refusal) };
+
+    fn fmt<W: fmt::Write>(&self, f: &mut fmt::Formatter<W>) -> fmt::Result {
+        let Refusal { paper, line, why } = self;
+        write!(f, "refused {paper} line {line} {why}")
+    }
+}
+
 impl fmt::Display for Verdict {
     ghost use Rattle.std.specs.Prelude.{Some};
     ghost use Rattle.rank_check.specs.Texts.{verdict_text};
@@ -50,7 +48,9 @@ impl fmt::Display for Verdict {
     fn fmt<W: fmt::Write>(&self, f: &mut fmt::Formatter<W>) -> fmt::Result {
         match self {
             Verdict::Accepted => f.write_str("accepted"),
-            Verdict::Refused { paper, line, why } => write!(f, "refused {paper} line {line} {why}"),
+            Verdict::Refused { paper, line, why } => {
+                write!(f, "{}", Refusal::new(*paper, *line, *why))
+            }
         }
     }
 }

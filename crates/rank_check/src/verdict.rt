@@ -1,11 +1,6 @@
 //! The verdict on a report and a certificate.
 
-/// Which of the two is refused.
-#[derive(Clone, Copy, Debug, PartialEq, Eq)]
-pub enum Paper {
-    Report,
-    Certificate,
-}
+use rank_papers::Paper;
 
 /// Why a line of the report or the certificate is refused.
 #[derive(Clone, Copy, Debug, PartialEq, Eq)]

@@ -13,7 +13,8 @@ use Rattle.ghcn_files.proofs.IdLaws.{same_id-is, same_id-turned}
 use Rattle.rank_scores.specs.declared.candidate.Candidate.{Candidate}
 use Rattle.rank_papers.specs.Report.{Named}
 use Rattle.rank_papers.specs.Certificate.{Entry, count_of, counts_of}
-use Rattle.rank_head.specs.HeadTests.{of_rows, IdsRise, is_scanned}
+use Rattle.rank_papers.specs.Papers.{of_rows}
+use Rattle.rank_head.specs.HeadTests.{IdsRise, is_scanned}
 use Rattle.rank_head.specs.RightHead.{CountsAddUp}
 use Rattle.rank_head.specs.Tallies.{hits, hit}
 use Rattle.rank_head.proofs.Scanned.{by_bytes, bytes_total, behind_first, rise-behind, AreBehind}
@@ -102,16 +103,18 @@ counts-more d ds (e ∷ es) = omega (
   counts-more d ds es,
 )
 
--- without rows the counts add up to 0
-no_rows : (es : List Entry) → sum (map (count_of []) es) ≡ 0
-no_rows [] = refl
-no_rows (e ∷ es) =
-    let here : count_of [] e ≡ 0 = by e.skipped in
-    omega (arith, sum-cons (count_of [] e) (map (count_of []) es), here, no_rows es)
+-- without rows a line counts none
+pub no_row : (e : Entry) → count_of [] e ≡ 0
+no_row e = by e.skipped
   where
     by : (b : Bool) → cond b 0 (count_by (λ (c : Candidate). same_id c.id e.id) []) ≡ 0
     by true = refl
     by false = refl
+
+-- so the counts add up to 0
+no_rows : (es : List Entry) → sum (map (count_of []) es) ≡ 0
+no_rows [] = refl
+no_rows (e ∷ es) = omega (arith, sum-cons (count_of [] e) (map (count_of []) es), no_row e, no_rows es)
 
 -- the counts add up to the number of rows
 add_up : (es : List Entry) → IdsRise es → (rows : List Named)

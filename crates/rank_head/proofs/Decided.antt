@@ -8,30 +8,13 @@ use Rattle.rank_papers.specs.Report.{Named}
 use Rattle.rank_papers.specs.declared.paper.Row.{Row}
 use Rattle.rank_papers.specs.ReportLines.{Reported, named_in}
 use Rattle.rank_papers.specs.Certificate.{Entry, Certified}
+use Rattle.rank_papers.specs.Papers.{same_query, neighbours}
+use Rattle.rank_papers.proofs.FirstFailing.{first_fails, first_passes, first_failing-append, some_decides, none_decides}
 use Rattle.rank_head.specs.declared.fault.HeadFault.{HeadFault}
 use Rattle.rank_head.specs.declared.fault.HeadFault.TheVariants.{OtherReportQuery, OtherCertificateQuery, NotRising}
-use Rattle.rank_head.specs.HeadTests.{HeadTest, same_query, floor_test, order_tests, rising_tests, scanned_tests}
-use Rattle.rank_head.specs.HeadTests.{neighbours, stands_before, IdsRise, place_tests, count_tests, head_fault}
-use Rattle.rank_head.proofs.FirstPlaces.{first_failing-append, all_pass}
-
--- an error that is found decides
-pub some_decides : (ts us : List HeadTest) (seen : Option HeadFault) → seen ≡ first_failing ts → is_some seen ≡ true
-    → seen ≡ first_failing (ts ++ us)
-some_decides ts us None e some = absurd cc
-some_decides ts us (Some fault) e some =
-    ap (λ o. option_or o (first_failing us)) e ∙ sym (first_failing-append ts us)
-
--- if none is found, it is left to the tests after
-pub none_decides : (ts us : List HeadTest) (seen : Option HeadFault) → seen ≡ first_failing ts → is_some seen ≡ false
-    → first_failing us ≡ first_failing (ts ++ us)
-none_decides ts us (Some fault) e none = absurd cc
-none_decides ts us None e none =
-    ap (λ o. option_or o (first_failing us)) e ∙ sym (first_failing-append ts us)
-
--- an error that isn't there is none
-pub not_some : (o : Option HeadFault) → is_some o ≡ false → o ≡ None
-not_some None e = refl
-not_some (Some w) e = absurd cc
+use Rattle.rank_head.specs.HeadTests.{HeadTest, floor_test, order_tests, rising_tests, scanned_tests}
+use Rattle.rank_head.specs.HeadTests.{stands_before, IdsRise, place_tests, count_tests, head_fault}
+use Rattle.rank_head.proofs.FirstPlaces.{all_pass}
 
 -- the first of three that are there
 or_or : (o p r : Option HeadFault) → option_or (option_or o p) r ≡ option_or o (option_or p r)
@@ -52,19 +35,7 @@ pub early_tests : (q : Asked) (rows : List Named) (kth : Option ℤ) (es : List 
 early_tests q rows kth es =
     or_or (first_failing (order_tests rows)) (first_failing (floor_test q rows kth ∷ []))
     (first_failing (rising_tests es))
-    ∙ ap (option_or (first_failing (order_tests rows)))
-    (sym (first_failing-append (floor_test q rows kth ∷ []) (rising_tests es)))
-    ∙ sym (first_failing-append (order_tests rows) (floor_test q rows kth ∷ rising_tests es))
-
--- a test that fails is the first, whatever comes after it
-first_fails : (t : HeadTest) (ts : List HeadTest) → t.0 ≡ false → Some t.1 ≡ first_failing (t ∷ ts)
-first_fails (true, why) ts e = absurd cc
-first_fails (false, why) ts e = refl
-
--- one that passes leaves it to those after
-first_passes : (t : HeadTest) (ts : List HeadTest) → t.0 ≡ true → first_failing (t ∷ ts) ≡ first_failing ts
-first_passes (true, why) ts e = refl
-first_passes (false, why) ts e = absurd cc
+    ∙ simp first_failing-append
 
 module _ (q : Asked) (r : Reported) (z : Certified) where
   -- the tests after those of the queries
@@ -103,11 +74,7 @@ module _ (q : Asked) (rows : List Named) (kth : Option ℤ) (es : List Entry) (o
     (rise : r ≡ first_failing (rising_tests es)) (both : s ≡ option_or o p) (all : t ≡ option_or s r) where
   -- the first of the early tests
   pub early_is : t ≡ first_failing (order_tests rows ++ floor_test q rows kth ∷ rising_tests es)
-  early_is =
-      let made : t ≡ option_or (option_or (first_failing (order_tests rows))
-      (first_failing (floor_test q rows kth ∷ [])))
-      (first_failing (rising_tests es)) = cc in
-      made ∙ early_tests q rows kth es
+  early_is = rw (all, both, order, floor, rise) (early_tests q rows kth es)
 
   -- if none of them fails the IDs of lines rise
   pub lines_rise : t ≡ None → IdsRise es
@@ -138,11 +105,7 @@ module _ (q : Asked) (r : Reported) (z : Certified) (report : same_query r.query
 
   -- the early ones are those of the report and the certificate
   same_places : seen ≡ first_failing early
-  same_places =
-      places
-      ∙ ap (λ (l : List Named). first_failing (order_tests l ++ floor_test q l z.kth ∷ rising_tests lines)) rows_are
-      ∙ ap (λ (es : List Entry). first_failing (order_tests r.rows ++ floor_test q r.rows z.kth ∷ rising_tests es))
-      lines_are
+  same_places = rw (rows_are, lines_are) at places
 
   -- all of them, one after the other, decide
   all_decide : first_failing (early ++ late) ≡ head_fault q r z
@@ -160,8 +123,4 @@ module _ (q : Asked) (r : Reported) (z : Certified) (report : same_query r.query
       → first_failing (scanned_tests lines (map named_in rows) ++ count_tests (map named_in rows) lines counts)
       ≡ head_fault q r z
   counts_decide e =
-      ap (λ (l : List Named). first_failing (scanned_tests lines l ++ count_tests l lines counts)) rows_are
-      ∙ ap (λ (es : List Entry). first_failing (scanned_tests es r.rows ++ count_tests r.rows es counts)) lines_are
-      ∙ ap (λ (ns : List ℕ). first_failing (scanned_tests z.entries r.rows ++ count_tests r.rows z.entries ns))
-      counts_are
-      ∙ none_decides early late seen same_places e ∙ all_decide
+      rw (rows_are, lines_are, counts_are) (none_decides early late seen same_places e ∙ all_decide)

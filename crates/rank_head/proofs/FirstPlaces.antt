@@ -1,13 +1,13 @@
 -- The first of some that fails a test.
-use Rattle.std.proofs.Common.{◌≡◌, ℕ, zero, suc, ◌+◌, ◌<◌, Bool, true, false, cond, List, [], ◌∷◌, ◌++◌, length}
+use Rattle.std.proofs.Common.{◌≡◌, ℕ, zero, suc, ◌+◌, ◌<◌, Bool, true, false, cond, List, [], ◌∷◌, length}
 use Rattle.std.proofs.Common.{map, take, ◌-◌, Option, Some, None, refl, ap, ◌∙◌, arith}
 use Rattle.std.specs.Prelude.{MatchOption, drop}
-use Rattle.std.specs.Option.{option_or}
 use Rattle.std.specs.List.{zip, AllByRecursion, AllWithin, HoldsAt}
 use Rattle.std.proofs.lemmas.List.{take_all}
 use Rattle.ghcn_fields.specs.Faults.{first_failing}
+use Rattle.rank_papers.specs.Papers.{neighbours}
 use Rattle.rank_head.specs.declared.fault.HeadFault.{HeadFault}
-use Rattle.rank_head.specs.HeadTests.{HeadTest, on_lines, neighbours}
+use Rattle.rank_head.specs.HeadTests.{HeadTest, on_lines}
 use Rattle.rank_head.specs.FirstPlaces.{IsFirstPlace}
 
 -- ---- places
@@ -84,19 +84,7 @@ neighbours-map f [] = refl
 neighbours-map f (x ∷ []) = refl
 neighbours-map f (x ∷ y ∷ xs) = ap (λ l. (f x, f y) ∷ l) (neighbours-map f (y ∷ xs))
 
--- ---- tests one after the other
-
--- the first that fails of two lists
-pub first_failing-append : (ts us : List HeadTest)
-    → first_failing (ts ++ us) ≡ option_or (first_failing ts) (first_failing us)
-first_failing-append [] us = refl
-first_failing-append (t ∷ ts) us = by t.0 (first_failing-append ts us)
-  where
-    by : (b : Bool) → first_failing (ts ++ us) ≡ option_or (first_failing ts) (first_failing us)
-        → cond b (first_failing (ts ++ us)) (Some t.1)
-        ≡ option_or (cond b (first_failing ts) (Some t.1)) (first_failing us)
-    by true behind = behind
-    by false behind = refl
+-- ---- all tests
 
 -- if none is refused each passes
 pub all_pass : {A : Type 0} (passes : A → Bool) (why : ℕ → HeadFault) (n : ℕ) (xs : List A)

@@ -1,6 +1,5 @@
 pub mod Examples
 pub mod FirstPlaces
-pub mod NamedRows
 pub mod Decided
 pub mod Scanned
 pub mod RightHeads

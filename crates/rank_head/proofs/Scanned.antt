@@ -63,18 +63,18 @@ pub behind_first : (e : Entry) (es : List Entry) → IdsRise (e ∷ es) → AreB
 behind_first e [] h = tt
 behind_first e (f ∷ es) h = before_all e.id f es (less (by_bytes e.id f.id) h.0) h.1
 
+-- a line of another station leaves it to the others
+left_to_others : (b s r v : Bool) → s ≡ false → r ≡ v → ((b && s) || r) ≡ v
+left_to_others true s r v f g = ap (λ (x : Bool). x || r) f ∙ g
+left_to_others false s r v f g = g
+
 -- so no line belongs to a station before all of them
 none_scanned : (id : StationId) (es : List Entry) → AreBehind id es → is_scanned es id ≡ false
 none_scanned id [] h = refl
 none_scanned id (e ∷ es) h =
     let other : by_bytes e.id id ≡ Greater =
     bytes_total.antisymm e.id id ∙ ap ordering_reverse h.0 in
-    by (not e.skipped) (same_by e.id id Greater other) (none_scanned id es h.1)
-  where
-    by : (b : Bool) → same_id e.id id ≡ false → is_scanned es id ≡ false
-        → ((b && same_id e.id id) || is_scanned es id) ≡ false
-    by true f g = ap (λ s. s || is_scanned es id) f ∙ g
-    by false f g = g
+    left_to_others (not e.skipped) _ _ _ (same_by e.id id Greater other) (none_scanned id es h.1)
 
 -- the line at a place is one of those that are after
 at_behind : (id : StationId) (es : List Entry) (i : ℕ) (d : Entry) → AreBehind id es → i < length es
@@ -101,13 +101,8 @@ scanned_at id (x ∷ es) (suc i) d h below e =
     let before : by_bytes x.id id ≡ Less =
     subst (λ (j : StationId). by_bytes x.id j ≡ Less) d_id
     (at_behind x.id es i d (behind_first x es h) (omega arith)) in
-    by (not x.skipped) (same_by x.id id Less before)
+    left_to_others (not x.skipped) _ _ _ (same_by x.id id Less before)
     (scanned_at id es i d (rise-behind x es h) (omega arith) e)
-  where
-    by : (b : Bool) → same_id x.id id ≡ false → is_scanned es id ≡ not (get_or es i d).skipped
-        → ((b && same_id x.id id) || is_scanned es id) ≡ not (get_or es i d).skipped
-    by true f g = ap (λ s. s || is_scanned es id) f ∙ g
-    by false f g = g
 
 -- ---- if there is none
 
@@ -119,13 +114,8 @@ AreOthers id es = (k : ℕ) (d : Entry) → k < length es → same_id (get_or es
 others_not_scanned : (id : StationId) (es : List Entry) → AreOthers id es → is_scanned es id ≡ false
 others_not_scanned id [] h = refl
 others_not_scanned id (e ∷ es) h =
-    by (not e.skipped) (h 0 e (omega arith))
+    left_to_others (not e.skipped) _ _ _ (h 0 e (omega arith))
     (others_not_scanned id es (λ k d below. h (suc k) d (omega arith)))
-  where
-    by : (b : Bool) → same_id e.id id ≡ false → is_scanned es id ≡ false
-        → ((b && same_id e.id id) || is_scanned es id) ≡ false
-    by true f g = ap (λ s. s || is_scanned es id) f ∙ g
-    by false f g = g
 
 -- a place between lines before a station and lines after it
 pub not_scanned : (id : StationId) (es : List Entry) (i : ℕ)

@@ -14,9 +14,10 @@ use Rattle.rank_scores.specs.declared.candidate.Candidate.{Candidate}
 use Rattle.rank_papers.specs.declared.paper.Row.{Row}
 use Rattle.rank_papers.specs.ReportLines.{named_in}
 use Rattle.rank_papers.specs.Certificate.{Entry, count_of}
-use Rattle.rank_head.specs.HeadTests.{of_rows, IdsRise}
+use Rattle.rank_papers.specs.Papers.{of_rows}
+use Rattle.rank_head.specs.HeadTests.{IdsRise}
 use Rattle.rank_head.specs.Tallies.{hits, hit, IsOneMore}
-use Rattle.rank_head.proofs.CountSums.{all_miss, count-more}
+use Rattle.rank_head.proofs.CountSums.{all_miss, count-more, no_row}
 use Rattle.rank_head.proofs.Scanned.{by_bytes, same_by, behind_first, rise-behind}
 
 -- ---- one row more
@@ -109,12 +110,8 @@ counts-last d ds (e ∷ es) =
 pub none-counted : (es : List Entry) → replicate (length es) 0 ≡ map (count_of []) es
 none-counted [] = refl
 none-counted (e ∷ es) =
-    ap (λ (n : ℕ). n ∷ replicate (length es) 0) (by e.skipped)
+    ap (λ (n : ℕ). n ∷ replicate (length es) 0) (sym (no_row e))
     ∙ ap (λ (ns : List ℕ). count_of [] e ∷ ns) (none-counted es)
-  where
-    by : (b : Bool) → 0 ≡ cond b 0 (count_by (λ (c : Candidate). same_id c.id e.id) [])
-    by true = refl
-    by false = refl
 
 -- the candidates of the first of some rows
 abbrev pub first_candidates : ℕ → List Row → List Candidate
@@ -165,9 +162,7 @@ few_first (suc n) (row ∷ rows) = omega (arith, few_first n rows)
 pub few_counted : (n : ℕ) (rows : List Row) (es : List Entry) (counts : List ℕ)
     → counts ≡ map (count_of (first_candidates n rows)) es → (k : ℕ) → get_or counts k 0 ≤ n
 few_counted n rows es counts e k =
-    let here : get_or counts k 0 ≡ get_or (map (count_of (first_candidates n rows)) es) k 0 =
-    ap (λ (ns : List ℕ). get_or ns k 0) e in
-    omega (arith, here, few_at (first_candidates n rows) es k, few_first n rows)
+    rw e (omega (arith, few_at (first_candidates n rows) es k, few_first n rows))
 
 -- ---- loops and loans
 

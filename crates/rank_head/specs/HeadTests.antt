@@ -1,17 +1,16 @@
 -- What can be seen of a report and a certificate without data, as tests in their order.
-use Rattle.std.specs.Prelude.{◌≡◌, ℕ, suc, Bool, true, false, ◌==◌, ◌&&◌, not, List, [], ◌∷◌, ◌++◌, map, Option}
-use Rattle.std.specs.Prelude.{None, Some, ℤ}
+use Rattle.std.specs.Prelude.{◌≡◌, ℕ, suc, Bool, true, ◌==◌, ◌&&◌, not, List, [], ◌∷◌, ◌++◌, map, Option}
+use Rattle.std.specs.Prelude.{ℤ}
 use Rattle.std.specs.List.{list_any, zip, AllByRecursion}
+use Rattle.std.specs.Option.{option_eq}
 use Rattle.std.specs.Ordering.{is_lt, nat_cmp, int_eq}
 use Rattle.std.specs.Cmp.Lexicographic.{slice_cmp}
-use Rattle.ghcn_fields.specs.Bytes.{same_bytes}
 use Rattle.ghcn_fields.specs.Faults.{first_failing}
 use Rattle.ghcn_files.specs.declared.station.StationId.{StationId}
 use Rattle.ghcn_files.specs.Ids.{same_id}
 use Rattle.rank_query.specs.Asked.{Asked}
-use Rattle.rank_query.specs.QueryTexts.{query_text}
-use Rattle.rank_scores.specs.declared.candidate.Candidate.{Candidate}
 use Rattle.rank_scores.specs.Order.{precedes}
+use Rattle.rank_papers.specs.Papers.{same_query, of_rows, neighbours}
 use Rattle.rank_papers.specs.Report.{Named}
 use Rattle.rank_papers.specs.ReportLines.{Reported}
 use Rattle.rank_papers.specs.Certificate.{Entry, Certified, kth_of_best, count_of}
@@ -30,37 +29,17 @@ abbrev pub on_lines : {A : Type 0} → (A → Bool) → (ℕ → HeadFault) → 
 on_lines passes why line [] = []
 on_lines passes why line (x ∷ xs) = (passes x, why line) ∷ on_lines passes why (suc line) xs
 
--- each of these but the last, with the one after it
-abbrev pub neighbours : {A : Type 0} → List A → List (A × A)
-neighbours [] = []
-neighbours (x ∷ []) = []
-neighbours (x ∷ y ∷ xs) = (x, y) ∷ neighbours (y ∷ xs)
-
--- the candidates of rows
-abbrev pub of_rows : List Named → List Candidate
-of_rows rows = map (λ row. row.0) rows
-
--- ---- queries and scores
-
--- two queries are the same: their canonical texts are equal
-abbrev pub same_query : Asked → Asked → Bool
-same_query a b = same_bytes (query_text a) (query_text b)
-
--- two scores are the same, or there are none
-abbrev pub same_score : Option ℤ → Option ℤ → Bool
-same_score None None = true
-same_score (Some a) (Some b) = int_eq a b
-same_score a b = false
+-- ---- scores
 
 -- the k-th score is that of the k-th row, if there are k rows, and otherwise none
 abbrev pub floor_test : Asked → List Named → Option ℤ → HeadTest
-floor_test q rows kth = (same_score kth (kth_of_best q.k (of_rows rows)), OtherFloor)
+floor_test q rows kth = (option_eq int_eq kth (kth_of_best q.k (of_rows rows)), OtherFloor)
 
 -- ---- rows and lines of series
 
 -- each row precedes the next; the second is line 4 of the report
 abbrev pub order_tests : List Named → List HeadTest
-order_tests rows = on_lines (λ two. precedes two.0.0 two.1.0) OutOfOrder 4 (neighbours rows)
+order_tests rows = on_lines (λ two. precedes two.0 two.1) OutOfOrder 4 (neighbours (of_rows rows))
 
 -- an ID comes before another
 abbrev pub stands_before : StationId → StationId → Bool

@@ -1,24 +1,19 @@
 -- The right head of a report and a certificate: what must hold of both without any data.
-use Rattle.std.specs.Prelude.{◌≡◌, ◌↔◌, true, List, length, Option, None}
+use Rattle.std.specs.Prelude.{◌≡◌, ◌↔◌, true, length, Option, None}
 use Rattle.std.specs.List.{sum, AllByRecursion}
 use Rattle.rank_query.specs.Asked.{Asked, IsAsked}
-use Rattle.rank_scores.specs.Order.{precedes}
-use Rattle.rank_papers.specs.Report.{Named}
+use Rattle.rank_papers.specs.Papers.{same_query, of_rows, AreInOrder}
 use Rattle.rank_papers.specs.ReportLines.{Reported, IsReported}
 use Rattle.rank_papers.specs.Certificate.{Certified, IsCertified, kth_of_best, counts_of}
 use Rattle.rank_head.specs.declared.fault.HeadFault.{HeadFault}
-use Rattle.rank_head.specs.HeadTests.{neighbours, of_rows, same_query, IdsRise, is_scanned, head_fault}
-
--- each row precedes the next
-abbrev pub AreInOrder : List Named → Type 0
-AreInOrder rows = AllByRecursion (λ two. precedes two.0.0 two.1.0 ≡ true) (neighbours rows)
+use Rattle.rank_head.specs.HeadTests.{IdsRise, is_scanned, head_fault}
 
 -- both have the query, the rows are in order, the k-th score is that of the rows, the IDs of the lines rise, each row
 -- belongs to a series that was scanned, and the counts of the version are those of the rows
 pub record IsRightHead (q : Asked) (r : Reported) (z : Certified) : Type 0 where
   pub report : r.query ≡ q
   pub certificate : z.query ≡ q
-  pub order : AreInOrder r.rows
+  pub order : AreInOrder (of_rows r.rows)
   pub kth : z.kth ≡ kth_of_best q.k (of_rows r.rows)
   pub rise : IdsRise z.entries
   pub scanned : AllByRecursion (λ row. is_scanned z.entries row.0.id ≡ true) r.rows

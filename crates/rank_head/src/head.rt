@@ -11,10 +11,9 @@ ghost use Rattle.rank_head.specs.RightHead as right;
 use crate::HeadFault;
 use crate::laws::heads_are_right;
 use crate::lines::{count_fault, rise_fault};
-use crate::query::is_same_query;
 use crate::rows::{floor_fault, order_fault};
 use ghcn_fields::Memory;
-use rank_papers::{Certificate, Line, Report, Row};
+use rank_papers::{Certificate, Line, Report, Row, is_same_query};
 use rank_query::Query;
 use std::alloc::Global;
 

@@ -8,11 +8,8 @@ mod fault;
 mod head;
 mod laws;
 mod lines;
-mod query;
 mod rows;
 
 pub use fault::HeadFault;
 pub use head::check_head;
 pub use laws::heads_are_right;
-pub use query::is_same_query;
-pub use rows::{candidates_of, kth_score};

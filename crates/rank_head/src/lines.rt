@@ -4,6 +4,7 @@ ghost use Rattle.std.specs.Prelude.{◌≡◌, ◌<◌, ◌==◌, ◌++◌, map,
 ghost use Rattle.std.specs.List.{zip};
 ghost use Rattle.ghcn_fields.specs.Faults.{first_failing};
 ghost use Rattle.rank_papers.specs.ReportLines.{named_in};
+ghost use Rattle.rank_papers.specs.Papers.{neighbours};
 ghost use Rattle.rank_head.specs.FirstPlaces.{IsFirstPlace};
 ghost use Rattle.rank_head.specs.HeadTests as tests;
 
@@ -27,7 +28,7 @@ pub(crate) fn rise_fault(lines: &[Line]) -> Option<HeadFault>
 /// The place of the first line whose ID doesn't come before that of the next.
 fn first_not_rising(lines: &[Line]) -> Option<usize>
     ensures place { IsFirstPlace (λ two. tests.stands_before two.0.id two.1.id)
-        (tests.neighbours lines.now) result }
+        (neighbours lines.now) result }
     ensures within { IfSome result (λ place. place < length lines.now) }
 {
     let [_, behind @ ..] = lines else {

@@ -1,39 +1,21 @@
 //! The rows of a report: their order, the k-th score, and the series that they belong to and count with.
 
 ghost use Rattle.std.specs.Prelude.{◌≡◌, ℕ, ◌+◌, ◌^◌, ◌<◌, true, [], ◌∷◌, map, length, replicate, slice_index};
-ghost use Rattle.std.specs.Prelude.{None, IfOk, IfSome};
+ghost use Rattle.std.specs.Prelude.{None, IfSome};
 ghost use Rattle.ghcn_fields.specs.Faults.{first_failing};
 ghost use Rattle.rank_scores.specs.Order.{precedes};
-ghost use Rattle.rank_query.specs.Asked.{IsAsked};
-ghost use Rattle.rank_papers.specs.Certificate.{kth_of_best, count_of};
+ghost use Rattle.rank_papers.specs.Certificate.{count_of};
 ghost use Rattle.rank_papers.specs.ReportLines.{named_in};
+ghost use Rattle.rank_papers.specs.Papers.{of_rows, neighbours};
 ghost use Rattle.rank_head.specs.FirstPlaces.{IsFirstPlace};
 ghost use Rattle.rank_head.specs.HeadTests as tests;
 ghost use Rattle.rank_head.specs.Tallies as tallies;
 
 use crate::HeadFault;
-use ghcn_fields::Memory;
 use ghcn_files::StationId;
-use rank_papers::{Line, Row};
+use rank_papers::{Line, Row, kth_score};
 use rank_query::Query;
-use rank_scores::{Candidate, precedes};
-use std::alloc::Global;
-
-/// The candidates of rows.
-pub fn candidates_of(alloc: Global, rows: &[Row]) -> Result<Vec<Candidate>, Memory>
-    ensures { IfOk result (λ found. found.items ≡ tests.of_rows (map named_in rows.now)) }
-{
-    Ok(rows.iter().map(|row| row.candidate).collect(alloc)?)
-}
-
-/// The score of the k-th row, if there are that many.
-pub fn kth_score(query: &Query, rows: &[Row]) -> Option<i64>
-    ensures asked { IsAsked query.now }
-    ensures kth { result ≡ kth_of_best query.now.k (tests.of_rows (map named_in rows.now)) }
-{
-    let row = rows.get(query.k() as usize - 1)?;
-    Some(row.candidate.score)
-}
+use rank_scores::precedes;
 
 /// The refusal of the first row that the one before it doesn't precede. The second row is line 4 of the
 /// report.
@@ -48,8 +30,8 @@ pub(crate) fn order_fault(rows: &[Row]) -> Option<HeadFault>
 
 /// The place of the first row that doesn't precede the next.
 fn first_out_of_order(rows: &[Row]) -> Option<usize>
-    ensures place { IsFirstPlace (λ two. precedes two.0.0 two.1.0)
-        (tests.neighbours (map named_in rows.now)) result }
+    ensures place { IsFirstPlace (λ two. precedes two.0 two.1)
+        (neighbours (of_rows (map named_in rows.now))) result }
     ensures within { IfSome result (λ place. place < length rows.now) }
 {
     let [_, behind @ ..] = rows else {
@@ -76,7 +58,7 @@ pub(crate) fn scanned_fault(lines: &[Line], rows: &[Row], counts: &mut [u64]) ->
     requires rise { tests.IdsRise lines.now }
     requires none { counts.old ≡ replicate (length lines.now) 0 }
     ensures fault { result ≡ first_failing (tests.scanned_tests lines.now (map named_in rows.now)) }
-    ensures counts { result ≡ None → counts.new ≡ map (count_of (tests.of_rows (map named_in rows.now))) lines.now }
+    ensures counts { result ≡ None → counts.new ≡ map (count_of (of_rows (map named_in rows.now))) lines.now }
 {
     let place = first_not_scanned(lines, rows, counts)?;
     Some(HeadFault::NotScanned {
@@ -92,7 +74,7 @@ fn first_not_scanned(lines: &[Line], rows: &[Row], counts: &mut [u64]) -> Option
     ensures place { IsFirstPlace (λ row. tests.is_scanned lines.now row.0.id)
         (map named_in rows.now) result }
     ensures within { IfSome result (λ place. place < length rows.now) }
-    ensures counts { result ≡ None → counts.new ≡ map (count_of (tests.of_rows (map named_in rows.now))) lines.now }
+    ensures counts { result ≡ None → counts.new ≡ map (count_of (of_rows (map named_in rows.now))) lines.now }
 {
     for (place, row) in rows.iter().enumerate() {
         if !count_row(lines, &row.candidate.id, counts) {

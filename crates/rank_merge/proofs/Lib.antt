@@ -1,3 +1,4 @@
+mod Cited
 pub mod Examples
 pub mod Lists
 pub mod RightHeads

@@ -1,10 +1,8 @@
 -- Lists: what holds of each, and of two element by element.
-use Rattle.std.proofs.Common.{◌≡◌, Bool, List, [], ◌∷◌, ◌++◌, map, refl}
-use Rattle.std.specs.List.{AllByRecursion, AllZip}
+use Rattle.rank_merge.proofs.Cited.{◌≡◌, ℕ, zero, suc, Bool, List, [], ◌∷◌, ◌++◌, take, map, refl, flat_map}
+use Rattle.rank_merge.proofs.Cited.{AllByRecursion, AllZip, All-permutation, IsPermutation-sym, sorted_by, Descend}
+use Rattle.rank_merge.proofs.Cited.{sorted-permutation, take-all, each-append}
 use Rattle.std.proofs.lemmas.List.Elements.{recursion_from_All, All-from_recursion}
-use Rattle.std.proofs.lemmas.List.Sorted.{All-permutation, IsPermutation-sym}
-use Rattle.ghcn_fields.specs.Sorting.{sorted_by}
-use Rattle.ghcn_files.proofs.Ordered.{sorted-permutation}
 
 -- ---- each of a list
 
@@ -14,6 +12,19 @@ pub each-unsorted : {X : Type 0} (P : X → Type 0) (f : X → X → Bool) (xs :
 each-unsorted P f xs h =
     recursion_from_All P xs (All-permutation P (sorted_by f xs) xs
     (IsPermutation-sym xs (sorted_by f xs) (sorted-permutation f xs)) (All-from_recursion P (sorted_by f xs) h))
+
+-- what holds of all that each gives holds of all of it together
+pub each-flat : {X Y : Type 0} (P : Y → Type 0) (f : X → List Y) (xs : List X)
+    → AllByRecursion (λ x. AllByRecursion P (f x)) xs → AllByRecursion P (flat_map f xs)
+each-flat P f [] h = tt
+each-flat P f (x ∷ xs) h = each-append P (f x) (flat_map f xs) h.0 (each-flat P f xs h.1)
+
+-- of a list in which each comes before all after it, the first do so too
+pub descend-take : {X : Type 0} (Before : X → X → Type 0) (k : ℕ) (xs : List X) → Descend Before xs
+    → Descend Before (take k xs)
+descend-take Before zero xs h = tt
+descend-take Before (suc k) [] h = tt
+descend-take Before (suc k) (x ∷ xs) h = (take-all (Before x) k xs h.0, descend-take Before k xs h.1)
 
 -- ---- two lists, element by element
 
@@ -25,14 +36,6 @@ module _ {X Y : Type 0} (R : X → Y → Type 0) where
   zip-append [] vs (y ∷ ys) ws h k = absurd h
   zip-append (x ∷ xs) vs [] ws h k = absurd h
   zip-append (x ∷ xs) vs (y ∷ ys) ws h k = (h.0, zip-append xs vs ys ws h.1 k)
-
-  -- what follows for two elements follows for each two
-  pub zip-weaker : (S : X → Y → Type 0) → ((x : X) (y : Y) → R x y → S x y) → (xs : List X) (ys : List Y)
-      → AllZip R xs ys → AllZip S xs ys
-  zip-weaker S f [] [] h = tt
-  zip-weaker S f [] (y ∷ ys) h = absurd h
-  zip-weaker S f (x ∷ xs) [] h = absurd h
-  zip-weaker S f (x ∷ xs) (y ∷ ys) h = (f x y h.0, zip-weaker S f xs ys h.1)
 
   -- what is the same of two elements is so of the lists
   pub zip-same : {Z : Type 0} (f : X → Z) (g : Y → Z) → ((x : X) (y : Y) → R x y → f x ≡ g y) → (xs : List X)

@@ -1,35 +1,20 @@
 -- The bounds of a merged certificate are those of the series, if the parts' are, and no station has series in two
 -- parts.
-use Rattle.std.proofs.Common.{◌≡◌, inr, ◌≤◌, List, [], ◌∷◌, length, map, take, Option, Ok, sym, ap, ◌∙◌, subst, arith}
-use Rattle.std.proofs.Common.{ℕ, ℤ}
-use Rattle.std.specs.Prelude.{nat_le, IfSome, FitsSigned}
-use Rattle.std.specs.Int.{w64}
-use Rattle.std.specs.List.{flat_map, AllByRecursion, AllZip}
-use Rattle.std.proofs.lemmas.Bool.{leb-true, and_parts}
-use Rattle.std.proofs.lemmas.List.{length-take}
-use Rattle.std.proofs.lemmas.List.Sums.{count_by-le-length}
-use Rattle.ghcn_fields.specs.Sorting.{sorted_by}
-use Rattle.ghcn_files.specs.declared.station.Station.{Station}
-use Rattle.ghcn_series.specs.Series.{Usable, Contents}
-use Rattle.ghcn_series.specs.Held.{IsContents}
-use Rattle.rank_query.specs.Asked.{Asked, IsAsked}
-use Rattle.rank_scores.specs.Cut.{series_first, Filed, IsDataOf, CutByFiles, MorselsOfParts}
-use Rattle.rank_scores.specs.Morsels.{all_candidates, morsels, id_comes_first, best_of_query, kth_of_query}
-use Rattle.rank_scores.specs.declared.candidate.Candidate.{Candidate}
-use Rattle.rank_pool.specs.First.{in_order}
+use Rattle.rank_merge.proofs.Cited.{ap₂, ◌≡◌, inr, ◌≤◌, List, [], ◌∷◌, length, map, Option, Ok, sym, ap, ◌∙◌, subst}
+use Rattle.rank_merge.proofs.Cited.{arith, ℕ, ℤ, nat_le, IfSome, FitsSigned, flat_map, AllByRecursion, AllZip, leb-true}
+use Rattle.rank_merge.proofs.Cited.{length-take, count_by-le-length, sorted_by, Station, Usable, Contents, IsContents}
+use Rattle.rank_merge.proofs.Cited.{Asked, IsAsked, series_first, Filed, IsDataOf, CutByFiles, MorselsOfParts}
+use Rattle.rank_merge.proofs.Cited.{all_candidates, morsels, id_comes_first, best_of_query, kth_of_query, Candidate}
+use Rattle.rank_merge.proofs.Cited.{in_order, Entry, Certified, IsEntry, IsCount, IsRightEntry, count_of, counts_of}
+use Rattle.rank_merge.proofs.Cited.{read_certificate, sorted-zip, entries_of_parts, merged_entries, IsMeasuredPart}
+use Rattle.rank_merge.proofs.Cited.{MergedAreMeasured, all_texts, merge, ints, zip-weaker, w64}
+use Rattle.std.proofs.lemmas.Bool.{and_parts}
 use Rattle.rank_blocks.specs.Bounds.{bound}
-use Rattle.rank_papers.specs.Certificate.{Entry, Certified, IsEntry, IsCount, IsRightEntry, count_of, counts_of}
-use Rattle.rank_papers.specs.CertificateLines.{read_certificate}
 use Rattle.rank_papers.specs.PlanPapers.{IsMeasuredCertificate}
-use Rattle.rank_papers.proofs.PlanLines.{sorted-zip}
-use Rattle.rank_merge.specs.Merged.{entries_of_parts, merged_entries}
-use Rattle.rank_merge.specs.Laws.{IsMeasuredPart, MergedAreMeasured}
-use Rattle.rank_merge.specs.Merging.{merge}
-use Rattle.rank_merge.proofs.Lists.{zip-append, zip-weaker, zip-same}
+use Rattle.rank_merge.proofs.Lists.{zip-append, zip-same}
 use Rattle.rank_merge.proofs.MergedPapers.{WithData, IsRightPart, data_of_parts, parts_alone}
 use Rattle.rank_merge.proofs.RightHeads.{best_are}
-use Rattle.rank_merge.proofs.MergedTexts.{Known, IsMerged, all, is_certificate, same_data}
-use Rattle.std.proofs.lemmas.Int.{ints}
+use Rattle.rank_merge.proofs.MergedTexts.{Known, all, is_certificate, same_data}
 
 module _ (q : Asked) where
   -- a line has the ID and the bound of a series
@@ -42,15 +27,7 @@ module _ (q : Asked) where
   zip_measured kth [] [] h e = tt
   zip_measured kth [] (u ∷ us) h e = absurd h
   zip_measured kth (x ∷ es) [] h e = absurd h
-  zip_measured kth (x ∷ es) (u ∷ us) h e =
-      let first : x.bound ≡ bound q u = cc in
-      let rest : map (λ (y : Entry). y.bound) es ≡ map (bound q) us = cc in
-      ((h.0.named, first), zip_measured kth es us h.1 rest)
-
-  -- in order they stay so
-  sorted_measured : (es : List Entry) (us : List Usable) → AllZip IsMeasuredEntry es us
-      → AllZip IsMeasuredEntry (sorted_by (λ a b. id_comes_first a.id b.id) es) (sorted_by series_first us)
-  sorted_measured es us h = grind (arith, ints, sorted-zip)
+  zip_measured kth (x ∷ es) (u ∷ us) h e = ((h.0.named, (cc)), zip_measured kth es us h.1 (cc))
 
   -- ---- what is read of a measured certificate
 
@@ -75,8 +52,7 @@ module _ (q : Asked) where
   -- there are at most a thousand best
   few_best : (c : Contents) → IsAsked q → IsContents c → length (best_of_query q c) ≤ 1000
   few_best c asked right =
-      let first : length (best_of_query q c) ≡ length (take q.k (in_order (all_candidates q c))) =
-      ap (λ (l : List Candidate). length l) (best_are q c asked right) in
+      let first = ap (λ (l : List Candidate). length l) (best_are q c asked right) in
       let high : q.k ≤ 1000 = leb-true q.k 1000 (and_parts (nat_le 1 q.k) (nat_le q.k 1000) asked.k).1 in
       omega (arith, first, length-take q.k (in_order (all_candidates q c)), high)
 
@@ -86,9 +62,6 @@ module _ (q : Asked) where
         → read_certificate bytes ≡ Ok z → map (λ (e : Entry). e.bound) z.entries ≡ map (bound q) (morsels q c)
     measured_read c bytes right h z e =
         let v = (known.right_certificates q c bytes asked right).0 h.certificate in
-        let es : List Entry = h.certificate.entries in
-        let kth : IfSome (kth_of_query q c) (FitsSigned w64) =
-        subst (λ (o : Option ℤ). IfSome o (FitsSigned w64)) v.2.kth v.1.can_be.kth in
         let said : Certified = record {
           version = h.certificate.version;
           query = q;
@@ -99,7 +72,7 @@ module _ (q : Asked) where
         let own : read_certificate bytes ≡ Ok said = (known.certificates bytes said).1 (record {
           can_be = record {
             asked = asked;
-            kth = kth;
+            kth = subst (λ (o : Option ℤ). IfSome o (FitsSigned w64)) v.2.kth v.1.can_be.kth;
             entries = each_can (kth_of_query q c) h.certificate.entries v.0.entries (morsels q c) h.certificate.right
                 v.2.entries v.1.can_be.entries;
             counts = inr (
@@ -133,24 +106,16 @@ module _ (q : Asked) where
 pub merged_measured : Known → CutByFiles → MorselsOfParts → MergedAreMeasured
 merged_measured known cut morsels_of q texts papers asked merged list stations parts ds dataset lists same are measured
     read apart =
-    let m : IsMerged q stations parts dataset papers = record {
-      list = list;
-      lists = lists;
-      asked = asked;
-      merged = ap (merge q) same ∙ merged;
-      are = are;
-      read = read;
-    } in
-    let found = all known cut m in
-    let z = is_certificate known cut m in
-    let data_are = zip-weaker (IsMeasuredPart q stations) (IsDataOf stations) (λ p d h. h.0) parts ds measured in
-    let one : data_of_parts found.read ≡ ds =
-    same_data stations parts (data_of_parts found.read) ds found.data_are data_are in
-    let own : AllZip (IsMeasuredPart q stations) parts (data_of_parts found.read) =
-    subst (AllZip (IsMeasuredPart q stations) parts) (sym one) measured in
+    let text : merge q (all_texts parts) ≡ Ok papers = ap (merge q) same ∙ merged in
+    let found = all known cut q list stations parts lists asked text are read in
+    let z = is_certificate known cut q list stations parts lists asked text are read in
+    let data_are = zip-weaker (IsMeasuredPart q stations) (IsDataOf stations) parts ds (λ p d h. h.0) measured in
+    let one = same_data stations parts (data_of_parts found.read) ds found.data_are data_are in
     let us : List Usable = flat_map (morsels q) (data_of_parts found.read) in
-    let lines = sorted_measured q (entries_of_parts (parts_alone found.read)) us
-    (measured_parts q known asked stations parts found.read found.right found.certificates_are own) in
+    let lines = sorted-zip (IsMeasuredEntry q) (λ (a b : Entry). id_comes_first a.id b.id) series_first
+    (λ a x b y r t. ap₂ id_comes_first r.0 t.0) (entries_of_parts (parts_alone found.read)) us
+    (measured_parts q known asked stations parts found.read found.right found.certificates_are
+    (subst (AllZip (IsMeasuredPart q stations) parts) (sym one) measured)) in
     let series : morsels q dataset ≡ sorted_by series_first us =
     morsels_of q stations parts ds dataset data_are read apart
     ∙ ap (λ (l : List Contents). sorted_by series_first (flat_map (morsels q) l)) (sym one) in

@@ -1,28 +1,13 @@
 -- The orders of lines by ID and of rows by candidate. In order, an ID that two lines have is on two neighbours.
-use Rattle.std.specs.Cmp.{IsTotalOrder}
+use Rattle.rank_merge.proofs.Cited.{IsTotalOrder, nat_cmp, is_le, is_eq, ordering_reverse, Ordering, full_cmp, Row}
+use Rattle.rank_merge.proofs.Cited.{Named, Entry, ◌≡◌, Bool, true, false, cond, List, [], ◌∷◌, Option, Some, refl, sym}
+use Rattle.rank_merge.proofs.Cited.{ap, ◌∙◌, drop, ◌||◌, arith, subst, list_any, find, zip, AllByRecursion, option_map}
+use Rattle.rank_merge.proofs.Cited.{false_from_ne_true, same_id, same_id-is, id_comes_first, by_id, twice}
 use Rattle.std.specs.Cmp.Lexicographic.{slice_cmp}
-use Rattle.std.specs.Ordering.{nat_cmp, is_le, is_eq, ordering_reverse}
-use Rattle.std.specs.declared.cmp.Ordering.{Ordering}
 use Rattle.std.proofs.lemmas.Cmp.{nat_list_cmp_total, on_total}
-use Rattle.rank_scores.specs.Order.{full_cmp}
 use Rattle.rank_scores.proofs.Listing.{full_cmp_total}
-use Rattle.rank_papers.specs.declared.paper.Row.{Row}
-use Rattle.rank_papers.specs.Report.{Named}
-use Rattle.rank_papers.specs.Certificate.{Entry}
-use Rattle.std.proofs.Common.{◌≡◌, Bool, true, false, cond, List, [], ◌∷◌, Option, Some, refl, sym, ap, ◌∙◌, drop, ◌||◌}
-use Rattle.std.proofs.Common.{arith}
-use Rattle.std.specs.List.{list_any, find, zip, AllByRecursion}
-use Rattle.std.specs.Option.{option_map}
-use Rattle.std.proofs.lemmas.Bool.{false_from_ne_true}
 use Rattle.std.proofs.lemmas.Map.Text.{is_eq-slice_cmp}
-use Rattle.ghcn_files.specs.Ids.{same_id}
-use Rattle.ghcn_files.proofs.IdLaws.{same_id-is}
-use Rattle.rank_scores.specs.Morsels.{id_comes_first}
-use Rattle.rank_head.specs.HeadTests.{neighbours}
-use Rattle.rank_head.proofs.FirstPlaces.{neighbours-zip}
-use Rattle.rank_merge.specs.Merged.{by_id}
-use Rattle.rank_merge.specs.Merging.{twice}
-use Rattle.rank_merge.proofs.StableSorts.{InTurn, in_turn, sorted-twice}
+use Rattle.rank_merge.proofs.StableSorts.{InTurn, sorted-twice, sorted_turn}
 
 -- lines by their IDs
 abbrev pub id_cmp : Entry → Entry → Ordering
@@ -76,13 +61,13 @@ IsTwice two = same_id two.0.id two.1.id
 
 -- so the first that two lines have is on two neighbours
 pub twice_beside : (es : List Entry) → InTurn id_cmp id_total es
-    → twice es ≡ option_map (λ two. two.0.id) (find IsTwice (neighbours es))
+    → twice es ≡ option_map (λ two. two.0.id) (find IsTwice (zip es (drop 1 es)))
 twice_beside [] h = refl
 twice_beside (e ∷ []) h = refl
 twice_beside (e ∷ f ∷ es) h =
     elim (same_id e.id f.id) as (λ b. same_id e.id f.id ≡ b
     → cond (b || list_any (λ g. same_id e.id g.id) es) (Some e.id) (twice (f ∷ es))
-    ≡ option_map (λ two. two.0.id) (cond b (Some (e, f)) (find IsTwice (neighbours (f ∷ es))))) [
+    ≡ option_map (λ two. two.0.id) (cond b (Some (e, f)) (find IsTwice (zip (f ∷ es) es)))) [
       | true ↦ λ t. refl
       | false ↦ λ t. ap (λ b. cond b (Some e.id) (twice (f ∷ es))) (none_behind e f es h.0.0 t h.1.0)
           ∙ twice_beside (f ∷ es) h.1
@@ -96,5 +81,4 @@ ordered_once ls es e = ap by_id e ∙ sorted-twice id_cmp id_total es ∙ sym e
 pub twice_found : (es : List Entry) (r : Option (Entry × Entry)) → by_id es ≡ es
     → r ≡ find IsTwice (zip es (drop 1 es)) → option_map (λ two. two.0.id) r ≡ twice es
 twice_found es r ordered e =
-    ap (option_map (λ (two : Entry × Entry). two.0.id)) (e ∙ ap (find IsTwice) (sym (neighbours-zip es)))
-    ∙ sym (twice_beside es (in_turn id_cmp id_total es ordered))
+    rw e (sym (twice_beside es (subst (InTurn id_cmp id_total) ordered (sorted_turn id_cmp id_total es))))

@@ -1,19 +1,9 @@
 -- Stable sorts: of given elements there is one list in order in which those that tie are as they came.
-use Rattle.std.proofs.Common.{◌≡◌, Bool, true, false, List, [], ◌∷◌, ◌++◌, length, refl, sym, ap, ◌∙◌, subst, arith}
-use Rattle.std.specs.Prelude.{filter, not, ◌&&◌}
-use Rattle.std.specs.List.{AllByRecursion}
-use Rattle.std.specs.List.Sorted.{IsPermutation, IsSortedBy, IsStableBy, ties}
-use Rattle.std.specs.Cmp.{IsTotalOrder, IsStrictWeakOrder}
-use Rattle.std.specs.Ordering.{is_le}
-use Rattle.std.specs.declared.cmp.Ordering.{Ordering}
-use Rattle.std.proofs.lemmas.Bool.{false_from_ne_true, true_from_ne_false}
-use Rattle.std.proofs.lemmas.List.{map-id, length-append}
-use Rattle.std.proofs.lemmas.List.Elements.{filter-append}
-use Rattle.std.proofs.lemmas.List.Sorted.{length_permutation}
-use Rattle.ghcn_fields.specs.Sorting.{placed, sorted_by}
+use Rattle.rank_merge.proofs.Cited.{◌≡◌, Bool, true, false, List, [], ◌∷◌, refl, sym, ◌∙◌, subst, arith, filter, not}
+use Rattle.rank_merge.proofs.Cited.{◌&&◌, AllByRecursion, IsSortedBy, IsStableBy, ties, IsTotalOrder, IsStrictWeakOrder}
+use Rattle.rank_merge.proofs.Cited.{is_le, Ordering, false_from_ne_true, true_from_ne_false, map-id, placed, sorted_by}
+use Rattle.rank_merge.proofs.Cited.{sorted-fixed, ints}
 use Rattle.ghcn_files.proofs.Ordered as ordered
-use Rattle.rank_pool.proofs.Orders.{sorted-fixed}
-use Rattle.std.proofs.lemmas.Int.{ints}
 
 -- ---- what is filtered
 
@@ -55,8 +45,12 @@ module _ {X : Type 0} (cmp : X → X → Ordering) (total : IsTotalOrder cmp) wh
   abbrev pub InTurn : List X → Type 0
   InTurn = ordered.InTurn cmp total first (λ a b. refl)
 
+  -- what is put in order is in turn
+  pub sorted_turn : (xs : List X) → InTurn (sorted_by first xs)
+  sorted_turn = ordered.sorted-in_turn cmp total first (λ a b. refl)
+
   -- an element comes before itself, or ties
-  first_own : (x : X) → first x x ≡ true
+  pub first_own : (x : X) → first x x ≡ true
   first_own x = true_from_ne_false _ (λ e. let own = ordered.first_either cmp total first (λ a b. refl) x x e in cc)
 
   -- two that each come first tie
@@ -77,64 +71,40 @@ module _ {X : Type 0} (cmp : X → X → Ordering) (total : IsTotalOrder cmp) wh
   sorted-stable x [] = refl
   sorted-stable x (a ∷ xs) = grind (arith, ints, placed-stable x a (sorted_by first xs), sorted-stable x xs)
 
+  -- an element is in front of what ties with it behind it
+  own_front : (y : X) (ys : List X) → filter (ties before y) (y ∷ ys) ≡ y ∷ filter (ties before y) ys
+  own_front y ys = passed_front (ties before y) y ys (tie y y (first_own y) (first_own y))
+
   -- two lists in turn with the same elements that tie have the same first element
   same_first : (y z : X) (ys zs : List X) → InTurn (z ∷ zs)
       → filter (ties before y) (y ∷ ys) ≡ filter (ties before y) (z ∷ zs) → first z y ≡ true
   same_first y z ys zs h e =
       first_passed (λ w. first z w ≡ true) (ties before y) (z ∷ zs) y (filter (ties before y) ys) (first_own z, h.0)
-      (sym e ∙ passed_front (ties before y) y ys (tie y y (first_own y) (first_own y)))
+      (sym e ∙ own_front y ys)
 
   -- so they are one list
-  one_stable : (ys zs : List X) → InTurn ys → InTurn zs → length ys ≡ length zs
+  one_stable : (ys zs : List X) → InTurn ys → InTurn zs
       → ((x : X) → filter (ties before x) ys ≡ filter (ties before x) zs) → ys ≡ zs
-  one_stable [] [] h k n same = refl
-  one_stable [] (z ∷ zs) h k n same = absurd (omega arith)
-  one_stable (y ∷ ys) [] h k n same = absurd (omega arith)
-  one_stable (y ∷ ys) (z ∷ zs) h k n same =
+  one_stable [] [] h k same = refl
+  one_stable [] (z ∷ zs) h k same =
+      absurd (let no : [] ≡ z ∷ filter (ties before z) zs = same z ∙ own_front z zs in cc)
+  one_stable (y ∷ ys) [] h k same =
+      absurd (let no : [] ≡ y ∷ filter (ties before y) ys = sym (same y) ∙ own_front y ys in cc)
+  one_stable (y ∷ ys) (z ∷ zs) h k same =
       let z_y : first z y ≡ true = same_first y z ys zs k (same y) in
       let y_z : first y z ≡ true = same_first z y zs ys h (sym (same z)) in
       let fronts : y ∷ filter (ties before y) ys ≡ z ∷ filter (ties before y) zs =
-      sym (passed_front (ties before y) y ys (tie y y (first_own y) (first_own y))) ∙ same y
-      ∙ passed_front (ties before y) z zs (tie y z y_z z_y) in
+      sym (own_front y ys) ∙ same y ∙ passed_front (ties before y) z zs (tie y z y_z z_y) in
       let heads : y ≡ z = cc in
-      let rest = one_stable ys zs h.1 k.1 (omega arith) (λ x. filter-behind (ties before x) z ys zs
-      (ap (λ (w : X). filter (ties before x) (w ∷ ys)) (sym heads) ∙ same x)) in
+      let rest = one_stable ys zs h.1 k.1 (λ x. filter-behind (ties before x) z ys zs (rw heads at (same x))) in
       λ i. heads i ∷ rest i
 
   -- what a stable sort returns is the list in this order
-  pub stable-sorted : (xs ys : List X) → IsPermutation xs ys → IsSortedBy before ys → IsStableBy before xs ys
-      → ys ≡ sorted_by first xs
-  stable-sorted xs ys p up stable =
-      let zs : List X = sorted_by first xs in
-      one_stable ys zs (subst InTurn (map-id ys) (ordered.sort-in_turn cmp total first (λ a b. refl) (λ x. x) ys up))
-      (ordered.sorted-in_turn cmp total first (λ a b. refl) xs)
-      (length_permutation xs ys p ∙ sym (length_permutation xs zs (ordered.sorted-permutation first xs)))
-      (λ x. stable x ∙ sym (sorted-stable x xs))
-
-  -- what is in order is in turn
-  pub in_turn : (xs : List X) → sorted_by first xs ≡ xs → InTurn xs
-  in_turn xs e = subst InTurn e (ordered.sorted-in_turn cmp total first (λ a b. refl) xs)
+  pub stable-sorted : (xs ys : List X) → IsSortedBy before ys → IsStableBy before xs ys → ys ≡ sorted_by first xs
+  stable-sorted xs ys up stable = one_stable ys (sorted_by first xs)
+      (subst InTurn (map-id ys) (ordered.sort-in_turn cmp total first (λ a b. refl) (λ x. x) ys up))
+      (sorted_turn xs) (λ x. stable x ∙ sym (sorted-stable x xs))
 
   -- putting in order twice is putting in order
   pub sorted-twice : (xs : List X) → sorted_by first (sorted_by first xs) ≡ sorted_by first xs
-  sorted-twice xs =
-      sorted-fixed first (sorted_by first xs) (ordered.sorted-in_turn cmp total first (λ a b. refl) xs)
-
-  -- putting some of all in order before is putting all in order
-  pub sorted-append : (xs ys : List X) → sorted_by first (sorted_by first xs ++ ys) ≡ sorted_by first (xs ++ ys)
-  sorted-append xs ys =
-      let zs : List X = sorted_by first xs in
-      one_stable (sorted_by first (zs ++ ys)) (sorted_by first (xs ++ ys))
-      (ordered.sorted-in_turn cmp total first (λ a b. refl) (zs ++ ys))
-      (ordered.sorted-in_turn cmp total first (λ a b. refl) (xs ++ ys))
-      (omega (
-        arith,
-        length_permutation (zs ++ ys) (sorted_by first (zs ++ ys)) (ordered.sorted-permutation first (zs ++ ys)),
-        length_permutation (xs ++ ys) (sorted_by first (xs ++ ys)) (ordered.sorted-permutation first (xs ++ ys)),
-        length_permutation xs zs (ordered.sorted-permutation first xs),
-        length-append zs ys,
-        length-append xs ys,
-      ))
-      (λ x. sorted-stable x (zs ++ ys) ∙ filter-append (ties before x) zs ys
-      ∙ ap (λ (l : List X). l ++ filter (ties before x) ys) (sorted-stable x xs)
-      ∙ sym (filter-append (ties before x) xs ys) ∙ sym (sorted-stable x (xs ++ ys)))
+  sorted-twice xs = sorted-fixed first (sorted_by first xs) (sorted_turn xs)

@@ -5,13 +5,9 @@ use Rattle.std.specs.List.{AllByRecursion, count_by}
 use Rattle.rank_query.specs.Asked.{Asked}
 use Rattle.rank_scores.specs.declared.candidate.Candidate.{Candidate}
 use Rattle.rank_pool.specs.First.{comes_first}
-use Rattle.rank_papers.specs.declared.fault.PaperFault.{PaperFault}
-use Rattle.rank_papers.specs.declared.fault.PaperFault.TheVariants as paper
 use Rattle.rank_papers.specs.Report.{Named}
 use Rattle.rank_papers.specs.ReportLines.{reported_in, named_in}
 use Rattle.rank_papers.specs.CertificateLines.{certified_in}
-use Rattle.rank_merge.specs.declared.fault.MergeFault.{MergeFault}
-use Rattle.rank_merge.specs.declared.fault.MergeFault.TheVariants.{BadReport, BadCertificate, Memory}
 use Rattle.rank_merge.specs.declared.part.Papers.{Papers}
 use Rattle.rank_merge.specs.declared.gathering.Gathered.{Gathered}
 use Rattle.rank_merge.specs.declared.merging.Merged.{Merged}
@@ -29,12 +25,6 @@ papers_in m = (m.report.items, m.certificate.items)
 -- what a report and a certificate that were read say
 abbrev pub part_in : Papers → Part
 part_in p = record { report = reported_in p.report; certificate = certified_in p.certificate }
-
--- the refusal of the part of this number whose report or certificate doesn't have its format
-abbrev pub of_paper : ℕ → PaperFault → MergeFault
-of_paper part (paper.BadReport line) = BadReport part line
-of_paper part (paper.BadCertificate line) = BadCertificate part line
-of_paper part (paper.Memory m) = Memory m
 
 -- ---- what is gathered
 

@@ -8,7 +8,7 @@ use Rattle.rank_pool.specs.First.{comes_first}
 use Rattle.rank_papers.specs.Report.{Named}
 use Rattle.rank_papers.specs.ReportLines.{Reported}
 use Rattle.rank_papers.specs.Certificate.{Entry, Certified, kth_of_best, counts_of}
-use Rattle.rank_head.specs.HeadTests.{of_rows}
+use Rattle.rank_papers.specs.Papers.{of_rows}
 
 -- ---- what parts say
 

@@ -6,9 +6,11 @@ use Rattle.ghcn_files.specs.declared.station.StationId.{StationId}
 use Rattle.ghcn_files.specs.Ids.{same_id}
 use Rattle.rank_query.specs.Asked.{Asked}
 use Rattle.rank_papers.specs.Report.{report_text}
-use Rattle.rank_papers.specs.ReportLines.{Reported, read_report}
+use Rattle.rank_papers.specs.declared.fault.Paper.{Paper}
+use Rattle.rank_papers.specs.declared.fault.Paper.TheVariants.{Report, Certificate}
+use Rattle.rank_papers.specs.Papers.{read_papers}
+use Rattle.rank_papers.specs.ReportLines.{Reported}
 use Rattle.rank_papers.specs.Certificate.{Entry, Certified, certificate_text}
-use Rattle.rank_papers.specs.CertificateLines.{read_certificate}
 use Rattle.rank_head.specs.declared.fault.HeadFault.{HeadFault}
 use Rattle.rank_head.specs.declared.fault.HeadFault.TheVariants as head
 use Rattle.rank_head.specs.HeadTests.{head_fault}
@@ -25,10 +27,10 @@ abbrev pub Texts : Type 0
 Texts = List ℕ × List ℕ
 
 -- what the report and the certificate of the part of this number say, if each has its format
-abbrev pub said : ℕ → Result Reported ℕ → Result Certified ℕ → Result Part MergeFault
-said part (Err line) z = Err (BadReport part line)
-said part (Ok r) (Err line) = Err (BadCertificate part line)
-said part (Ok r) (Ok z) = Ok (record { report = r; certificate = z })
+abbrev pub said : ℕ → Result (Reported × Certified) (Paper × ℕ) → Result Part MergeFault
+said part (Err (Report, line)) = Err (BadReport part line)
+said part (Err (Certificate, line)) = Err (BadCertificate part line)
+said part (Ok both) = Ok (record { report = both.0; certificate = both.1 })
 
 -- the refusal of the part of this number whose head has this error
 abbrev pub of_head : ℕ → HeadFault → MergeFault
@@ -52,7 +54,7 @@ with_right_head q part (Ok p) = unless_fault part (head_fault q p.report p.certi
 
 -- the part of this number, from 1, with these texts, or why it is refused
 abbrev pub part_of : Asked → ℕ → Texts → Result Part MergeFault
-part_of q part t = with_right_head q part (said part (read_report t.0) (read_certificate t.1))
+part_of q part t = with_right_head q part (said part (read_papers t.0 t.1))
 
 -- ---- all parts
 

@@ -5,7 +5,7 @@ ghost use Rattle.ghcn_fields.specs.Refusals.{IsRefusal, OrMemory};
 ghost use Rattle.rank_papers.specs.Certificate.{certificate_of_best};
 ghost use Rattle.rank_papers.specs.Report.{report_text};
 ghost use Rattle.rank_papers.specs.ReportLines.{named_in};
-ghost use Rattle.rank_head.specs.HeadTests.{of_rows};
+ghost use Rattle.rank_papers.specs.Papers.{of_rows};
 ghost use Rattle.rank_merge.specs.Found as found;
 ghost use Rattle.rank_merge.specs.Laws as laws;
 ghost use Rattle.rank_merge.specs.Merging as merging;
@@ -16,8 +16,7 @@ use crate::laws::merged_are_right;
 use crate::lines::{by_id, twice};
 use crate::rows::keep_first;
 use ghcn_fields::Memory;
-use rank_head::candidates_of;
-use rank_papers::{Line, Row, certificate_of_best, report_of_rows};
+use rank_papers::{Line, Row, candidates_of, certificate_of_best, report_of_rows};
 use rank_query::Query;
 use std::alloc::Global;
 

@@ -2,14 +2,12 @@
 
 ghost use Rattle.std.specs.Prelude.{◌≡◌, Ok, IfOk, IfErr};
 ghost use Rattle.ghcn_fields.specs.Refusals.{IsRefusal};
-ghost use Rattle.rank_papers.specs.ReportLines as reports;
-ghost use Rattle.rank_papers.specs.CertificateLines as certificates;
 ghost use Rattle.rank_merge.specs.Found as found;
 ghost use Rattle.rank_merge.specs.Merging as merging;
 
 use crate::MergeFault;
 use rank_head::{HeadFault, check_head};
-use rank_papers::{Certificate, PaperFault, Report, read_certificate, read_report};
+use rank_papers::{Certificate, Paper, Report, read_papers};
 use rank_query::Query;
 use std::alloc::Global;
 
@@ -33,39 +31,17 @@ pub(crate) fn read_part(
     ensures err { IfErr result (λ why. IsRefusal merging.is_memory why
         (merging.part_of query.now part (report.now, certificate.now))) }
 {
-    let papers = read_papers(alloc, part, report, certificate)?;
-    match check_head(alloc, query, &papers.report, &papers.certificate)? {
-        None => Ok(papers),
+    let (report, certificate) = match read_papers(alloc, report, certificate)? {
+        Ok(both) => both,
+        Err((Paper::Report, line)) => return Err(MergeFault::BadReport { part, line }),
+        Err((Paper::Certificate, line)) => return Err(MergeFault::BadCertificate { part, line }),
+    };
+    match check_head(alloc, query, &report, &certificate)? {
+        None => Ok(Papers {
+            report,
+            certificate,
+        }),
         Some(fault) => Err(of_head(part, fault)),
-    }
-}
-
-/// Reads the report and the certificate of the part of this number.
-fn read_papers(
-    alloc: Global,
-    part: u64,
-    report: &[u8],
-    certificate: &[u8],
-) -> Result<Papers, MergeFault>
-    ensures ok { IfOk result (λ papers. merging.said part (reports.read_report report.now)
-        (certificates.read_certificate certificate.now) ≡ Ok (found.part_in papers)) }
-    ensures err { IfErr result (λ why. IsRefusal merging.is_memory why (merging.said part
-        (reports.read_report report.now) (certificates.read_certificate certificate.now))) }
-{
-    Ok(Papers {
-        report: read_report(alloc, report).map_err(|why| of_paper(part, why))?,
-        certificate: read_certificate(alloc, certificate).map_err(|why| of_paper(part, why))?,
-    })
-}
-
-/// The refusal of a part whose report or certificate doesn't have its format.
-fn of_paper(part: u64, why: PaperFault) -> MergeFault
-    ensures { result ≡ found.of_paper part why }
-{
-    match why {
-        PaperFault::BadReport { line } => MergeFault::BadReport { part, line },
-        PaperFault::BadCertificate { line } => MergeFault::BadCertificate { part, line },
-        PaperFault::Memory(memory) => MergeFault::Memory(memory),
     }
 }
 

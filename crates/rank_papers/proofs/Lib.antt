@@ -36,3 +36,7 @@ pub mod BestOfQuery
 pub mod FoundPapers
 pub mod SaidPapers
 pub mod SeriesOfQuery
+pub mod FirstFailing
+pub mod SameQueries
+pub mod NamedRows
+pub mod ReadBoth

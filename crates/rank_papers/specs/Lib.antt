@@ -6,6 +6,7 @@ pub mod Lines
 pub mod ReportLines
 pub mod Spelled
 pub mod CertificateLines
+pub mod Papers
 pub mod Places
 pub mod PlanPapers
 pub mod Laws

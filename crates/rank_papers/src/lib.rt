@@ -6,6 +6,7 @@
 //! right one, and that a text is read as a report or a certificate if and only if it is one.
 #![tactic(auto)]
 
+mod both;
 mod certificate_lines;
 mod certificate_text;
 mod counted;
@@ -19,12 +20,14 @@ mod query_line;
 mod report_lines;
 mod report_text;
 mod row;
+mod rows;
 mod spelling;
 mod station_rows;
 
+pub use both::read_papers;
 pub use certificate_lines::read_certificate;
 pub use certificate_text::{certificate, certificate_of_best};
-pub use fault::PaperFault;
+pub use fault::{Paper, PaperFault};
 pub use laws::{
     certificates_are_read, papers_are_found, papers_are_said, papers_of_one_element,
     reports_are_read,
@@ -33,8 +36,10 @@ pub use lines::first_line;
 pub use measure::unit_of;
 pub use number::{push_number, push_tenths, push_value};
 pub use paper::{Certificate, Report, Row};
+pub use query_line::is_same_query;
 pub use rank_sched::Line;
 pub use report_lines::read_report;
 pub use report_text::{report, report_of_best, report_of_rows};
 pub use row::trimmed;
+pub use rows::{candidates_of, kth_score};
 pub use station_rows::row_counts;

@@ -1,7 +1,8 @@
-//! The line of a query, which a report and a certificate have.
+//! The line of a query, which a report and a certificate have, and whether two have the same.
 
 ghost use Rattle.std.specs.Prelude.{◌≡◌, IfOk};
 ghost use Rattle.rank_papers.specs.Lines as lines;
+ghost use Rattle.rank_papers.specs.Papers as papers;
 
 use crate::lines::{are_printable, field_from};
 use crate::report_text::push_query;
@@ -44,4 +45,12 @@ fn query_of_text(text: &[u8]) -> Option<Query>
         Ok(query) => Some(query),
         Err(_) => None,
     }
+}
+
+/// Whether two queries have one canonical text.
+pub fn is_same_query(alloc: Global, a: &Query, b: &Query) -> Result<bool, Memory>
+    ensures { IfOk result (λ same. same ≡ papers.same_query a.now b.now) }
+{
+    let (one, other) = (a.text(alloc)?, b.text(alloc)?);
+    Ok(one.as_bytes() == other.as_bytes())
 }

@@ -1,41 +1,26 @@
 -- A right head, as the pieces of a report and a certificate have it.
-use Rattle.std.proofs.Common.{◌≡◌, inr, ◌≤◌, Bool, true, false, cond, List, [], ◌∷◌, length, map, refl}
-use Rattle.std.proofs.Common.{ap, subst, arith}
-use Rattle.std.specs.Prelude.{nat_le}
-use Rattle.std.specs.List.{count_by, AllZip}
-use Rattle.std.proofs.lemmas.Bool.{and_parts, leb-true}
-use Rattle.std.proofs.lemmas.List.{length-map}
-use Rattle.std.proofs.lemmas.List.Sums.{count_by-le-length}
-use Rattle.ghcn_files.specs.Ids.{same_id}
-use Rattle.rank_query.specs.Asked.{Asked, IsAsked}
-use Rattle.rank_scores.specs.declared.candidate.Candidate.{Candidate}
-use Rattle.rank_papers.specs.Report.{Named}
-use Rattle.rank_papers.specs.ReportLines.{Reported, IsReported}
-use Rattle.rank_papers.specs.Certificate.{Entry, Certified, IsCertified, IsCount, count_of}
-use Rattle.rank_head.specs.HeadTests.{of_rows}
-use Rattle.rank_head.specs.RightHead.{IsRightHead}
+use Rattle.rank_parts.proofs.Cited.{◌≡◌, inr, ◌≤◌, List, length, map, refl, subst, arith, nat_le, and_parts, leb-true}
+use Rattle.rank_parts.proofs.Cited.{ints, length-map, count_by-le-length, Asked, IsAsked, Candidate, Named, Reported}
+use Rattle.rank_parts.proofs.Cited.{IsReported, Entry, Certified, IsCertified, IsCount, count_of, of_rows, IsRightHead}
+use Rattle.rank_parts.proofs.Cited.{ℕ, counts_of}
+use Rattle.rank_parts.proofs.EntryLists.{zip_each}
 
 -- the certificate of version 2 with the counts of some rows
 abbrev pub recounted : List Named → Certified → Certified
-recounted rows z = record {
-  version = 2;
-  query = z.query;
-  kth = z.kth;
-  entries = z.entries;
-  counts = map (count_of (of_rows rows)) z.entries;
-}
+recounted rows z = record z { version = 2; counts = map (count_of (of_rows rows)) z.entries }
 
--- its head is right
-pub recounted_head : (q : Asked) (r : Reported) (z : Certified) → IsRightHead q r z
-    → IsRightHead q r (recounted r.rows z)
-recounted_head q r z h = record {
+-- a right head is right with the counts of another version
+pub with_counts : (q : Asked) (r : Reported) (z : Certified) (version : ℕ) (counts : List ℕ)
+    → counts ≡ counts_of version (of_rows r.rows) z.entries → IsRightHead q r z
+    → IsRightHead q r (record z { version = version; counts = counts })
+with_counts q r z version counts are h = record {
   report = h.report;
   certificate = h.certificate;
   order = h.order;
   kth = h.kth;
   rise = h.rise;
   scanned = h.scanned;
-  counts = refl;
+  counts = are;
 }
 
 -- a report has at most as many rows as are asked for
@@ -48,32 +33,23 @@ k_within q asked =
     let both = and_parts (nat_le 1 q.k) (nat_le q.k 1000) asked.k in
     (leb-true 1 q.k both.0, leb-true q.k 1000 both.1)
 
--- the counts of few rows can be
-counts_can : (ds : List Candidate) → length ds ≤ 1000 → (es : List Entry) → AllZip IsCount es (map (count_of ds) es)
-counts_can ds few [] = tt
-counts_can ds few (e ∷ es) = (by e.skipped refl, counts_can ds few es)
-  where
-    by : (b : Bool) → e.skipped ≡ b → IsCount e (count_of ds e)
-    by true s = record {
-      few = omega (arith, ap (λ (b : Bool). cond b 0 (count_by (λ c. same_id c.id e.id) ds)) s);
-      none = λ t. ap (λ (b : Bool). cond b 0 (count_by (λ c. same_id c.id e.id) ds)) t;
-    }
-    by false s = record {
-      few = omega (
-        arith,
-        ap (λ (b : Bool). cond b 0 (count_by (λ c. same_id c.id e.id) ds)) s,
-        count_by-le-length (λ (c : Candidate). same_id c.id e.id) ds,
-        few,
-      );
-      none = λ t. ap (λ (b : Bool). cond b 0 (count_by (λ c. same_id c.id e.id) ds)) t;
-    }
+-- the count of few rows can be
+count_can : (ds : List Candidate) (e : Entry) → length ds ≤ 1000 → IsCount e (count_of ds e)
+count_can ds e few = grind (arith, ints, count_by-le-length)
 
--- so it can be said
-pub recounted_can : (rows : List Named) (z : Certified) → length rows ≤ 1000 → IsCertified z
-    → IsCertified (recounted rows z)
-recounted_can rows z few can = record {
-  asked = can.asked;
-  kth = can.kth;
-  entries = can.entries;
-  counts = inr (refl, counts_can (of_rows rows) (omega (arith, length-map rows (λ (row : Named). row.0))) z.entries);
-}
+-- so with the counts of the rows the certificate can be, if the report has the query
+pub recounted_can : (q : Asked) (r : Reported) (z : Certified) → IsAsked q → IsReported r → IsCertified z
+    → r.query ≡ q → IsCertified (recounted r.rows z)
+recounted_can q r z asked report can same =
+    let few : length (of_rows r.rows) ≤ 1000 =
+    omega (arith, few_rows q r report same, (k_within q asked).1, length-map r.rows (λ (row : Named). row.0)) in
+    record {
+      asked = can.asked;
+      kth = can.kth;
+      entries = can.entries;
+      counts = inr (
+        refl,
+        (zip_each IsCount (count_of (of_rows r.rows)) z.entries).1
+            (λ e k. count_can (of_rows r.rows) e few),
+      );
+    }

@@ -1,11 +1,11 @@
-pub mod RisingLists
+mod Cited
+pub mod StationRows
+pub mod EntryLists
+pub mod SaidInPieces
 pub mod Heads
-pub mod Accepting
 pub mod OwnLines
 pub mod WholePapers
-pub mod Searched
 pub mod Walks
 pub mod LineReasons
 pub mod OneElement
 pub mod Examples
-pub mod RightParts

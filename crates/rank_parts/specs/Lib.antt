@@ -1,3 +1,4 @@
+pub mod InPieces
 pub mod Parts
 pub mod Seen
 pub mod Texts

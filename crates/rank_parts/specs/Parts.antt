@@ -3,7 +3,7 @@
 use Rattle.std.specs.Prelude.{ℕ, suc, ◌+◌, Bool, ◌||◌, not, if◌then◌else◌, List, [], ◌∷◌, length, Option, None, Some}
 use Rattle.std.specs.Prelude.{Result, Ok, Err}
 use Rattle.std.specs.List.{list_all, list_any, find}
-use Rattle.std.specs.Option.{option_or, option_map, option_and_then}
+use Rattle.std.specs.Option.{option_or, option_map, option_map_or, option_and_then}
 use Rattle.ghcn_fields.specs.Faults.{first_failing}
 use Rattle.ghcn_files.specs.declared.station.Station.{Station}
 use Rattle.ghcn_files.specs.declared.station.StationId.{StationId}
@@ -13,32 +13,35 @@ use Rattle.ghcn_series.specs.Series.{Contents}
 use Rattle.rank_query.specs.Asked.{Asked}
 use Rattle.rank_scores.specs.Morsels.{morsels}
 use Rattle.rank_papers.specs.Report.{Named}
-use Rattle.rank_papers.specs.ReportLines.{Reported, read_report}
+use Rattle.rank_papers.specs.declared.fault.Paper.{Paper}
+use Rattle.rank_papers.specs.ReportLines.{Reported}
 use Rattle.rank_papers.specs.Certificate.{Entry, Certified, count_of}
-use Rattle.rank_papers.specs.CertificateLines.{read_certificate}
+use Rattle.rank_papers.specs.Papers.{read_papers, of_rows}
 use Rattle.rank_head.specs.declared.fault.HeadFault.{HeadFault}
 use Rattle.rank_head.specs.declared.fault.HeadFault.TheVariants.{OtherReportQuery, OtherCertificateQuery, OutOfOrder}
 use Rattle.rank_head.specs.declared.fault.HeadFault.TheVariants.{OtherFloor, NotRising, NotScanned, NotCounted}
-use Rattle.rank_head.specs.HeadTests.{of_rows, head_fault}
-use Rattle.rank_check.specs.declared.verdict.Paper.TheVariants.{Report, Certificate}
+use Rattle.rank_head.specs.HeadTests.{head_fault}
+use Rattle.rank_papers.specs.declared.fault.Paper.TheVariants.{Report, Certificate}
 use Rattle.rank_check.specs.declared.verdict.Why.{Why}
 use Rattle.rank_check.specs.declared.verdict.Why.TheVariants as why
+use Rattle.rank_check.specs.declared.refusal.Refusal.{Refusal}
+use Rattle.rank_check.specs.Tests.{refusal}
 use Rattle.rank_check.specs.Pieces.{is_morsel, piece_tests}
-use Rattle.rank_check.specs.InPieces.{rows_with, worst_of, own_series}
+use Rattle.rank_parts.specs.InPieces.{rows_with, worst_of, own_series}
 use Rattle.rank_parts.specs.declared.verdict.PartVerdict.{PartVerdict}
 use Rattle.rank_parts.specs.declared.verdict.PartVerdict.TheVariants.{Accepted, Refused}
 
 -- ---- the head
 
 -- the refusal for an error of the head
-abbrev pub refusal_of : HeadFault → PartVerdict
-refusal_of OtherReportQuery = Refused Report 2 why.OtherQuery
-refusal_of OtherCertificateQuery = Refused Certificate 2 why.OtherQuery
-refusal_of (OutOfOrder line) = Refused Report line why.OutOfOrder
-refusal_of OtherFloor = Refused Certificate 3 why.OtherFloor
-refusal_of (NotRising line) = Refused Certificate line why.OtherSeries
-refusal_of (NotScanned line) = Refused Report line why.NotACandidate
-refusal_of (NotCounted line) = Refused Certificate line why.NotCounted
+abbrev pub refusal_of : HeadFault → Refusal
+refusal_of OtherReportQuery = refusal Report 2 why.OtherQuery
+refusal_of OtherCertificateQuery = refusal Certificate 2 why.OtherQuery
+refusal_of (OutOfOrder line) = refusal Report line why.OutOfOrder
+refusal_of OtherFloor = refusal Certificate 3 why.OtherFloor
+refusal_of (NotRising line) = refusal Certificate line why.OtherSeries
+refusal_of (NotScanned line) = refusal Report line why.NotACandidate
+refusal_of (NotCounted line) = refusal Certificate line why.NotCounted
 
 -- ---- lines
 
@@ -60,10 +63,10 @@ abbrev pub why_of_line : Asked → Contents → List Named → Entry → Option 
 why_of_line q d rows e = option_and_then (why_at q d rows e) (find (is_station_of e.id) d.stations)
 
 -- the refusal of the first of these lines that has a reason, if the first of them has this number
-abbrev pub first_refused : (Entry → Option Why) → ℕ → List Entry → Option PartVerdict
+abbrev pub first_refused : (Entry → Option Why) → ℕ → List Entry → Option Refusal
 first_refused reason n [] = None
 first_refused reason n (e ∷ es) =
-    option_or (option_map (Refused Certificate n) (reason e)) (first_refused reason (suc n) es)
+    option_or (option_map (refusal Certificate n) (reason e)) (first_refused reason (suc n) es)
 
 -- ---- series without a line
 
@@ -76,29 +79,25 @@ abbrev pub have_lines : Asked → Contents → List Entry → Bool
 have_lines q d es = list_all (λ st. not (is_own q d st) || has_line es st.id) d.stations
 
 -- the refusal of lines among which one of a morsel is missing: it is reported at the line after them
-abbrev pub missing_refused : Asked → Contents → List Entry → Option PartVerdict
+abbrev pub missing_refused : Asked → Contents → List Entry → Option Refusal
 missing_refused q d es =
-    if have_lines q d es then None else Some (Refused Certificate (length es + 4) why.OtherSeries)
+    if have_lines q d es then None else Some (refusal Certificate (length es + 4) why.OtherSeries)
 
 -- ---- the verdict
 
 -- the refusal of a report and a certificate that were read: by the head, by its first bad line, or by a missing one
-abbrev pub refused : Asked → Contents → Reported → Certified → Option PartVerdict
+abbrev pub refused : Asked → Contents → Reported → Certified → Option Refusal
 refused q d r z =
     option_or (option_map refusal_of (head_fault q r z))
     (option_or (first_refused (why_of_line q d r.rows) 4 z.entries) (missing_refused q d z.entries))
 
--- the refusal, or that many series of that many lines if there is none
-abbrev pub or_accepted : ℕ → ℕ → Option PartVerdict → PartVerdict
-or_accepted series lines None = Accepted series lines
-or_accepted series lines (Some v) = v
-
--- the verdict on what the report and the certificate say, once both have been read
-abbrev pub part_judged : Asked → Contents → Result Reported ℕ → Result Certified ℕ → PartVerdict
-part_judged q d (Err line) z = Refused Report line why.Form
-part_judged q d (Ok r) (Err line) = Refused Certificate line why.Form
-part_judged q d (Ok r) (Ok z) = or_accepted (length (morsels q d)) (length z.entries) (refused q d r z)
+-- the verdict on what the report and the certificate say: the refusal of the first line that doesn't match the format
+-- there, or otherwise of what was read, or so many series and lines
+abbrev pub part_judged : Asked → Contents → Result (Reported × Certified) (Paper × ℕ) → PartVerdict
+part_judged q d (Err bad) = Refused (refusal bad.0 bad.1 why.Form)
+part_judged q d (Ok both) =
+    option_map_or Refused (refused q d both.0 both.1) (Accepted (length (morsels q d)) (length both.1.entries))
 
 -- what a part says of the texts of a report and a certificate
 abbrev pub part_verdict : Asked → Contents → List ℕ → List ℕ → PartVerdict
-part_verdict q d report certificate = part_judged q d (read_report report) (read_certificate certificate)
+part_verdict q d report certificate = part_judged q d (read_papers report certificate)

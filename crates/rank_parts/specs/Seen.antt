@@ -4,9 +4,8 @@ use Rattle.std.specs.List.{AllByRecursion}
 use Rattle.rank_query.specs.Asked.{Asked}
 use Rattle.rank_papers.specs.Report.{Named}
 use Rattle.rank_papers.specs.Certificate.{Entry, count_of}
-use Rattle.rank_head.specs.HeadTests.{of_rows}
-use Rattle.rank_check.specs.Pieces.{AreInOrder}
-use Rattle.rank_check.specs.InPieces.{rows_with}
+use Rattle.rank_papers.specs.Papers.{of_rows, AreInOrder}
+use Rattle.rank_parts.specs.InPieces.{rows_with}
 
 -- each row precedes the next, there are at most as many as were asked for, and if none of them is counted at a line,
 -- none belongs to its station

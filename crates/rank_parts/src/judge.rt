@@ -1,6 +1,6 @@
 //! The verdict of one part on a report and a certificate that were read.
 
-ghost use Rattle.std.specs.Prelude.{◌≡◌, Ok, Some, IfOk};
+ghost use Rattle.std.specs.Prelude.{◌≡◌, Ok, IfOk};
 ghost use Rattle.rank_papers.specs.ReportLines.{reported_in, IsReported};
 ghost use Rattle.rank_papers.specs.CertificateLines.{certified_in};
 ghost use Rattle.rank_papers.specs.Certificate.{IsCertified};
@@ -12,7 +12,7 @@ use crate::series::series_with_lines;
 use crate::verdict::PartVerdict;
 use ghcn_fields::Memory;
 use ghcn_series::Data;
-use rank_check::{Paper, Why};
+use rank_check::{Paper, Refusal, Why};
 use rank_head::{HeadFault, check_head};
 use rank_papers::{Certificate, Report};
 use rank_query::Query;
@@ -30,46 +30,36 @@ pub(crate) fn judge(
     requires report { IsReported (reported_in report.now) }
     requires certificate { IsCertified (certified_in certificate.now) }
     ensures { IfOk result (λ verdict. verdict ≡ parts.part_judged query.now dataset.now
-        (Ok (reported_in report.now)) (Ok (certified_in certificate.now))) }
+        (Ok (reported_in report.now, certified_in certificate.now))) }
 {
     if let Some(fault) = check_head(alloc, query, report, certificate)? {
-        return Ok(refusal_of(fault));
+        return Ok(PartVerdict::Refused(refusal_of(fault)));
     }
     let (rows, lines) = (report.rows.as_slice(), certificate.lines.as_slice());
-    if let Some(fault) = lines_fault(alloc, dataset, query, rows, lines)? {
-        return Ok(fault);
+    if let Some(refusal) = lines_fault(alloc, dataset, query, rows, lines)? {
+        return Ok(PartVerdict::Refused(refusal));
     }
+    let count = lines.len() as u64;
     Ok(match series_with_lines(dataset, query, lines) {
         Some(series) => PartVerdict::Accepted {
             series,
-            lines: lines.len() as u64,
+            lines: count,
         },
-        None => PartVerdict::Refused {
-            paper: Paper::Certificate,
-            line: lines.len() as u64 + 4,
-            why: Why::OtherSeries,
-        },
+        None => PartVerdict::Refused(Refusal::new(Paper::Certificate, count + 4, Why::OtherSeries)),
     })
 }
 
 /// The refusal for an error of the head.
-fn refusal_of(fault: HeadFault) -> PartVerdict
+fn refusal_of(fault: HeadFault) -> Refusal
     ensures { result ≡ parts.refusal_of fault }
 {
     match fault {
-        HeadFault::OtherReportQuery => refused(Paper::Report, 2, Why::OtherQuery),
-        HeadFault::OtherCertificateQuery => refused(Paper::Certificate, 2, Why::OtherQuery),
-        HeadFault::OutOfOrder { line } => refused(Paper::Report, line, Why::OutOfOrder),
-        HeadFault::OtherFloor => refused(Paper::Certificate, 3, Why::OtherFloor),
-        HeadFault::NotRising { line } => refused(Paper::Certificate, line, Why::OtherSeries),
-        HeadFault::NotScanned { line } => refused(Paper::Report, line, Why::NotACandidate),
-        HeadFault::NotCounted { line } => refused(Paper::Certificate, line, Why::NotCounted),
+        HeadFault::OtherReportQuery => Refusal::new(Paper::Report, 2, Why::OtherQuery),
+        HeadFault::OtherCertificateQuery => Refusal::new(Paper::Certificate, 2, Why::OtherQuery),
+        HeadFault::OutOfOrder { line } => Refusal::new(Paper::Report, line, Why::OutOfOrder),
+        HeadFault::OtherFloor => Refusal::new(Paper::Certificate, 3, Why::OtherFloor),
+        HeadFault::NotRising { line } => Refusal::new(Paper::Certificate, line, Why::OtherSeries),
+        HeadFault::NotScanned { line } => Refusal::new(Paper::Report, line, Why::NotACandidate),
+        HeadFault::NotCounted { line } => Refusal::new(Paper::Certificate, line, Why::NotCounted),
     }
-}
-
-/// A refusal.
-fn refused(paper: Paper, line: u64, why: Why) -> PartVerdict
-    ensures { result ≡ PartVerdict.Refused paper line why }
-{
-    PartVerdict::Refused { paper, line, why }
 }

@@ -1,12 +1,27 @@
-//! What the verdicts of all parts guarantee, as laws over the definitions.
+//! What the verdicts of all parts guarantee, and what those of all pieces do, as laws over the definitions.
 
+ghost use Rattle.rank_parts.specs.InPieces as pieces;
 ghost use Rattle.rank_parts.specs.Laws as laws;
 
 use ghcn_series::data_are_right;
-use rank_check::right_in_pieces;
+use rank_check::accepted_where_right;
 use rank_head::heads_are_right;
 use rank_papers::{certificates_are_read, reports_are_read};
-use rank_scores::{files_in_parts, one_element_is_enough};
+use rank_scores::{candidates_of_queries, files_in_parts, one_element_is_enough};
+
+/// A report and a certificate of version 2 say what is right if and only if the head is right, each line is
+/// accepted by itself, and each listed station without a line is accepted by itself. The pieces may be checked in
+/// any order. So `check` of `rank_check` accepts the two if and only if their pieces are accepted.
+pub fn right_in_pieces()
+    ensures says { pieces.RightInPieces }
+    ensures accepted { pieces.AcceptedInPieces }
+{
+    // What is accepted is right, and what is right can be cut into pieces.
+    accepted_where_right();
+    candidates_of_queries();
+    certificates_are_read();
+    reports_are_read();
+}
 
 /// A report and a certificate are right for all data if and only if each part accepts them, and the numbers of the
 /// parts' series add up to the number of the lines. This is so for data that a query sees as cut into these parts,

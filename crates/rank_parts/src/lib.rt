@@ -14,6 +14,6 @@ mod series;
 mod text;
 mod verdict;
 
-pub use laws::{part_verdict_of_one_element, parts_make_the_whole};
+pub use laws::{part_verdict_of_one_element, parts_make_the_whole, right_in_pieces};
 pub use part::check_part;
 pub use verdict::PartVerdict;

@@ -5,19 +5,17 @@ ghost use Rattle.std.specs.Option.{option_copied};
 ghost use Rattle.rank_papers.specs.Certificate.{count_of};
 ghost use Rattle.rank_papers.specs.ReportLines.{named_in};
 ghost use Rattle.rank_query.specs.Asked.{IsAsked};
-ghost use Rattle.rank_head.specs.HeadTests.{of_rows};
-ghost use Rattle.rank_check.specs.InPieces.{worst_of};
+ghost use Rattle.rank_papers.specs.Papers.{of_rows};
+ghost use Rattle.rank_parts.specs.InPieces.{worst_of};
 ghost use Rattle.rank_parts.specs.Parts as parts;
 ghost use Rattle.rank_parts.specs.Seen.{AreSeen, IsSeen};
 
 use crate::rows::own_rows;
 use crate::series::is_own;
-use crate::verdict::PartVerdict;
 use ghcn_fields::Memory;
 use ghcn_series::Data;
-use rank_check::{Paper, Why, check_line};
-use rank_head::candidates_of;
-use rank_papers::{Line, Row, row_counts};
+use rank_check::{Paper, Refusal, Why, check_line};
+use rank_papers::{Line, Row, candidates_of, row_counts};
 use rank_query::Query;
 use rank_scores::Candidate;
 use std::alloc::Global;
@@ -29,7 +27,7 @@ pub(crate) fn lines_fault(
     query: &Query,
     rows: &[Row],
     lines: &[Line],
-) -> Result<Option<PartVerdict>, Memory>
+) -> Result<Option<Refusal>, Memory>
     requires { AreSeen query.now (map named_in rows.now) lines.now }
     ensures { IfOk result (λ fault. fault
         ≡ parts.first_refused (parts.why_of_line query.now dataset.now (map named_in rows.now)) 4 lines.now) }
@@ -39,11 +37,8 @@ pub(crate) fn lines_fault(
     for place in 0..lines.len() {
         let why = line_why(alloc, dataset, query, rows, &lines[place], counts[place])?;
         if let Some(why) = why {
-            return Ok(Some(PartVerdict::Refused {
-                paper: Paper::Certificate,
-                line: place as u64 + 4,
-                why,
-            }));
+            let line = place as u64 + 4;
+            return Ok(Some(Refusal::new(Paper::Certificate, line, why)));
         }
     }
     Ok(None)

@@ -9,8 +9,8 @@ use crate::laws::parts_make_the_whole;
 use crate::verdict::PartVerdict;
 use ghcn_fields::Memory;
 use ghcn_series::Data;
-use rank_check::{Paper, Why};
-use rank_papers::{PaperFault, read_certificate, read_report};
+use rank_check::{Refusal, Why};
+use rank_papers::read_papers;
 use rank_query::Query;
 use std::alloc::Global;
 
@@ -49,28 +49,8 @@ fn judge_texts(
     ensures { IfOk result (λ found.
         found ≡ parts.part_verdict query.now dataset.now report.now certificate.now) }
 {
-    let report = match read_report(alloc, report) {
-        Ok(report) => report,
-        Err(PaperFault::BadReport { line }) => return Ok(bad_form(Paper::Report, line)),
-        Err(PaperFault::BadCertificate { .. }) => unreachable!(),
-        Err(PaperFault::Memory(memory)) => return Err(memory),
-    };
-    let certificate = match read_certificate(alloc, certificate) {
-        Ok(certificate) => certificate,
-        Err(PaperFault::BadReport { .. }) => unreachable!(),
-        Err(PaperFault::BadCertificate { line }) => return Ok(bad_form(Paper::Certificate, line)),
-        Err(PaperFault::Memory(memory)) => return Err(memory),
-    };
-    judge(alloc, dataset, query, &report, &certificate)
-}
-
-/// A refusal of a line that doesn't match the format there.
-fn bad_form(paper: Paper, line: u64) -> PartVerdict
-    ensures { result ≡ PartVerdict.Refused paper line Why.Form }
-{
-    PartVerdict::Refused {
-        paper,
-        line,
-        why: Why::Form,
+    match read_papers(alloc, report, certificate)? {
+        Ok((report, certificate)) => judge(alloc, dataset, query, &report, &certificate),
+        Err((paper, line)) => Ok(PartVerdict::Refused(Refusal::new(paper, line, Why::Form))),
     }
 }

@@ -2,7 +2,7 @@
 
 ghost use Rattle.std.specs.Prelude.{◌≡◌, [], map, IfOk};
 ghost use Rattle.rank_papers.specs.ReportLines.{named_in};
-ghost use Rattle.rank_check.specs.InPieces.{rows_with};
+ghost use Rattle.rank_parts.specs.InPieces.{rows_with};
 
 use ghcn_fields::Memory;
 use ghcn_files::StationId;

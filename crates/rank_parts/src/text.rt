@@ -13,9 +13,7 @@ impl fmt::Display for PartVerdict {
     fn fmt<W: fmt::Write>(&self, f: &mut fmt::Formatter<W>) -> fmt::Result {
         match self {
             PartVerdict::Accepted { series, lines } => write!(f, "accepted {series} of {lines}"),
-            PartVerdict::Refused { paper, line, why } => {
-                write!(f, "refused {paper} line {line} {why}")
-            }
+            PartVerdict::Refused(refusal) => write!(f, "{refusal}"),
         }
     }
 }

@@ -1,12 +1,12 @@
 //! The verdict of a part on a report and a certificate.
 
-use rank_check::{Paper, Why};
+use rank_check::Refusal;
 
 /// The verdict of the files of some stations on a report and a certificate of a whole archive.
 #[derive(Clone, Copy, Debug, PartialEq, Eq)]
 pub enum PartVerdict {
     /// No test fails: these files have this many series of the query, and the certificate has this many lines.
     Accepted { series: u64, lines: u64 },
-    /// The first test that fails is one of this line. Lines are counted from 1.
-    Refused { paper: Paper, line: u64, why: Why },
+    /// The first test that fails is one of this line.
+    Refused(Refusal),
 }

@@ -3,7 +3,7 @@
 use super::*;
 use crate::judge::{judge, judge_part};
 use crate::judgement::{Judgement, ending};
-use rank_check::{Paper, Verdict, Why};
+use rank_check::{Paper, Refusal, Verdict, Why};
 use rank_parts::PartVerdict;
 use std::test::Fail;
 
@@ -66,11 +66,11 @@ fn papers_are_judged_by_a_part(rt: HostRuntime) -> Result<(), Fail> {
         "accepted 1 of 3"
     );
     assert_eq!(rt; ending(&judgement), Ending::Done);
-    let refused = PartVerdict::Refused {
+    let refused = PartVerdict::Refused(Refusal {
         paper: Paper::Report,
         line: 2,
         why: Why::OtherQuery,
-    };
+    });
     let asked = "top 2 highest TMAX";
     let judged = judge_part(rt.alloc(), STATIONS, &[part], asked, report, certificate);
     assert_eq!(rt; judged, Ok(refused));

@@ -1,15 +1,17 @@
 use Rattle.std.proofs.Common.{◌≡◌, ℕ, List, [], ◌∷◌, true, length, sym, ap, ◌∙◌}
+use Rattle.std.specs.Option.{option_eq}
+use Rattle.std.specs.Ordering.{int_eq}
 use Rattle.std.proofs.lemmas.List.{length-map}
 use Rattle.ghcn_fields.specs.Faults.{first_failing}
 use Rattle.rank_scores.specs.Morsels.{morsels, kth_of_query}
 use Rattle.rank_scores.specs.declared.candidate.Candidate.{Candidate}
 use Rattle.rank_papers.specs.Certificate.{Entry}
 use Rattle.rank_papers.specs.CertificateLines.{certified_in}
-use Rattle.rank_head.specs.HeadTests.{same_query, same_score}
+use Rattle.rank_papers.specs.Papers.{same_query, candidates_of}
 use Rattle.rank_check.specs.declared.survey.Top.{Top}
-use Rattle.rank_check.specs.Survey.{top, candidates_of}
+use Rattle.rank_check.specs.Survey.{top}
 use Rattle.rank_check.specs.Tests.{length_test, tests_of_lines}
-use Rattle.rank_check.proofs.Judging.{certificate_decided}
+use Rattle.rank_check.proofs.Judging.{certificate_decided, not_denied}
 use Rattle.rank_check.proofs.judge.certificate_fault.Goals as goal
 
 -- the lines decide, or otherwise their number
@@ -19,8 +21,9 @@ returns c = λ dataset kth tops.
     let z = c.args.certificate.now in
     let rows : List Candidate = candidates_of c.args.rows.now in
     let same : same_query z.query q ≡ true = sym c.in_ok-is_same_query.ensures ∙ c.if-not-branch.false in
-    let score : same_score z.kth (kth_of_query q dataset) ≡ true =
-    ap (same_score z.kth) (sym kth) ∙ sym c.is_same_score.ensures ∙ c.if-not-is_same_score.false in
+    let score : option_eq int_eq z.kth (kth_of_query q dataset) ≡ true =
+    ap (option_eq int_eq z.kth) (sym kth)
+    ∙ not_denied (option_eq int_eq z.kth c.args.kth) (sym c.ne.ensures ∙ c.if-ne.false) in
     let counted = c.as_slice.ensures.value ∙ c.in_ok-wanted.ensures in
     let found = c.as_slice-tops.ensures.value ∙ tops in
     let long = ap (λ (l : List Top). length l) found ∙ length-map (morsels q dataset) (top q) in

@@ -10,7 +10,7 @@ pub returns-then-not-is_at_most : goal.returns-then-not-is_at_most
 returns-then-not-is_at_most c = λ rows wanted q s e.
     let made : Some c.in-Some.top.now ≡ option_map (top q) s = ap (λ o. option_copied o) (sym c.in-Some.is) ∙ e in
     let named : same_id c.in-Some.top.now.id c.args.line.now.id ≡ true = sym c.eq.ensures ∙ c.if-eq.true in
-    c.refused-then-not-is_at_most.ensures
+    ap (λ r. Some r) c.new-then-not-is_at_most.ensures
     ∙ no_bound q c.args.kth rows c.args.number c.args.line.now c.args.count c.in-Some.top.now s made named
     (sym c.is_at_most.ensures ∙ c.if-not-is_at_most.true)
 
@@ -19,7 +19,7 @@ pub returns-then-not-may_stand : goal.returns-then-not-may_stand
 returns-then-not-may_stand c = λ rows wanted q s e.
     let made : Some c.in-Some.top.now ≡ option_map (top q) s = ap (λ o. option_copied o) (sym c.in-Some.is) ∙ e in
     let named : same_id c.in-Some.top.now.id c.args.line.now.id ≡ true = sym c.eq.ensures ∙ c.if-eq.true in
-    c.refused-then-not-may_stand.ensures
+    ap (λ r. Some r) c.new-then-not-may_stand.ensures
     ∙ not_below q c.args.kth rows c.args.number c.args.line.now c.args.count c.in-Some.top.now s made named
     (sym c.is_at_most.ensures ∙ c.if-not-is_at_most.false) (sym c.may_stand.ensures ∙ c.if-not-may_stand.true)
 
@@ -28,7 +28,7 @@ pub returns-then-not-is_counted : goal.returns-then-not-is_counted
 returns-then-not-is_counted c = λ rows wanted q s e.
     let made : Some c.in-Some.top.now ≡ option_map (top q) s = ap (λ o. option_copied o) (sym c.in-Some.is) ∙ e in
     let named : same_id c.in-Some.top.now.id c.args.line.now.id ≡ true = sym c.eq.ensures ∙ c.if-eq.true in
-    c.refused-then-not-is_counted.ensures
+    ap (λ r. Some r) c.new-then-not-is_counted.ensures
     ∙ not_counted q c.args.kth rows c.args.number c.args.line.now c.args.count
     c.in-Some.top.now s made named (sym c.is_at_most.ensures ∙ c.if-not-is_at_most.false)
     (sym c.may_stand.ensures ∙ c.if-not-may_stand.false)

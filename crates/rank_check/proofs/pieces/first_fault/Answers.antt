@@ -9,8 +9,7 @@ use Rattle.ghcn_series.specs.Series.{Usable}
 use Rattle.rank_scores.specs.declared.candidate.Candidate.{Candidate}
 use Rattle.rank_papers.specs.Report.{Named}
 use Rattle.rank_papers.specs.ReportLines.{named_in}
-use Rattle.rank_check.specs.Pieces.{is_morsel, is_row_of, last_tests, piece_tests}
-use Rattle.rank_check.proofs.KthScores.{candidates_named}
+use Rattle.rank_check.specs.Pieces.{is_morsel, is_row_of, piece_tests}
 use Rattle.rank_check.proofs.Piecing.{piece-by}
 use Rattle.rank_check.proofs.pieces.first_fault.Goals as goal
 
@@ -58,6 +57,5 @@ returns c =
     let rows_are = list_all-map (is_row_of q st u) named_in c.args.rows.now ∙ sym c.are_candidates.ensures
     ∙ c.if-not-are_candidates.false in
     c.line_fault.ensures
-    ∙ ap (λ (l : List Candidate). first_failing (last_tests q u e l worst)) (candidates_named c.args.rows.now)
     ∙ sym (ap (λ (o : Option Usable). first_failing (piece_tests q st o e c.args.printed rows worst)) is
     ∙ piece-by q st u e c.args.printed rows worst true true true own counted rows_are)

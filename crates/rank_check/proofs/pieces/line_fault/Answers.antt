@@ -2,7 +2,7 @@ use Rattle.std.proofs.Common.{◌≡◌, refl, List, Option, true, false, not, s
 use Rattle.std.specs.Option.{option_copied}
 use Rattle.rank_scores.specs.declared.candidate.Candidate.{Candidate}
 use Rattle.rank_scores.specs.Order.{bound_is_below}
-use Rattle.rank_check.specs.Survey.{candidates_of}
+use Rattle.rank_papers.specs.Papers.{candidates_of}
 use Rattle.rank_check.specs.Pieces.{has_all}
 use Rattle.rank_check.proofs.Failing.{is_low}
 use Rattle.rank_check.proofs.Piecing.{last-by}

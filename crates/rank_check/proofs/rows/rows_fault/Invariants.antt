@@ -2,7 +2,8 @@ use Rattle.std.proofs.Common.{◌≡◌, take, map, None}
 use Rattle.ghcn_series.specs.Series.{Contents}
 use Rattle.rank_query.specs.Asked.{Asked}
 use Rattle.rank_papers.specs.ReportLines.{named_in}
-use Rattle.rank_check.specs.Survey.{AreFindings, candidates_of}
+use Rattle.rank_papers.specs.Papers.{candidates_of}
+use Rattle.rank_check.specs.Survey.{AreFindings}
 use Rattle.rank_check.specs.Tests.{row_tests}
 use Rattle.rank_check.proofs.Failing.{first_of}
 use Rattle.rank_check.proofs.rows.rows_fault.Given as goal

@@ -4,8 +4,9 @@ use Rattle.ghcn_series.specs.Series.{Usable}
 use Rattle.ghcn_series.specs.Says.{in_64_bits}
 use Rattle.rank_scores.specs.Candidates.{candidates}
 use Rattle.ghcn_files.specs.declared.station.StationId.{StationId}
+use Rattle.rank_papers.specs.Papers.{candidates_of}
 use Rattle.rank_check.specs.declared.survey.Top.{Top}
-use Rattle.rank_check.specs.Survey.{Tallied, met, candidates_of, top}
+use Rattle.rank_check.specs.Survey.{Tallied, met, top}
 use Rattle.rank_check.proofs.Each.{made-more}
 use Rattle.rank_check.proofs.Surveying.{tallied, scanned-more, top-behind}
 use Rattle.rank_check.proofs.survey.scan_all.Goals as goal

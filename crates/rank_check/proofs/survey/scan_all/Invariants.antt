@@ -2,7 +2,8 @@ use Rattle.std.proofs.Common.{◌≡◌, take, map, length}
 use Rattle.std.specs.List.{flat_map}
 use Rattle.ghcn_series.specs.Says.{in_64_bits}
 use Rattle.rank_scores.specs.Candidates.{candidates}
-use Rattle.rank_check.specs.Survey.{met, candidates_of, top}
+use Rattle.rank_papers.specs.Papers.{candidates_of}
+use Rattle.rank_check.specs.Survey.{met, top}
 use Rattle.rank_check.proofs.survey.scan_all.Given as goal
 
 -- the series so far were scanned

@@ -6,7 +6,8 @@ use Rattle.rank_scores.specs.Candidates.{candidates}
 use Rattle.rank_scores.specs.Morsels.{has_admitted, admitted_series, all_candidates}
 use Rattle.rank_scores.specs.declared.candidate.Candidate.{Candidate}
 use Rattle.rank_scores.proofs.QueryMorsels.{asked_alone}
-use Rattle.rank_check.specs.Survey.{met, candidates_of, top}
+use Rattle.rank_papers.specs.Papers.{candidates_of}
+use Rattle.rank_check.specs.Survey.{met, top}
 use Rattle.ghcn_files.proofs.IdOrder.{strictly, strictly_ranks}
 use Rattle.rank_check.proofs.SortedTops.{id_of, sorted_tops}
 use Rattle.rank_check.proofs.survey.survey.Goals as goal

@@ -3,10 +3,12 @@ use Rattle.std.proofs.lemmas.Result.{IfOk-weaker}
 use Rattle.rank_papers.specs.ReportLines.{Reported, named_in, reported_in}
 use Rattle.rank_papers.specs.Certificate.{Certified}
 use Rattle.rank_papers.specs.CertificateLines.{certified_in}
+use Rattle.rank_papers.specs.Papers.{same_query}
+use Rattle.rank_papers.proofs.FirstFailing.{not_some}
 use Rattle.ghcn_fields.specs.Faults.{first_failing}
 use Rattle.rank_head.specs.declared.fault.HeadFault.{HeadFault}
-use Rattle.rank_head.specs.HeadTests.{same_query, scanned_tests, count_tests, head_fault}
-use Rattle.rank_head.proofs.Decided.{not_some, places_decide, counts_decide}
+use Rattle.rank_head.specs.HeadTests.{scanned_tests, count_tests, head_fault}
+use Rattle.rank_head.proofs.Decided.{places_decide, counts_decide}
 use Rattle.rank_head.proofs.head.head_fault.Goals as goal
 
 -- a test of places fails

@@ -1,5 +1,6 @@
+use Rattle.rank_papers.proofs.SameQueries.{one_query}
 use Rattle.rank_head.proofs.CountSums.{counts_add_up}
-use Rattle.rank_head.proofs.RightHeads.{heads_are_right, one_query}
+use Rattle.rank_head.proofs.RightHeads.{heads_are_right}
 use Rattle.rank_head.proofs.laws.heads_are_right.Goals as goal
 
 -- by what is known of texts that are read

@@ -1,8 +1,8 @@
 use Rattle.std.proofs.Common.{◌≡◌, List, ℕ, None, map, sym, ap, ◌∙◌}
 use Rattle.ghcn_fields.specs.Faults.{first_failing}
 use Rattle.rank_papers.specs.ReportLines.{named_in}
+use Rattle.rank_papers.proofs.FirstFailing.{not_some, some_decides, none_decides}
 use Rattle.rank_head.specs.HeadTests.{scanned_tests, matching_tests, count_tests}
-use Rattle.rank_head.proofs.Decided.{not_some, some_decides, none_decides}
 use Rattle.rank_head.proofs.Tallies.{lent_back}
 use Rattle.rank_head.proofs.lines.count_fault.Goals as goal
 

@@ -1,5 +1,4 @@
-use Rattle.std.proofs.Common.{take}
-use Rattle.rank_merge.specs.Found.{AreOfParts, texts_in}
+use Rattle.rank_merge.proofs.Cited.{take, AreOfParts, texts_in}
 use Rattle.rank_merge.proofs.gathering.read_parts.Given as goal
 
 -- the parts so far were read

@@ -1,11 +1,7 @@
-use Rattle.std.proofs.Common.{◌≡◌, drop, ap, sym, ◌∙◌, rules, tests}
-use Rattle.std.specs.Option.{option_map}
+use Rattle.rank_merge.proofs.Cited.{◌≡◌, drop, ◌∙◌, rules, tests, option_map, Entry, behind_first, twice}
 use Rattle.std.proofs.lemmas.Iterator.{YieldsList-from_slice, YieldsList-from_zip}
 use Rattle.std.proofs.lemmas.Iterator.Consumers.{YieldsList-at}
 use Rattle.std.proofs.lemmas.Iterator.Search.{find_from_yields_List}
-use Rattle.rank_papers.specs.Certificate.{Entry}
-use Rattle.rank_head.proofs.FirstPlaces.{behind_first}
-use Rattle.rank_merge.specs.Merging.{twice}
 use Rattle.rank_merge.proofs.Orders.{IsTwice, twice_found}
 use Rattle.rank_merge.proofs.lines.twice.Goals.{After-find}
 use Rattle.rank_merge.proofs.lines.twice.Goals as goal
@@ -26,14 +22,8 @@ found c =
 -- no two lines have one ID
 pub returns-in_err-line : goal.returns-in_err-line
 returns-in_err-line c =
-    c.from_residual.ensures
-    ∙ ap (λ r. option_map (λ (two : Entry × Entry). two.0.id) (option_map (λ p. (p.0.now, p.1.now)) r))
-    (sym c.in_err-line.was)
-    ∙ found (goal.at.returns-in_err-line c).After-find
+    c.from_residual.ensures ∙ (rw c.in_err-line.was at (found (goal.at.returns-in_err-line c).After-find))
 
 -- two lines have one ID
 pub returns : goal.returns
-returns c =
-    ap (λ r. option_map (λ (two : Entry × Entry). two.0.id) (option_map (λ p. (p.0.now, p.1.now)) r))
-    (sym c.in_ok-line.was)
-    ∙ found (goal.at.returns c).After-find
+returns c = rw c.in_ok-line.was at (found (goal.at.returns c).After-find)

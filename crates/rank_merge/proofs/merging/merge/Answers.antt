@@ -1,14 +1,8 @@
-use Rattle.std.proofs.Common.{◌≡◌, Ok}
-use Rattle.std.specs.Prelude.{IfOk}
-use Rattle.std.proofs.lemmas.Result.{IfOk-weaker, IfErr-weaker}
+use Rattle.rank_merge.proofs.Cited.{◌≡◌, Ok, IfOk, IfOk-weaker, IfErr-weaker, texts_in, papers_in, merge, arith, ints}
 use Rattle.rank_merge.specs.declared.merging.Merged.{Merged}
-use Rattle.rank_merge.specs.Found.{texts_in, papers_in}
-use Rattle.rank_merge.specs.Merging.{merge}
 use Rattle.rank_merge.proofs.MergedTexts.{outcome_told, refusal_told}
 use Rattle.rank_merge.proofs.merging.merge.Goals.{After-merge_texts}
 use Rattle.rank_merge.proofs.merging.merge.Goals as goal
-use Rattle.std.proofs.Common.{arith}
-use Rattle.std.proofs.lemmas.Int.{ints}
 
 -- what is known of the merged texts follows for the result
 of_merged : (c : After-merge_texts) (P : Merged → Type 0)

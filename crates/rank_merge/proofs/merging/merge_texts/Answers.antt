@@ -1,4 +1,4 @@
-use Rattle.std.proofs.Common.{◌∙◌}
+use Rattle.rank_merge.proofs.Cited.{◌∙◌}
 use Rattle.rank_merge.proofs.Orders.{ordered_once}
 use Rattle.rank_merge.proofs.merging.merge_texts.Goals as goal
 

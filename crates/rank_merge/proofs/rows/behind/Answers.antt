@@ -1,5 +1,4 @@
-use Rattle.std.proofs.Common.{◌≡◌, true, rules}
-use Rattle.rank_pool.specs.First.{comes_first}
+use Rattle.rank_merge.proofs.Cited.{◌≡◌, true, rules, comes_first}
 use Rattle.rank_merge.proofs.RowFloors.{one_in_front}
 use Rattle.rank_merge.proofs.rows.behind.Goals as goal
 

@@ -1,7 +1,4 @@
-use Rattle.std.proofs.Common.{◌≡◌, ◌≤◌, drop, length, true}
-use Rattle.std.specs.List.{AllByRecursion}
-use Rattle.rank_pool.specs.First.{comes_first}
-use Rattle.rank_papers.specs.declared.paper.Row.{Row}
+use Rattle.rank_merge.proofs.Cited.{◌≡◌, ◌≤◌, drop, length, true, AllByRecursion, comes_first, Row}
 use Rattle.rank_merge.proofs.rows.behind.Given as goal
 
 -- the floor comes before each row from the place on, or ties with it

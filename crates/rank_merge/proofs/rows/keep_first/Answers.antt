@@ -1,21 +1,14 @@
-use Rattle.std.proofs.Common.{◌≡◌, ◌∙◌, List, ap, sym, map, rules, take}
-use Rattle.std.proofs.lemmas.List.{take-map}
-use Rattle.std.proofs.lemmas.List.Sorted.{answers_always}
-use Rattle.ghcn_fields.specs.Sorting.{sorted_by}
-use Rattle.rank_pool.specs.First.{comes_first}
-use Rattle.rank_papers.specs.declared.paper.Row.{Row}
-use Rattle.rank_papers.specs.Report.{Named}
-use Rattle.rank_papers.specs.ReportLines.{named_in}
+use Rattle.rank_merge.proofs.Cited.{◌≡◌, ◌∙◌, List, ap, sym, map, rules, take, take-map, answers_always, sorted_by}
+use Rattle.rank_merge.proofs.Cited.{comes_first, Row, Named, named_in, sorted-map}
 use Rattle.rank_merge.proofs.Orders.{row_cmp, row_total}
 use Rattle.rank_merge.proofs.StableSorts.{first, before, before_ranks, stable-sorted}
 use Rattle.rank_merge.proofs.rows.keep_first.Goals as goal
-use Rattle.ghcn_files.proofs.Ordered.{sorted-map}
 
 -- the first k of the one list in this order
 pub returns : goal.returns
 returns c =
     let sorted : c.sort_by.new.self.items ≡ sorted_by (first row_cmp row_total) c.args.rows.now.items =
-    stable-sorted row_cmp row_total c.args.rows.now.items c.sort_by.new.self.items c.sort_by.ensures.permutation
+    stable-sorted row_cmp row_total c.args.rows.now.items c.sort_by.new.self.items
     (c.in_ok-sort_by.ensures.sorted (before row_cmp row_total) (before_ranks row_cmp row_total)
     (answers_always _ _ _ (λ f a r g called. search rules)))
     (c.sort_by.ensures.stable (before row_cmp row_total) (before_ranks row_cmp row_total)

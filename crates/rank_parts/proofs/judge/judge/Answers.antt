@@ -1,9 +1,4 @@
-use Rattle.std.proofs.Common.{List, map, sym, subst}
-use Rattle.rank_papers.specs.declared.paper.Row.{Row}
-use Rattle.rank_papers.specs.ReportLines.{named_in, reported_in}
-use Rattle.rank_papers.specs.CertificateLines.{certified_in}
-use Rattle.rank_head.specs.HeadTests.{IdsRise}
-use Rattle.rank_parts.specs.Seen.{AreSeen}
+use Rattle.rank_parts.proofs.Cited.{List, map, sym, subst, Row, named_in, reported_in, certified_in, IdsRise, AreSeen}
 use Rattle.rank_parts.proofs.LineReasons.{head_shows}
 use Rattle.rank_parts.proofs.judge.judge.Goals as goal
 

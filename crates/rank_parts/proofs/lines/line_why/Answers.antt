@@ -1,21 +1,8 @@
-use Rattle.std.proofs.Common.{◌≡◌, ℕ, List, map, Option, Some, sym, ap, ◌∙◌, subst}
-use Rattle.std.specs.List.{find}
-use Rattle.std.specs.Option.{option_copied}
-use Rattle.ghcn_fields.specs.Faults.{first_failing}
-use Rattle.ghcn_files.specs.declared.station.Station.{Station}
-use Rattle.ghcn_files.specs.declared.element.Element.{Element}
-use Rattle.ghcn_files.specs.Listed.{is_station_of}
-use Rattle.ghcn_series.specs.Series.{Usable, series_of}
-use Rattle.rank_scores.specs.declared.candidate.Candidate.{Candidate}
-use Rattle.rank_papers.specs.Report.{Named}
-use Rattle.rank_papers.specs.Certificate.{count_of}
-use Rattle.rank_papers.specs.ReportLines.{named_in}
-use Rattle.rank_head.specs.HeadTests.{of_rows}
-use Rattle.rank_check.specs.Pieces.{AreRowsWithin, piece_tests}
-use Rattle.rank_check.specs.InPieces.{rows_with, worst_of}
-use Rattle.rank_check.specs.Survey.{candidates_of}
-use Rattle.rank_check.proofs.KthScores.{candidates_named}
-use Rattle.rank_parts.proofs.LineReasons.{no_series, not_own, of_own, rows_within}
+use Rattle.rank_parts.proofs.Cited.{◌≡◌, List, map, Option, Some, sym, ap, ◌∙◌, subst, false, find, option_copied}
+use Rattle.rank_parts.proofs.Cited.{Station, Element, is_station_of, series_of, Candidate, Named, named_in, of_rows}
+use Rattle.rank_parts.proofs.Cited.{candidates_of, AreRowsWithin, rows_with, worst_of}
+use Rattle.rank_parts.proofs.LineReasons.{no_series, of_own, why_is}
+use Rattle.rank_parts.proofs.StationRows.{rows_within}
 use Rattle.rank_parts.proofs.lines.line_why.Goals as goal
 
 -- the station has no series
@@ -35,17 +22,17 @@ returns-then-not-is_own c =
     let found : find (is_station_of e.id) d.stations ≡ Some c.in-Some-get.station.now =
     ap (λ (l : List Station). find (is_station_of e.id) l) (sym c.stations.ensures.stations) ∙ sym c.get.ensures
     ∙ ap (λ o. option_copied o) c.in-Some-get.is in
-    not_own c.args.query.now d (map named_in c.args.rows.now) e c.in-Some-get.station.now (Some c.in-Some.series.now)
+    sym (why_is c.args.query.now d (map named_in c.args.rows.now) e c.in-Some-get.station.now
+    (Some c.in-Some.series.now) false
     (ap (λ (x : Element). series_of d e.id x) (sym c.element.ensures.element) ∙ sym c.series.ensures
-    ∙ ap (λ o. option_copied o) c.in-Some.is) found (sym c.is_own.ensures ∙ c.if-not-is_own.true)
+    ∙ ap (λ o. option_copied o) c.in-Some.is) found (sym c.is_own.ensures ∙ c.if-not-is_own.true))
 
 -- the rows are in order and up to the worst
 pub check_line-requires : goal.check_line-requires
 check_line-requires c =
     let rows : List Named = map named_in c.args.rows.now in
     let own : candidates_of c.as_slice.result.now ≡ of_rows (rows_with c.args.line.now.id rows) =
-    ap candidates_of c.as_slice.ensures.value ∙ candidates_named c.in_ok-own.own.items
-    ∙ ap of_rows c.in_ok-own.ensures in
+    ap candidates_of c.as_slice.ensures.value ∙ ap of_rows c.in_ok-own.ensures in
     subst (λ (w : Option Candidate). AreRowsWithin w (candidates_of c.as_slice.result.now))
     (sym c.worst_of-worst.ensures.worst)
     (subst (AreRowsWithin (worst_of c.args.query.now.k rows)) (sym own)
@@ -58,8 +45,6 @@ returns c =
     let q = c.args.query.now in
     let d = c.args.dataset.now in
     let e = c.args.line.now in
-    let st : Station = c.in-Some-get.station.now in
-    let u : Usable = c.in-Some.series.now in
     let rows : List Named = map named_in c.args.rows.now in
     let found : find (is_station_of e.id) d.stations ≡ Some c.in-Some-get.station.now =
     ap (λ (l : List Station). find (is_station_of e.id) l) (sym c.stations.ensures.stations) ∙ sym c.get.ensures
@@ -67,12 +52,8 @@ returns c =
     let own : map named_in c.as_slice.result.now ≡ rows_with e.id rows =
     ap (map named_in) c.as_slice.ensures.value ∙ c.in_ok-own.ensures in
     c.check_line.ensures.first
-    ∙ ap (λ (n : ℕ). first_failing (piece_tests q st (Some u) e n (map named_in c.as_slice.result.now)
-    (option_copied c.worst_of-worst.result))) c.requires.count
-    ∙ ap (λ (l : List Named). first_failing (piece_tests q st (Some u) e (count_of (of_rows rows) e) l
-    (option_copied c.worst_of-worst.result))) own
-    ∙ ap (λ (w : Option Candidate). first_failing (piece_tests q st (Some u) e (count_of (of_rows rows) e)
-    (rows_with e.id rows) w)) c.worst_of-worst.ensures.worst
-    ∙ of_own q d rows e st (Some u)
+    ∙ of_own q d rows e c.in-Some-get.station.now c.in-Some.series.now _
+    (map named_in c.as_slice.result.now) (option_copied c.worst_of-worst.result) c.requires.count own
+    c.worst_of-worst.ensures.worst
     (ap (λ (x : Element). series_of d e.id x) (sym c.element.ensures.element) ∙ sym c.series.ensures
     ∙ ap (λ o. option_copied o) c.in-Some.is) found (sym c.is_own.ensures ∙ c.if-not-is_own.false)

@@ -1,6 +1,4 @@
-use Rattle.std.proofs.Common.{◌≡◌, ◌+◌, drop, map}
-use Rattle.rank_papers.specs.ReportLines.{named_in}
-use Rattle.rank_parts.specs.Parts.{why_of_line, first_refused}
+use Rattle.rank_parts.proofs.Cited.{◌≡◌, ◌+◌, drop, map, named_in, why_of_line, first_refused}
 use Rattle.rank_parts.proofs.lines.lines_fault.Given as goal
 
 -- the first refusal is that of the lines that are left

@@ -1,6 +1,4 @@
-use Rattle.std.proofs.Common.{◌≡◌, take, map}
-use Rattle.rank_papers.specs.ReportLines.{named_in}
-use Rattle.rank_check.specs.InPieces.{rows_with}
+use Rattle.rank_parts.proofs.Cited.{◌≡◌, take, map, named_in, rows_with}
 use Rattle.rank_parts.proofs.rows.rows_of.Given as goal
 
 -- those of the rows so far

@@ -1,8 +1,5 @@
-use Rattle.std.proofs.Common.{rules, ◌∙◌}
-use Rattle.std.specs.Cmp.Lexicographic.{slice_cmp}
-use Rattle.std.specs.Ordering.{nat_cmp}
-use Rattle.std.proofs.lemmas.Fn.{always_returns_same}
-use Rattle.rank_parts.proofs.Searched.{searched}
+use Rattle.rank_parts.proofs.Cited.{rules, ◌∙◌, slice_cmp, nat_cmp, always_returns_same}
+use Rattle.rank_parts.proofs.Walks.{searched}
 use Rattle.rank_parts.proofs.series.has_line.Goals as goal
 
 -- the search says so

@@ -1,11 +1,6 @@
-use Rattle.std.proofs.Common.{◌≡◌, ℕ, ◌+◌, ◌≤◌, suc, cond, List, Option, Some, None, length, sym, ap, ◌∙◌, subst, arith}
-use Rattle.std.proofs.Common.{true, Bool}
-use Rattle.std.specs.Prelude.{slice_get}
-use Rattle.std.specs.Option.{option_copied}
-use Rattle.ghcn_files.specs.declared.station.Station.{Station}
-use Rattle.rank_scores.specs.Morsels.{morsels}
-use Rattle.rank_parts.specs.Parts.{is_own}
-use Rattle.rank_parts.proofs.Walks.{Walked, walked_by, walked_on, walked_past, walked_all, not_listed, own_is}
+use Rattle.rank_parts.proofs.Cited.{◌≡◌, ℕ, ◌≤◌, cond, List, Option, Some, None, length, sym, ap, ◌∙◌, arith, true}
+use Rattle.rank_parts.proofs.Cited.{false, Bool, false≢true, slice_get, option_copied, Station, morsels, is_own}
+use Rattle.rank_parts.proofs.Walks.{past_end, walked_on, walked_all, not_listed, own_is}
 use Rattle.rank_parts.proofs.series.series_with_lines.Goals as goal
 use Rattle.rank_parts.proofs.series.series_with_lines.Goals.{in-Some+then-is_own+else-not-has_line, in-Some+else-is_own}
 use Rattle.rank_parts.proofs.series.series_with_lines.Goals.{in_default}
@@ -17,8 +12,7 @@ returns-then-not-has_line c =
     let d = c.args.dataset.now in
     let st : Station = c.in-Some.station.now in
     let own : is_own q d st ≡ true =
-    own_is q d st c.element.result (option_copied c.series.result) c.is_own.result c.element.ensures.element
-    c.series.ensures c.is_own.ensures ∙ c.if-is_own.true in
+    own_is q d st _ _ _ c.element.ensures.element c.series.ensures c.is_own.ensures ∙ c.if-is_own.true in
     let there : slice_get d.stations c.loop-place.place ≡ Some st =
     ap (λ (l : List Station). slice_get l c.loop-place.place) (sym c.stations-in-loop-place.ensures.stations)
     ∙ sym c.at.ensures
@@ -34,28 +28,31 @@ loop-place-preserved c =
     let d = c.args.dataset.now in
     let es = c.args.lines.now in
     let place = c.loop-place.place in
-    let next : suc place ≡ place + 1 = omega arith in
     let listed = ap (λ (l : List Station). slice_get l place) (sym c.stations-in-loop-place.ensures.stations)
     ∙ sym c.at.ensures in
-    subst (Walked q d es c.match-at.series) next (elim c.match-at.branch [
+    elim c.match-at.branch [
       | in-Some+then-is_own+else-not-has_line w ↦
-          subst (λ (n : ℕ). Walked q d es n (suc place)) (sym w.series-is)
-          (walked_on q d es c.loop-place.series place w.in-Some.station.now c.loop-place.invariant
-          (listed ∙ ap (λ o. option_copied o) w.in-Some.is)
-          (own_is q d w.in-Some.station.now w.element.result (option_copied w.series.result) w.is_own.result
-          w.element.ensures.element w.series.ensures w.is_own.ensures ∙ w.if-is_own.true)
-          (sym w.has_line.ensures ∙ w.if-not-has_line.false))
+          walked_on q d es c.loop-place.series place w.in-Some.station.now true c.match-at.series
+          c.loop-place.invariant (listed ∙ ap (λ o. option_copied o) w.in-Some.is)
+          (own_is q d w.in-Some.station.now _ _ _ w.element.ensures.element w.series.ensures w.is_own.ensures
+          ∙ w.if-is_own.true)
+          (λ t. sym w.has_line.ensures ∙ w.if-not-has_line.false) w.series-is
       | in-Some+else-is_own w ↦
-          subst (λ (n : ℕ). Walked q d es n (suc place)) (sym w.series-is)
-          (walked_by q d es c.loop-place.series place w.in-Some.station.now c.loop-place.invariant
-          (listed ∙ ap (λ o. option_copied o) w.in-Some.is)
-          (own_is q d w.in-Some.station.now w.element.result (option_copied w.series.result) w.is_own.result
-          w.element.ensures.element w.series.ensures w.is_own.ensures ∙ w.if-is_own.false))
+          walked_on q d es c.loop-place.series place w.in-Some.station.now false c.match-at.series
+          c.loop-place.invariant (listed ∙ ap (λ o. option_copied o) w.in-Some.is)
+          (own_is q d w.in-Some.station.now _ _ _ w.element.ensures.element w.series.ensures w.is_own.ensures
+          ∙ w.if-is_own.false)
+          (λ t. absurd (false≢true t)) (omega (arith, w.series-is))
       | in_default w ↦
-          subst (λ (n : ℕ). Walked q d es n (suc place)) (sym w.series-is)
-          (walked_past q d es c.loop-place.series place c.loop-place.invariant
-          (listed ∙ ap (λ o. option_copied o) w.in_default.is))
-    ])
+          let end = past_end d.stations place (listed ∙ ap (λ o. option_copied o) w.in_default.is) in
+          absurd (omega (
+            arith,
+            end,
+            c.len-place-end.ensures.number,
+            ap length c.stations.ensures.stations,
+            c.loop-place-test.true,
+          ))
+    ]
 
 -- all stations were looked at
 pub returns : goal.returns

@@ -1,7 +1,8 @@
 use Rattle.std.proofs.Common.{◌≡◌, List, [], map, None, ap, ◌∙◌}
 use Rattle.rank_scores.specs.declared.candidate.Candidate.{Candidate}
+use Rattle.rank_papers.specs.Papers.{candidates_of}
 use Rattle.rank_check.specs.declared.tally.Mark.{Mark}
-use Rattle.rank_check.specs.Survey.{candidates_of, met}
+use Rattle.rank_check.specs.Survey.{met}
 use Rattle.rank_check.specs.Marks.{candidates_at, known}
 use Rattle.rank_check.proofs.Marks.{rows-unmet}
 use Rattle.rank_check.proofs.tally.Tally.of.Goals as goal

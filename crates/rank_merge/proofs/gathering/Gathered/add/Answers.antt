@@ -1,6 +1,4 @@
-use Rattle.std.proofs.Common.{◌≡◌, ◌++◌, ◌∙◌, map, Ok, Err, OnOk}
-use Rattle.rank_papers.specs.ReportLines.{named_in}
-use Rattle.rank_merge.specs.Merged.{first_rows}
+use Rattle.rank_merge.proofs.Cited.{◌≡◌, ◌∙◌, map, on_ok_weaker, named_in, first_rows}
 use Rattle.rank_merge.proofs.RowFloors.{gathered_rows}
 use Rattle.rank_merge.proofs.gathering.Gathered.add.Goals as goal
 
@@ -17,10 +15,5 @@ returns-clause-rows c =
     let taken = (gathered_rows c.args.k c.args.self.now.floor c.args.self.now.rows.items
     c.args.papers.report.rows.items c.drop_behind.new.rows.items c.append.new.self.items c.requires.floor
     c.drop_behind.ensures c.in_ok-append.ensures.items).0 in
-    elim c.settle.result as (λ r. OnOk r (first_rows c.args.k (map named_in c.settle.new.self.rows.items)
-    ≡ first_rows c.args.k (map named_in c.append.new.self.items))
-    → OnOk r (first_rows c.args.k (map named_in c.settle.new.self.rows.items) ≡ first_rows c.args.k
-    (map named_in c.args.self.now.rows.items ++ map named_in c.args.papers.report.rows.items))) [
-      | Ok done ↦ λ e. e ∙ taken
-      | Err why ↦ λ e. tt
-    ] c.settle.ensures.rows
+    on_ok_weaker c.settle.result (λ (e : first_rows c.args.k (map named_in c.settle.new.self.rows.items)
+    ≡ first_rows c.args.k (map named_in c.append.new.self.items)). e ∙ taken) c.settle.ensures.rows

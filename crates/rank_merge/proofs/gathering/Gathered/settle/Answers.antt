@@ -1,16 +1,14 @@
-use Rattle.std.proofs.Common.{◌∙◌, ◌-◌, List, length, map, ap, rules}
-use Rattle.std.specs.Prelude.{slice_get}
-use Rattle.std.specs.Option.{option_map}
-use Rattle.rank_papers.specs.declared.paper.Row.{Row}
-use Rattle.rank_papers.specs.ReportLines.{named_in}
-use Rattle.rank_merge.proofs.RowFloors.{first_again, kept_floor}
+use Rattle.rank_merge.proofs.Cited.{◌∙◌, ◌-◌, List, length, map, ap, rules, slice_get, option_map, Row, named_in}
+use Rattle.rank_merge.proofs.FirstRows.{first_again}
+use Rattle.rank_merge.proofs.Orders.{named_cmp, named_total}
+use Rattle.rank_merge.proofs.RowFloors.{kept_floor}
 use Rattle.rank_merge.proofs.gathering.Gathered.settle.Goals as goal
 
 -- the first rows of those that stay are theirs
 pub returns-clause-rows : goal.returns-clause-rows
 returns-clause-rows c =
-    first_again c.args.k (map named_in c.args.self.now.rows.items) (map named_in c.keep_first.new.rows.items)
-    c.in_ok-keep_first.ensures
+    first_again named_cmp named_total c.args.k (map named_in c.args.self.now.rows.items)
+    (map named_in c.keep_first.new.rows.items) c.in_ok-keep_first.ensures
 
 -- of k rows the last is a floor
 pub returns-clause-floor : goal.returns-clause-floor

@@ -2,8 +2,8 @@ use Rattle.std.proofs.Common.{◌≡◌, ◌∙◌, map, subst, rules}
 use Rattle.std.specs.Prelude.{IfOk}
 use Rattle.std.proofs.lemmas.Iterator.{YieldsList-from_slice, YieldsList-from_map, items_from_collect}
 use Rattle.rank_papers.specs.declared.paper.Row.{Row}
-use Rattle.rank_head.proofs.NamedRows.{candidates_named}
-use Rattle.rank_head.proofs.rows.candidates_of.Goals as goal
+use Rattle.rank_papers.proofs.NamedRows.{candidates_named}
+use Rattle.rank_papers.proofs.rows.candidates_of.Goals as goal
 
 -- those of the rows, as the report says them
 pub returns : goal.returns

@@ -1,6 +1,6 @@
 use Rattle.std.proofs.Common.{rules}
-use Rattle.rank_head.proofs.NamedRows.{kth_found}
-use Rattle.rank_head.proofs.rows.kth_score.Goals as goal
+use Rattle.rank_papers.proofs.NamedRows.{kth_found}
+use Rattle.rank_papers.proofs.rows.kth_score.Goals as goal
 
 -- the k-th row has it
 pub returns-clause-kth : goal.returns-clause-kth

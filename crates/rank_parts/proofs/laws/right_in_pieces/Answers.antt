@@ -1,5 +1,5 @@
-use Rattle.rank_check.proofs.SaidInPieces.{right_in_pieces, accepted_in_pieces}
-use Rattle.rank_check.proofs.laws.right_in_pieces.Goals as goal
+use Rattle.rank_parts.proofs.SaidInPieces.{right_in_pieces, accepted_in_pieces}
+use Rattle.rank_parts.proofs.laws.right_in_pieces.Goals as goal
 
 -- by what is known of the candidates of queries
 pub returns-clause-says : goal.returns-clause-says

@@ -4,10 +4,11 @@ use Rattle.std.specs.Prelude.{slice_get}
 use Rattle.std.specs.Option.{option_map}
 use Rattle.std.proofs.lemmas.Option.{slice_get-get_or}
 use Rattle.rank_scores.specs.declared.candidate.Candidate.{Candidate}
+use Rattle.rank_scores.proofs.Ranks.{Descends}
 use Rattle.rank_papers.specs.declared.paper.Row.{Row}
 use Rattle.rank_papers.specs.Certificate.{kth_of_best}
 use Rattle.rank_papers.specs.ReportLines.{named_in}
-use Rattle.rank_head.specs.HeadTests.{of_rows}
+use Rattle.rank_papers.specs.Papers.{of_rows, AreInOrder}
 
 -- the candidates of rows are those that the report says
 pub candidates_named : (rows : List Row) → map (λ row. row.candidate) rows ≡ of_rows (map named_in rows)
@@ -36,3 +37,9 @@ kth_found k i rows row same below at =
     ∙ ap (option_map (λ (r : Row). r.candidate.score)) (sym (slice_get-get_or rows (i - 1) row below))
     ∙ kth_named i rows
     ∙ ap (λ (n : ℕ). kth_of_best n (of_rows (map named_in rows))) same
+
+-- candidates of which each precedes all after it are in order
+pub descends_order : (cs : List Candidate) → Descends cs → AreInOrder cs
+descends_order [] h = tt
+descends_order (c ∷ []) h = tt
+descends_order (c ∷ d ∷ cs) h = (h.0.0, descends_order (d ∷ cs) h.1)
