@@ -77,6 +77,21 @@ module _ {L W : Type 0} (fault : List L → L → Option W) where
   pub first_fault-none : (ls : List L) → HaveNoFault fault ls → first_fault fault ls ≡ None
   first_fault-none ls none = nothing_found [] ls (in_turn ls none)
 
+  -- if none is found, no line has an error
+  none_after : (earlier ls : List L) → first_fault_after fault earlier ls ≡ None → NoneAfter earlier ls
+  none_after earlier [] e = tt
+  none_after earlier (x ∷ xs) e =
+      elim (fault earlier x) as (λ o. fault earlier x ≡ o
+      → option_or (option_map (λ w. (x, w)) o) (first_fault_after fault (earlier ++ x ∷ []) xs) ≡ None
+      → NoneAfter earlier (x ∷ xs)) [
+        | None ↦ λ is rest. (is, none_after (earlier ++ x ∷ []) xs rest)
+        | Some v ↦ λ is here. absurd cc
+      ] refl e
+
+  -- if none is found among lines, they have no error
+  pub no_fault-from_none : (ls : List L) → first_fault fault ls ≡ None → HaveNoFault fault ls
+  no_fault-from_none ls e = at_all_splits ls (none_after [] ls e)
+
   -- the line with this error is among these, and none before it has one
   abbrev Found : List L → List L → L → W → Type 0
   Found earlier ls l w = (before : List L) × (behind : List L) × (ls ≡ before ++ l ∷ behind)

@@ -90,16 +90,16 @@ past_line all k held more keys longer l lt is shown right room added pushed h =
 -- ---- no two stations have one ID
 
 -- the IDs of stations
-abbrev ids : List Station → List StationId
+abbrev pub ids : List Station → List StationId
 ids ss = map (λ s. s.id) ss
 
 -- their keys without places are those of the IDs
-keys-ids : (n : ℕ) (ss : List Station) → map id_key (keys_from n ss) ≡ map (λ id. key_of id.0) (ids ss)
+pub keys-ids : (n : ℕ) (ss : List Station) → map id_key (keys_from n ss) ≡ map (λ id. key_of id.0) (ids ss)
 keys-ids n [] = refl
 keys-ids n (s ∷ ss) = ap (λ (ks : List (ℕ × ℕ)). key_of s.id.0 ∷ ks) (keys-ids (suc n) ss)
 
 -- keys compare as equal the other way round too
-equal-turned : (a b : ℕ × ℕ) → eq_by_cmp key_cmp a b ≡ eq_by_cmp key_cmp b a
+pub equal-turned : (a b : ℕ × ℕ) → eq_by_cmp key_cmp a b ≡ eq_by_cmp key_cmp b a
 equal-turned a b = grind (arith, keys_total.antisymm)
 
 -- keys that rise differ
@@ -157,7 +157,7 @@ right_between [] l behind right = All-head IsRight l behind right
 right_between (b ∷ bs) l behind right = right_between bs l behind (All-tail IsRight b (bs ++ l ∷ behind) right)
 
 -- the stations of lines and more lines
-stations-append : (xs ys : List Numbered) → stations_of (xs ++ ys) ≡ stations_of xs ++ stations_of ys
+pub stations-append : (xs ys : List Numbered) → stations_of (xs ++ ys) ≡ stations_of xs ++ stations_of ys
 stations-append [] ys = refl
 stations-append (x ∷ xs) ys = ap (λ (ss : List Station). station_of x.1 ∷ ss) (stations-append xs ys)
 
@@ -212,3 +212,12 @@ gathered text k held keys sorted e h moved rise =
       ap (λ (o : Option (Numbered × StationsFault)). listed_unless o (station_lines text)) none
           ∙ ap (λ (ss : List Station). Ok ss) (sym held_is),
     )
+
+-- so they do if nothing was joined to them
+pub gathered_alone : (text : List ℕ) (k : ℕ) (held rest : List Station) (keys sorted : List (ℕ × ℕ × ℕ)) → rest ≡ []
+    → k ≡ length (numbered_lines text) → HasGathered (numbered_lines text) k held keys → IsPermutation keys sorted
+    → Rise sorted → AreOrdered (held ++ rest) sorted × (listed text ≡ Ok (held ++ rest))
+gathered_alone text k held rest keys sorted none e h moved rise =
+    subst (λ (ss : List Station). AreOrdered ss sorted × (listed text ≡ Ok ss))
+    (sym (ap (λ (ss : List Station). held ++ ss) none ∙ append-nil held))
+    (gathered text k held keys sorted e h moved rise)

@@ -20,6 +20,8 @@ pub mod Adding
 pub mod OrderedKeys
 pub mod Gathered
 pub mod ReadLines
+pub mod Together
+pub mod JoinedKeys
 pub mod GroupValues
 pub mod Rows
 pub mod FlagLanes

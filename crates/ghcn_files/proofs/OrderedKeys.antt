@@ -93,7 +93,7 @@ no_place_by (s ∷ ss) id others =
 -- ---- a search by keys
 
 -- each listed station is right
-right_at : (ss : List Station) (k : ℕ) (d : Station) → AreListed ss → k < length ss → is_station (get_or ss k d) ≡ true
+pub right_at : (ss : List Station) (k : ℕ) (d : Station) → AreListed ss → k < length ss → is_station (get_or ss k d) ≡ true
 right_at ss k d listed lt = elim (is_station (get_or ss k d)) as (λ b. is_station (get_or ss k d) ≡ b → b ≡ true) [
   | true ↦ λ e. refl
   | false ↦ λ e. absurd (true≢false (sym listed.right ∙ list_all_at is_station ss k d lt e))

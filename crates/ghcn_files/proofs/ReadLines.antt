@@ -21,7 +21,7 @@ abbrev pub not_blank : List Numbered → List Numbered
 not_blank ls = filter (λ l. not (is_blank l.1)) ls
 
 -- lines that aren't blank of two lists, one after the other
-filter-append : (xs ys : List Numbered) → not_blank (xs ++ ys) ≡ not_blank xs ++ not_blank ys
+pub filter-append : (xs ys : List Numbered) → not_blank (xs ++ ys) ≡ not_blank xs ++ not_blank ys
 filter-append [] ys = refl
 filter-append (x ∷ xs) ys = by_blank (not (is_blank x.1)) (filter-append xs ys)
   where

@@ -1,13 +1,13 @@
--- How stations are kept while a list is read: with the places of their IDs, one line after the other.
-use Rattle.std.specs.Prelude.{◌≡◌, ℕ, suc, ◌<◌, ◌^◌, take, drop, get_or, List, [], ◌∷◌, ◌++◌, length}
+-- How stations are kept: with the places of their IDs while a list is read line by line, and with their keys in order.
+use Rattle.std.specs.Prelude.{◌≡◌, ℕ, suc, ◌+◌, ◌<◌, ◌^◌, take, drop, get_or, List, [], ◌∷◌, ◌++◌, length, map}
 use Rattle.std.specs.Prelude.{Option, None, Some}
 use Rattle.std.specs.declared.cmp.Ordering.{Ordering}
 use Rattle.std.specs.declared.cmp.Ordering.TheVariants.{Less}
-use Rattle.std.specs.List.{AllAdjacentBelow}
+use Rattle.std.specs.List.{AllAdjacentBelow, IsDistinct}
 use Rattle.std.specs.List.Sorted.{IsPermutation}
-use Rattle.std.specs.Ordering.{nat_cmp, ordering_then}
+use Rattle.std.specs.Ordering.{eq_by_cmp, nat_cmp, ordering_then}
 use Rattle.std.specs.Int.{from_be_bytes, w32, w64}
-use Rattle.std.specs.BTreeMap.{BTreeMap, is_at}
+use Rattle.std.specs.BTreeMap.{is_at}
 use Rattle.std.specs.Map.{lookup}
 use Rattle.ghcn_files.specs.declared.station.StationId.{StationId}
 use Rattle.ghcn_files.specs.declared.station.Station.{Station}
@@ -54,16 +54,19 @@ keys_from n (s ∷ ss) = key_with_place s.id n ∷ keys_from (suc n) ss
 abbrev pub Rise : List (ℕ × ℕ × ℕ) → Type 0
 Rise keys = AllAdjacentBelow (λ a b. key_cmp (id_key a) (id_key b) ≡ Less) keys (length keys)
 
+-- no two keys are of one ID
+abbrev pub Differ : List (ℕ × ℕ × ℕ) → Type 0
+Differ keys = IsDistinct (eq_by_cmp key_cmp) (map id_key keys)
+
+-- the key of a station to whose list that many others were put before
+abbrev pub later : ℕ → ℕ × ℕ × ℕ → ℕ × ℕ × ℕ
+later count key = (key.0, key.1, key.2 + count)
+
 -- stations are kept with the keys of their IDs, which are put in order
 pub record AreOrdered (stations : List Station) (keys : List (ℕ × ℕ × ℕ)) : Type 0 where
   pub list : AreListed stations
   pub rise : Rise keys
   pub own : IsPermutation (keys_from 0 stations) keys
-
--- stations are kept with the places of their IDs, or with the keys of these in order
-abbrev pub AreKeptBy : List Station → List (ℕ × ℕ × ℕ) → Option (BTreeMap (ℕ × ℕ) ℕ) → Type 0
-AreKeptBy stations keys (Some places) = AreKept stations places.entries
-AreKeptBy stations keys None = AreOrdered stations keys
 
 -- a line adds its station and its key: it has no error by itself, and there is room for one station more
 pub record IsAdded (line : List ℕ) (held : List Station) (keys : List (ℕ × ℕ × ℕ)) (more : List Station)

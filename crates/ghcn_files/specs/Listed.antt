@@ -1,10 +1,11 @@
 -- The listed stations of a text, or the first line with an error.
-use Rattle.std.specs.Prelude.{ℕ, ◌≤◌, ◌^◌, Bool, true, false, not, nat_lt, if◌then◌else◌, List, length, map}
+use Rattle.std.specs.Prelude.{◌≡◌, ◌⊎◌, ℕ, ◌+◌, ◌<◌, ◌≤◌, ◌^◌, Bool, true, false, not, nat_lt, if◌then◌else◌}
+use Rattle.std.specs.Prelude.{List, ◌++◌, length, map}
 use Rattle.std.specs.Prelude.{Option, None, Some, Result, Ok, Err, filter, IsTrue}
 use Rattle.std.specs.List.{list_all, list_any, IsDistinct, position}
 use Rattle.std.specs.Option.{option_or, option_map}
 use Rattle.ghcn_fields.specs.Bytes.{is_blank}
-use Rattle.ghcn_fields.specs.Lines.{numbered_lines}
+use Rattle.ghcn_fields.specs.Lines.{numbered_lines, EndsLine}
 use Rattle.ghcn_fields.specs.Faults.{first_fault, IsFirstFault}
 use Rattle.ghcn_fields.specs.Refusals.{OrMemory}
 use Rattle.ghcn_files.specs.declared.station.StationId.{StationId}
@@ -64,6 +65,20 @@ pub record AreListed (stations : List Station) : Type 0 where
   pub distinct : IsDistinct same_id (map (λ s. s.id) stations)
   pub few : length stations ≤ 2 ^ 20
   pub right : IsTrue (list_all is_station stations)
+
+-- if the lists of two texts are a first and a next one, and the first text ends a line, the list of both texts, one after
+-- the other, is this
+pub record ListTogether (first next both : List Station) : Type 0 where
+  pub holds : (text rest : List ℕ) → EndsLine text → listed text ≡ Ok first → listed rest ≡ Ok next
+      → listed (text ++ rest) ≡ Ok both
+
+-- an ID is in both of two lists
+abbrev pub have_one_id : List Station → List Station → Bool
+have_one_id first next = list_any (λ s. list_any (λ t. same_id s.id t.id) next) first
+
+-- two lists don't make one: an ID is in both, or they have too many stations together
+abbrev pub StayApart : List Station → List Station → Type 0
+StayApart first next = IsTrue (have_one_id first next) ⊎ (2 ^ 20 < length first + length next)
 
 -- memory ran out
 abbrev pub is_memory : StationsFault → Bool

@@ -1,11 +1,11 @@
 //! The listed stations, in the order of the list.
 
-ghost use Rattle.std.specs.Prelude.{◌≡◌, length, slice_get, Ok, IfOk, IfErr};
+ghost use Rattle.std.specs.Prelude.{◌≡◌, ◌++◌, length, slice_get, Ok, IfOk, IfErr, IfSome, IfNone};
 ghost use Rattle.std.specs.Arc.{arc_value};
 ghost use Rattle.std.specs.List.{find};
 ghost use Rattle.std.specs.Option.{option_copied};
 ghost use Rattle.ghcn_files.specs.Listed.{AreListed, is_station_of, place_of, listed};
-ghost use Rattle.ghcn_files.specs.Listed.{is_memory, IsFirstRefusal};
+ghost use Rattle.ghcn_files.specs.Listed.{is_memory, IsFirstRefusal, ListTogether, StayApart};
 ghost use Rattle.ghcn_fields.specs.Refusals.{IsRefusal};
 
 use crate::kept::KeptStations;
@@ -55,6 +55,24 @@ impl Stations {
         })
     }
 
+    /// The stations of this list, and then those of a next one. Nothing if an ID is in both lists, or if they have more
+    /// than 2^20 stations together.
+    ///
+    /// If a text is cut after a line feed, the lists of its two parts make that of the whole.
+    pub fn join(self, alloc: Global, next: Self) -> Result<Option<Self>, Memory>
+        ensures joined { IfOk result (λ joined. IfSome joined (λ all. all ≡ self ++ next)) }
+        ensures together { IfOk result (λ joined. IfSome joined (λ all. ListTogether self next all)) }
+        ensures apart { IfOk result (λ joined. IfNone joined (StayApart self next)) }
+    {
+        let first = owned(alloc, self.kept)?;
+        match first.join(owned(alloc, next.kept)?)? {
+            Some(all) => Ok(Some(Stations {
+                kept: Arc::new(alloc, all)?,
+            })),
+            None => Ok(None),
+        }
+    }
+
     /// How many stations are listed.
     pub fn len(&self) -> u64
         ensures number { result ≡ length self.now }
@@ -82,5 +100,15 @@ impl Stations {
         ensures { result ≡ place_of self.now id.now }
     {
         self.kept.place(id)
+    }
+}
+
+/// Stations for one owner: a copy of them, if they have several.
+fn owned(alloc: Global, kept: Arc<KeptStations, Global>) -> Result<KeptStations, Memory>
+    ensures { IfOk result (λ own. own ≡ arc_value kept) }
+{
+    match Arc::try_unwrap(kept) {
+        Ok(own) => Ok(own),
+        Err(shared) => shared.copy(alloc),
     }
 }

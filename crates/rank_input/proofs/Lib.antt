@@ -13,3 +13,4 @@ pub mod TakenShares
 pub mod QueryLists
 pub mod QueryElements
 pub mod QueryData
+pub mod Halves

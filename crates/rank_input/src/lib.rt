@@ -7,10 +7,12 @@ mod archive;
 mod fault;
 mod intake;
 mod limits;
+mod list;
 mod named;
 mod queries;
 mod question;
 mod shares;
+mod stretches;
 
 pub use archive::{Archive, Place, System, feed, feed_files, piece_room, read_whole};
 pub use fault::Fault;

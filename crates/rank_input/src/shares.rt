@@ -1,19 +1,20 @@
 //! Daily files that are read in shares, side by side.
 
-ghost use Rattle.std.specs.Prelude.{◌≡◌, ◌<◌, ◌≤◌, [], length, None, Some, Ok, IfOk, IfErr, IfSome, map, string_bytes};
+ghost use Rattle.std.specs.Prelude.{◌≡◌, ◌≤◌, [], length, Ok, IfOk, IfErr, IfSome, map, string_bytes};
 ghost use denote.Param.Send.{IsSync};
 ghost use Rattle.ghcn_files.specs.Listed.{listed};
 ghost use Rattle.rank_input.specs.Feeding.{StopsAt};
-ghost use Rattle.rank_input.specs.Shares.{RestsFrom, TakesStretch, TakesWhole};
+ghost use Rattle.rank_input.specs.Shares.{TakesWhole};
 ghost use Rattle.rank_input.specs.Takes.{file_input, HasTaken};
 
-use crate::archive::{Archive, Place, feed, feed_bytes, feed_files, piece_room};
+use crate::archive::{Archive, Place, feed_files, piece_room};
 use crate::intake::Intake;
-use ghcn_files::{Keep, Stations, are_visible};
+use crate::list::read_list;
+use crate::stretches::{WORTH_A_CUT, id_on, take_one};
+use ghcn_files::{Keep, Stations};
 use ghcn_series::{JoinLines, LineReader};
 use std::alloc::Global;
-use std::io;
-use std::io::{BufRead, BufReader, Read};
+use std::io::Read;
 use std::thread::{Threads, join};
 
 /// How many bytes of daily files are worth a thread that reads them, if the station list has no more: each share
@@ -22,13 +23,6 @@ const WORTH_A_SHARE: u64 = 1 << 23;
 
 /// The most shares.
 const MOST_SHARES: u64 = 64;
-
-/// How many bytes a file has at least if it is read in several shares.
-const WORTH_A_CUT: u64 = 1 << 26;
-
-/// In how many bytes of such a file a line of another station is looked for. Thirty elements in each month of 150 years
-/// take 14,580,000 bytes.
-const MOST_LOOKED: u64 = 1 << 24;
 
 /// Daily files, named by their paths, and what they are read for.
 #[derive(Clone, Copy)]
@@ -133,7 +127,7 @@ fn take_shares<R: Threads + Sync, A: Archive<File: Send> + Sync, L: JoinLines<Do
     if shares < 2 || has_one_twice(alloc, daily.paths)? {
         return None;
     }
-    let list = Stations::read(alloc, daily.stations).ok()?;
+    let list = read_list(rt, alloc, daily.stations)?;
     take_parts(rt, alloc, archive, &list, daily, &sizes, size, shares)
 }
 
@@ -202,13 +196,13 @@ fn take_parts<R: Threads + Sync, A: Archive<File: Send> + Sync, L: JoinLines<Don
     let (from, share) = cut(sizes, size / shares);
     let after = (share / (size / shares).max(1)).clamp(1, shares - 1);
     let before = shares - after;
-    let (paths_before, own_paths) = daily.paths.split_at(from);
-    if begin_alike(archive, paths_before, own_paths) {
+    let (front_paths, own_paths) = daily.paths.split_at(from);
+    if begin_alike(archive, front_paths, own_paths) {
         return None;
     }
-    let (sizes_before, own_sizes) = sizes.split_at(from);
-    let daily_before = Daily {
-        paths: paths_before,
+    let (front_sizes, own_sizes) = sizes.split_at(from);
+    let front = Daily {
+        paths: front_paths,
         ..daily
     };
     let own = Daily {
@@ -225,220 +219,13 @@ fn take_parts<R: Threads + Sync, A: Archive<File: Send> + Sync, L: JoinLines<Don
                 own.entry.keep own.entry.stations.now own.entry.paths.now) }
         { take_parts(rt, alloc, archive, list, own, own_sizes, share, after) },
         move ||
-            requires { IsSync R.row × IsSync A.row × (length sizes_before.now ≡ length daily_before.paths.now)
-                × (listed daily_before.stations.now ≡ Ok list.now) }
+            requires { IsSync R.row × IsSync A.row × (length front_sizes.now ≡ length front.paths.now)
+                × (listed front.stations.now ≡ Ok list.now) }
             ensures { IfSome result (TakesWhole L.has_read (A.bytes_of archive.entry.now) (A.opens archive.entry.now)
-                daily_before.entry.keep daily_before.entry.stations.now daily_before.entry.paths.now) }
-        {
-            take_parts(
-                rt,
-                alloc,
-                archive,
-                list,
-                daily_before,
-                sizes_before,
-                rest,
-                before,
-            )
-        },
+                front.entry.keep front.entry.stations.now front.entry.paths.now) }
+        { take_parts(rt, alloc, archive, list, front, front_sizes, rest, before) },
     );
     first?.join(last?)
-}
-
-/// Takes one file, which seems to have that many bytes: in at most this many shares if it is large, and otherwise in
-/// one. Nothing if its length has changed since: its shares may be of different files then.
-fn take_one<R: Threads + Sync, A: Archive<File: Send> + Sync, L: JoinLines<Done: Send> + Send>(
-    rt: &R,
-    alloc: Global,
-    archive: &A,
-    list: &Stations,
-    daily: Daily<'_, '_>,
-    path: &str,
-    size: u64,
-    shares: u64,
-) -> Option<Intake<L>>
-    requires listed { listed daily.stations.now ≡ Ok list.now }
-    ensures { IfSome result (TakesStretch L.has_read (A.bytes_of archive.now) (A.opens archive.now)
-        daily.entry.keep daily.entry.stations.now path.now 0 None) }
-{
-    if size < WORTH_A_CUT {
-        return take_stretch(alloc, archive, list, daily, path, 0, None);
-    }
-    let intake = take_stretches(rt, alloc, archive, list, daily, path, None, size, shares)?;
-    match archive.look(path) {
-        Place::File(length) if length == size => Some(intake),
-        _ => None,
-    }
-}
-
-/// Takes a file up to the byte `until`, or to its end, which is about `size` bytes, in at most this many shares. The
-/// last share has a thread of its own; the caller takes the others in the same way. If no place to cut is found, all
-/// are one share.
-fn take_stretches<
-    R: Threads + Sync,
-    A: Archive<File: Send> + Sync,
-    L: JoinLines<Done: Send> + Send,
->(
-    rt: &R,
-    alloc: Global,
-    archive: &A,
-    list: &Stations,
-    daily: Daily<'_, '_>,
-    path: &str,
-    until: Option<u64>,
-    size: u64,
-    shares: u64,
-) -> Option<Intake<L>>
-    requires listed { listed daily.stations.now ≡ Ok list.now }
-    ensures { IfSome result (TakesStretch L.has_read (A.bytes_of archive.now) (A.opens archive.now)
-        daily.entry.keep daily.entry.stations.now path.now 0 until) }
-{
-    let Some((cut, count)) = cut_within(alloc, archive, path, until, size, shares) else {
-        return take_stretch(alloc, archive, list, daily, path, 0, until);
-    };
-    let before = shares - 1;
-    let (rest, begun) = join(
-        rt,
-        move ||
-            requires { IsSync A.row × (listed daily.stations.now ≡ Ok list.now) }
-            ensures { IfSome result (TakesStretch L.has_read (A.bytes_of archive.entry.now) (A.opens archive.entry.now)
-                daily.entry.keep daily.entry.stations.now path.entry.now cut count) }
-        { take_stretch(alloc, archive, list, daily, path, cut, count) },
-        move ||
-            requires { IsSync R.row × IsSync A.row × (listed daily.stations.now ≡ Ok list.now) }
-            ensures { IfSome result (TakesStretch L.has_read (A.bytes_of archive.entry.now) (A.opens archive.entry.now)
-                daily.entry.keep daily.entry.stations.now path.entry.now 0 (Some cut)) }
-        {
-            take_stretches(
-                rt,
-                alloc,
-                archive,
-                list,
-                daily,
-                path,
-                Some(cut),
-                cut,
-                before,
-            )
-        },
-    );
-    begun?.join(rest?)
-}
-
-/// Takes the bytes of a file from one on, this many or up to its end, for the stations of the list.
-fn take_stretch<A: Archive, L: LineReader>(
-    alloc: Global,
-    archive: &A,
-    list: &Stations,
-    daily: Daily<'_, '_>,
-    path: &str,
-    from: u64,
-    count: Option<u64>,
-) -> Option<Intake<L>>
-    requires { listed daily.stations.now ≡ Ok list.now }
-    ensures { IfSome result (TakesStretch L.has_read (A.bytes_of archive.now) (A.opens archive.now)
-        daily.entry.keep daily.entry.stations.now path.now from count) }
-{
-    let mut room = piece_room(alloc).ok()?;
-    let Ok(stations) = list.share() else {
-        return None;
-    };
-    let intake = Intake::over(alloc, stations, daily.keep);
-    fill_stretch(archive, intake, daily, path, from, count, &mut room).ok()
-}
-
-/// Feeds them to an intake that was given the station list, or returns why a read failed. It is an error if the file
-/// ends before this many bytes.
-fn fill_stretch<A: Archive, L: LineReader>(
-    archive: &A,
-    mut intake: Intake<L>,
-    daily: Daily<'_, '_>,
-    path: &str,
-    from: u64,
-    count: Option<u64>,
-    buffer: &mut [u8],
-) -> io::Result<Intake<L>>
-    requires { HasTaken L.has_read intake (file_input daily.keep daily.stations.now []) }
-    ensures { IfOk result (TakesStretch L.has_read (A.bytes_of archive.now) (A.opens archive.now)
-        daily.entry.keep daily.entry.stations.now path.now from count) }
-{
-    let mut file = archive.open_at(path, from)?;
-    match count {
-        None => {
-            feed(&mut intake, &mut file, buffer)?;
-            Ok(intake)
-        }
-        Some(count) => {
-            let mut stretch = file.take(count);
-            feed_bytes(&mut intake, &mut stretch, buffer)?;
-            if stretch.limit() > 0 {
-                return Err(io::Error::from(io::ErrorKind::UnexpectedEof));
-            }
-            Ok(intake)
-        }
-    }
-}
-
-/// Where the last of several shares begins of a file up to the byte `until`, or to its end, and how many bytes it has;
-/// no number if it goes to the end. All shares together have about `size` bytes.
-fn cut_within<A: Archive>(
-    alloc: Global,
-    archive: &A,
-    path: &str,
-    until: Option<u64>,
-    size: u64,
-    shares: u64,
-) -> Option<(u64, Option<u64>)>
-    ensures rest { IfSome result (λ found. RestsFrom until found.0 found.1) }
-    ensures several { IfSome result (λ _. 1 < shares) }
-{
-    if shares < 2 {
-        return None;
-    }
-    let from = size.saturating_sub(size / shares);
-    let cut = start_of_next_station(alloc, archive, path, from)?;
-    let count = match until {
-        Some(until) => Some(until.checked_sub(cut)?),
-        None => None,
-    };
-    Some((cut, count))
-}
-
-/// The first byte of a line whose ID isn't that of the last line with an ID before it, among the lines that begin after
-/// this byte. Nothing if none comes within `MOST_LOOKED` bytes.
-fn start_of_next_station<A: Archive>(
-    alloc: Global,
-    archive: &A,
-    path: &str,
-    from: u64,
-) -> Option<u64> {
-    let file = archive.open_at(path, from).ok()?;
-    let mut lines = BufReader::new(alloc, file.take(MOST_LOOKED)).ok()?;
-    // The line of that byte may have begun before it.
-    let mut at = from.checked_add(lines.skip_until(b'\n').ok()? as u64)?;
-    let mut line = Vec::new(alloc);
-    let mut before: Option<[u8; 11]> = None;
-    for _ in 0..MOST_LOOKED {
-        line.clear();
-        let count = lines.read_until(b'\n', &mut line).ok()?;
-        if count == 0 {
-            return None;
-        }
-        if let Some(id) = id_on(&line) {
-            if before.is_some_and(|before| before != id) {
-                return Some(at);
-            }
-            before = Some(id);
-        }
-        at = at.checked_add(count as u64)?;
-    }
-    None
-}
-
-/// The first eleven bytes of a line, if they may be an ID.
-fn id_on(line: &[u8]) -> Option<[u8; 11]> {
-    let id = *line.first_chunk()?;
-    if are_visible(&id) { Some(id) } else { None }
 }
 
 /// Takes the files of a share one after the other, for the stations of the list.

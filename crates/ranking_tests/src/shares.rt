@@ -6,7 +6,7 @@ use ghcn_fields::Day;
 use ghcn_files::{Element, StationId};
 use ghcn_series::Data;
 use rank_input::{Archive, Place, Question, piece_room};
-use std::alloc::Global;
+use std::alloc::{AllocError, Global};
 use std::fmt::Write;
 use std::io;
 use std::sync::atomic::{AtomicU64, Ordering};
@@ -126,6 +126,18 @@ pub(crate) fn held_in<R: Threads + AllocGlobal + Sync, A: Archive<File: Send> + 
     names: &[&str],
     readers: u64,
 ) -> Result<String, Fail> {
+    held_for(rt, archive, STATIONS, query, names, readers)
+}
+
+/// The same for the stations of a list.
+fn held_for<R: Threads + AllocGlobal + Sync, A: Archive<File: Send> + Sync>(
+    rt: &R,
+    archive: &A,
+    stations: &[u8],
+    query: &str,
+    names: &[&str],
+    readers: u64,
+) -> Result<String, Fail> {
     let alloc = rt.alloc();
     let mut paths = Vec::new(alloc);
     for name in names {
@@ -133,7 +145,7 @@ pub(crate) fn held_in<R: Threads + AllocGlobal + Sync, A: Archive<File: Send> + 
     }
     let mut room = piece_room(alloc)?;
     let mut text = String::new(alloc);
-    match Question::of_paths(rt, archive, query, STATIONS, &paths, readers, &mut room) {
+    match Question::of_paths(rt, archive, query, stations, &paths, readers, &mut room) {
         Ok(question) => match question.finish() {
             Ok(taken) => {
                 push_values(&mut text, &taken.dataset, &A)?;
@@ -274,6 +286,59 @@ fn files_that_change(rt: HostRuntime) -> Result<(), Fail> {
     for (query, names, most, expected) in cases {
         let found = shown(&rt, query, names, 3, most)?;
         assert_eq!(rt; found.as_str(), expected, "{query} over {names:?}");
+    }
+    Ok(())
+}
+
+/// A station list of more than 2 MiB: some lines, those of 70,000 other stations, and further lines.
+fn long_list(alloc: Global, first: &[u8], last: &[u8]) -> Result<Vec<u8>, AllocError> {
+    let mut text = Vec::new(alloc);
+    text.extend_from_slice(first)?;
+    for number in 0..70_000u32 {
+        let mut line = *b"ZZ000000000  10.0000   20.0000\n";
+        let mut rest = number;
+        for column in (2..11).rev() {
+            line[column] = b'0' + (rest % 10) as u8;
+            rest /= 10;
+        }
+        text.extend_from_slice(&line)?;
+    }
+    text.extend_from_slice(last)?;
+    Ok(text)
+}
+
+/// Two threads read a long list, and its first error is the same.
+#[test]
+fn long_station_lists(rt: HostRuntime) -> Result<(), Fail> {
+    let held = "310 - 320 - unlisted 0 foreign 0 None odd 0 None";
+    let unended = STATIONS.split_at(STATIONS.len() - 1).0;
+    let cases: [(&[u8], &[u8], &str); 7] = [
+        (b"", STATIONS, held),
+        (b"", unended, held),
+        (STATIONS, b"\r\n \n", held),
+        (b"", b"ZZ\n", "refused 1 StationLine line 70001 Short"),
+        (b"ZZ\n", b"ZZ\n", "refused 1 StationLine line 1 Short"),
+        (
+            STATIONS,
+            STATIONS,
+            "refused 1 StationLine line 70003 Duplicate",
+        ),
+        (
+            b"",
+            b"ZZ000000001  10.0000   20.0000",
+            "refused 1 StationLine line 70001 Duplicate",
+        ),
+    ];
+    for (first, last, expected) in cases {
+        let list = long_list(rt.alloc(), first, last)?;
+        let archive = Large {
+            files: FILES,
+            opened: AtomicU64::new(0),
+            most: 99,
+        };
+        let names = &["alpha", "beta"];
+        let found = held_for(&rt, &archive, &list, "top 1 highest TMAX", names, 2)?;
+        assert_eq!(rt; found.as_str(), expected);
     }
     Ok(())
 }

@@ -1,5 +1,6 @@
 //! Worked examples of station lists, months and elements.
 
+mod joins;
 mod lists;
 mod months;
 

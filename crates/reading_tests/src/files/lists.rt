@@ -149,7 +149,7 @@ fn shared_stations_outlive_their_first_owner(rt: HostRuntime) {
 }
 
 /// A list of stations whose IDs and latitudes have these digits, in this order.
-fn list_of(alloc: Global, digits: &[u8]) -> Result<Vec<u8>, AllocError> {
+pub(super) fn list_of(alloc: Global, digits: &[u8]) -> Result<Vec<u8>, AllocError> {
     let mut text = Vec::new(alloc);
     for digit in digits {
         let mut line = *b"ZZA00000000  00.0000   20.0000\n";
@@ -161,9 +161,9 @@ fn list_of(alloc: Global, digits: &[u8]) -> Result<Vec<u8>, AllocError> {
 }
 
 /// The place of a digit's ID and the latitude of its station.
-type Found = (Option<u64>, Option<i32>);
+pub(super) type Found = (Option<u64>, Option<i32>);
 
-const NOWHERE: Found = (None, None);
+pub(super) const NOWHERE: Found = (None, None);
 
 fn found_by(stations: &Stations, digit: u8) -> Found {
     let mut id = StationId(*b"ZZA00000000");
@@ -175,22 +175,27 @@ fn found_by(stations: &Stations, digit: u8) -> Found {
     (stations.place(&id), latitude)
 }
 
-/// What the digits from 1 to 4 find in such a list, or why it is refused.
+/// What the digits from 1 to 4 find.
+pub(super) fn four_of(stations: &Stations) -> [Found; 4] {
+    [
+        found_by(stations, b'1'),
+        found_by(stations, b'2'),
+        found_by(stations, b'3'),
+        found_by(stations, b'4'),
+    ]
+}
+
+/// What these digits find in such a list, or why it is refused.
 fn found_in(alloc: Global, digits: &[u8]) -> Option<Result<[Found; 4], StationsFault>> {
     let text = list_of(alloc, digits).ok()?;
     match Stations::read(alloc, &text) {
-        Ok(stations) => Some(Ok([
-            found_by(&stations, b'1'),
-            found_by(&stations, b'2'),
-            found_by(&stations, b'3'),
-            found_by(&stations, b'4'),
-        ])),
+        Ok(stations) => Some(Ok(four_of(&stations))),
         Err(fault) => Some(Err(fault)),
     }
 }
 
 /// What a digit finds whose station is at a place.
-fn at(place: u64, latitude: i32) -> Found {
+pub(super) fn at(place: u64, latitude: i32) -> Found {
     (Some(place), Some(latitude))
 }
 
@@ -318,7 +323,7 @@ fn first_faults_of_whole_lines_in_no_order(rt: HostRuntime) {
 }
 
 /// A station list of that many lines, whose IDs count up from 0.
-fn many_stations(alloc: Global, lines: u32) -> Result<Vec<u8>, AllocError> {
+pub(super) fn many_stations(alloc: Global, lines: u32) -> Result<Vec<u8>, AllocError> {
     let mut text = Vec::new(alloc);
     for number in 0..lines {
         let mut line = *b"ZZ000000000  10.0000   20.0000\n";

@@ -1,4 +1,4 @@
-use Rattle.std.proofs.Common.{ℕ, sym, ap, subst, ◌∙◌, rules}
+use Rattle.std.proofs.Common.{ℕ, ◌++◌, sym, ap, subst, ◌∙◌, rules}
 use Rattle.std.specs.List.Sorted.{IsBinarySearchResult}
 use Rattle.std.proofs.lemmas.List.Sorted.{answers_always}
 use Rattle.ghcn_files.specs.KeptStations.{id_key, key_cmp}
@@ -15,7 +15,7 @@ returns-in-Ok c =
     let by_key = subst answered c.key.ensures.key
     (facts.position (λ k. (k.0, k.1)) (answers_always _ _ _ (λ f a r g called. search rules))) in
     ap (place_found keys (0, 0, 0)) (sym c.in-Ok.is)
-    ∙ searched c.args._list.now c.args.id.now c.requires.list c.key.ensures.bytes keys found (0, 0, 0) c.requires.rise
+    ∙ searched (c.args._list.now ++ c.args._rest.now) c.args.id.now c.requires.list c.key.ensures.bytes keys found (0, 0, 0) c.requires.rise
     c.requires.own facts.bound by_key
 
 -- if it isn't found, the ID has no place
@@ -28,5 +28,5 @@ returns-in-Err c =
     let by_key = subst answered c.key.ensures.key
     (facts.position (λ k. (k.0, k.1)) (answers_always _ _ _ (λ f a r g called. search rules))) in
     ap (place_found keys (0, 0, 0)) (sym c.in-Err.is)
-    ∙ searched c.args._list.now c.args.id.now c.requires.list c.key.ensures.bytes keys found (0, 0, 0) c.requires.rise
+    ∙ searched (c.args._list.now ++ c.args._rest.now) c.args.id.now c.requires.list c.key.ensures.bytes keys found (0, 0, 0) c.requires.rise
     c.requires.own facts.bound by_key

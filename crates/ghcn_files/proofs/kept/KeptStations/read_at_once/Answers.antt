@@ -4,7 +4,7 @@ use Rattle.std.proofs.lemmas.List.{length_push}
 use Rattle.ghcn_fields.specs.Lines.{numbered_lines}
 use Rattle.ghcn_files.specs.Listed.{Numbered}
 use Rattle.ghcn_files.proofs.Adding.{shows}
-use Rattle.ghcn_files.proofs.Gathered.{HasGathered, past_blank, past_line, gathered}
+use Rattle.ghcn_files.proofs.Gathered.{HasGathered, past_blank, past_line, gathered_alone}
 use Rattle.ghcn_files.proofs.kept.KeptStations.read_at_once.Goals as goal
 use Rattle.ghcn_files.proofs.kept.KeptStations.read_at_once.Goals.{
   else-not-branch-via-then-not-branch+else-not-is_blank,
@@ -46,8 +46,8 @@ invariant_of-result c =
     (c.into_iter-line-iterator.ensures.into_iter_gives ∙ c.lines-line-items.ensures) in
     let end =
     YieldsList-end given c.loop-line.yielded _ c.loop-line.yielded_by _ _ c.in-None.is c.next.ensures.steps in
-    (gathered c.args.text.now (length c.loop-line.yielded) c.loop-line.list.items c.loop-line.keys.items
-    c.put_in_order.new.keys.items end.1 c.loop-line.invariant.read c.put_in_order.ensures.same
+    (gathered_alone c.args.text.now (length c.loop-line.yielded) c.loop-line.list.items c.new-rest.result.items
+    c.loop-line.keys.items c.put_in_order.new.keys.items c.new-rest.ensures.items end.1 c.loop-line.invariant.read c.put_in_order.ensures.same
     (c.put_in_order.ensures.rise c.if-not-put_in_order.false)).0
 
 -- and they are those of the text
@@ -57,6 +57,6 @@ returns c =
     (c.into_iter-line-iterator.ensures.into_iter_gives ∙ c.lines-line-items.ensures) in
     let end =
     YieldsList-end given c.loop-line.yielded _ c.loop-line.yielded_by _ _ c.in-None.is c.next.ensures.steps in
-    (gathered c.args.text.now (length c.loop-line.yielded) c.loop-line.list.items c.loop-line.keys.items
-    c.put_in_order.new.keys.items end.1 c.loop-line.invariant.read c.put_in_order.ensures.same
+    (gathered_alone c.args.text.now (length c.loop-line.yielded) c.loop-line.list.items c.new-rest.result.items
+    c.loop-line.keys.items c.put_in_order.new.keys.items c.new-rest.ensures.items end.1 c.loop-line.invariant.read c.put_in_order.ensures.same
     (c.put_in_order.ensures.rise c.if-not-put_in_order.false)).1

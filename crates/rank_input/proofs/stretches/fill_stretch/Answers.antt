@@ -2,7 +2,7 @@ use Rattle.std.proofs.Common.{ℕ, sym, subst}
 use Rattle.std.specs.Prelude.{Option}
 use Rattle.rank_input.specs.Shares.{TakesStretch}
 use Rattle.rank_input.proofs.TakenStretches.{bytes_taken, fed_bytes, fed_to_end}
-use Rattle.rank_input.proofs.shares.fill_stretch.Goals as goal
+use Rattle.rank_input.proofs.stretches.fill_stretch.Goals as goal
 
 -- all bytes up to the file's end are fed, and then its end
 pub returns-in_ok-feed-in-None : goal.returns-in_ok-feed-in-None

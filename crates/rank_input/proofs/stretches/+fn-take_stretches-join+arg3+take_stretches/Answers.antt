@@ -4,7 +4,7 @@ use Rattle.std.proofs.lemmas.Option.{IfSome_then}
 use Rattle.rank_input.specs.declared.intake.Intake.{Intake}
 use Rattle.rank_input.specs.Shares.{TakesStretch}
 use Rattle.rank_input.proofs.TakenStretches.{joined_stretches, stretches_alike}
-use Rattle.rank_input.proofs.shares.+fn-take_stretches-join+arg3+take_stretches.Goals as goal
+use Rattle.rank_input.proofs.stretches.+fn-take_stretches-join+arg3+take_stretches.Goals as goal
 
 -- both stretches are of one station list
 pub join-requires : goal.join-requires

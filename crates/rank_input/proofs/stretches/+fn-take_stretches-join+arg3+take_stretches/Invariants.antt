@@ -1,5 +1,5 @@
 use Rattle.std.proofs.Common.{◌+◌, ◌*◌}
-use Rattle.rank_input.proofs.shares.+fn-take_stretches-join+arg3+take_stretches.Given as goal
+use Rattle.rank_input.proofs.stretches.+fn-take_stretches-join+arg3+take_stretches.Given as goal
 
 -- there is one share less than the caller's
 abbrev pub decreases-join+arg3 : goal.decreases-join+arg3
