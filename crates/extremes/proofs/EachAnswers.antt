@@ -18,8 +18,8 @@ use Rattle.ghcn_series.specs.SaidLists.{stations_said}
 use Rattle.ghcn_series.specs.Says.{data_of}
 use Rattle.ghcn_series.specs.Series.{Contents}
 use Rattle.ghcn_series.proofs.SaidLines.{held-said, listed-said}
-use Rattle.rank_query.specs.Asked.{Asked, score_element}
-use Rattle.rank_query.specs.Asks.{Asks}
+use Rattle.rank_query.specs.Meaning.Asked.{Asked, score_element}
+use Rattle.rank_query.specs.Meaning.Asks.{Asks}
 use Rattle.rank_scores.specs.OneElement.{KeptAreEnough, MorselsStay, data_for}
 use Rattle.rank_sched.specs.Plan.{Planned, planned}
 use Rattle.rank_papers.specs.OneElement.{MeasuredStays}

@@ -10,8 +10,8 @@ use Rattle.ghcn_files.specs.declared.element.Keep.{Keep}
 use Rattle.ghcn_series.specs.declared.counts.Warnings.{Warnings}
 use Rattle.ghcn_series.specs.declared.rows.RowReader.{RowReader}
 use Rattle.ghcn_series.specs.Gathered.{HasReadByRows}
-use Rattle.rank_query.specs.Asked.{Asked}
-use Rattle.rank_query.specs.Asks.{Asks}
+use Rattle.rank_query.specs.Meaning.Asked.{Asked}
+use Rattle.rank_query.specs.Meaning.Asks.{Asks}
 use Rattle.rank_query.proofs.Asks.{asks_read}
 use Rattle.rank_input.specs.declared.fault.Fault.{Fault}
 use Rattle.rank_input.specs.declared.fault.Fault.TheVariants.{Memory}

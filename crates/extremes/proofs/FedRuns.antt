@@ -27,7 +27,8 @@ use Rattle.rank_input.proofs.Feedings.{input-files}
 use Rattle.extremes.specs.Runs.{AnswersInput, CrewsInput, RanksInput, JudgesInputAs}
 use Rattle.extremes.specs.Runs.{bytes_named, IsRanked, IsRankedAlone, RanksFiles, IsJudgement, JudgesFiles}
 use Rattle.extremes.specs.Runs.{ranking_paths, judging_paths}
-use Rattle.extremes.specs.Answer.{Answers, IsSerial}
+use Rattle.extremes.specs.Meaning.Answer.{Answers}
+use Rattle.extremes.specs.Answer.{IsSerial}
 use Rattle.extremes.specs.Describes.{IsDescriptionOf, DescribesIntake, DescribesFiles, describing_paths}
 use Rattle.extremes.specs.declared.describe.DescriptionText.{DescriptionText}
 use Rattle.extremes.specs.declared.files.Describing.{Describing}

@@ -15,8 +15,8 @@ use Rattle.ghcn_series.specs.Gathered.{HasReadByRows}
 use Rattle.ghcn_series.specs.Kept.{HoldFiles, kept}
 use Rattle.ghcn_series.specs.SaidLists.{stations_said}
 use Rattle.ghcn_series.specs.Series.{Contents}
-use Rattle.rank_query.specs.Asked.{Asked, score_element}
-use Rattle.rank_query.specs.Asks.{Asks}
+use Rattle.rank_query.specs.Meaning.Asked.{Asked, score_element}
+use Rattle.rank_query.specs.Meaning.Asks.{Asks}
 use Rattle.rank_query.proofs.Asks.{asks_read}
 use Rattle.rank_scores.specs.OneElement.{KeptAreEnough, data_for}
 use Rattle.rank_papers.specs.RightLaws.{CertificatesAreSaid, ReportsAreSaid, RightCertificateStays, RightReportStays}

@@ -8,7 +8,7 @@ use Rattle.ghcn_series.specs.Laws.{DataAreRight}
 use Rattle.ghcn_series.specs.SaidLists.{said_by, stations_said}
 use Rattle.ghcn_series.specs.Says.{data_of}
 use Rattle.ghcn_series.specs.Series.{Contents}
-use Rattle.rank_query.specs.Asked.{Asked}
+use Rattle.rank_query.specs.Meaning.Asked.{Asked}
 use Rattle.rank_papers.specs.RightLaws.{ReportsAreFound, CertificatesAreFound, ReportsAreSaid, CertificatesAreSaid}
 use Rattle.rank_parts.specs.Parts.{part_verdict}
 use Rattle.rank_parts.specs.Laws as parts

@@ -10,13 +10,14 @@ use Rattle.ghcn_series.specs.Laws.{DataAreRight}
 use Rattle.ghcn_series.specs.SaidLists.{said_by, stations_said}
 use Rattle.ghcn_series.specs.Says.{data_of}
 use Rattle.ghcn_series.specs.Series.{Contents}
-use Rattle.rank_query.specs.Asked.{Asked}
+use Rattle.rank_query.specs.Meaning.Asked.{Asked}
 use Rattle.rank_query.proofs.Asks.{asks_read}
 use Rattle.rank_scores.specs.Cut.{Filed}
 use Rattle.rank_scores.specs.Morsels.{best_of_query, kth_of_query}
-use Rattle.rank_papers.specs.Report.{IsReport, query_line, report_text}
-use Rattle.rank_papers.specs.Certificate.{IsCertificate, certificate_text, counted, title_line, kth_line, entry_line}
-use Rattle.rank_papers.specs.Certificate.{counts_of, end_line}
+use Rattle.rank_papers.specs.Meaning.Report.{query_line, report_text}
+use Rattle.rank_papers.specs.Report.{IsReport}
+use Rattle.rank_papers.specs.Meaning.Certificate.{title_line, kth_line, entry_line, end_line}
+use Rattle.rank_papers.specs.Certificate.{IsCertificate, certificate_text, counted, counts_of}
 use Rattle.rank_papers.specs.RightLaws.{ReportsAreFound, CertificatesAreFound, ReportsAreSaid, CertificatesAreSaid}
 use Rattle.rank_merge.specs.declared.fault.MergeFault.{MergeFault}
 use Rattle.rank_merge.specs.Laws.{ArePapersOf, all_files, all_texts}

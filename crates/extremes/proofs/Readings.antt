@@ -6,8 +6,8 @@ use Rattle.ghcn_series.specs.Series.{Contents}
 use Rattle.ghcn_series.specs.SaidLists.{said_by, stations_said}
 use Rattle.ghcn_series.specs.Says.{data_of}
 use Rattle.ghcn_series.proofs.SaidLines.{held-said, listed-said}
-use Rattle.rank_query.specs.Asked.{Asked}
-use Rattle.rank_query.specs.Asks.{Asks}
+use Rattle.rank_query.specs.Meaning.Asked.{Asked}
+use Rattle.rank_query.specs.Meaning.Asks.{Asks}
 use Rattle.rank_query.proofs.Asks.{asks_read}
 use Rattle.rank_input.specs.Input.{IsReadOf}
 use Rattle.extremes.specs.Judged.{AreRightTexts, AnswersAreAccepted}

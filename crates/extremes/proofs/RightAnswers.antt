@@ -7,13 +7,14 @@ use Rattle.ghcn_series.specs.SaidLists.{stations_said, unlisted_said}
 use Rattle.ghcn_series.proofs.SaidLines.{listed-said}
 use Rattle.ghcn_series.proofs.SaidStations.{stations-said}
 use Rattle.ghcn_series.proofs.UnlistedLines.{unlisted-said}
-use Rattle.rank_query.specs.Asked.{Asked}
-use Rattle.rank_query.specs.Asks.{Asks}
+use Rattle.rank_query.specs.Meaning.Asked.{Asked}
+use Rattle.rank_query.specs.Meaning.Asks.{Asks}
 use Rattle.rank_scores.specs.declared.candidate.Candidate.{Candidate}
-use Rattle.rank_papers.specs.Right.{IsAdmittedSeries, IsCertificateOfBest, IsRightReport, IsRightCertificate}
+use Rattle.rank_papers.specs.Meaning.Right.{IsAdmittedSeries, IsCertificateOfBest}
+use Rattle.rank_papers.specs.Right.{IsRightReport, IsRightCertificate}
 use Rattle.rank_papers.proofs.BestOfQuery.{best_are_one}
 use Rattle.extremes.specs.declared.papers.Papers.{Papers}
-use Rattle.extremes.specs.Answer.{Answers}
+use Rattle.extremes.specs.Meaning.Answer.{Answers}
 
 -- a report and a certificate are right for a query, some stations and what daily files say, each by itself, and the lines
 -- of other stations are counted

@@ -3,16 +3,18 @@ use Rattle.std.proofs.Common.{◌≡◌, ℕ, List, [], ◌∷◌, Option, refl,
 use Rattle.std.specs.Prelude.{Some, find}
 use Rattle.std.specs.List.{AllByRecursion}
 use Rattle.ghcn_files.specs.declared.station.Station.{Station}
-use Rattle.ghcn_files.specs.Listed.{is_station_of}
+use Rattle.ghcn_files.specs.Meaning.Listed.{is_station_of}
 use Rattle.ghcn_series.specs.SaidLists.{said_by, stations_said}
 use Rattle.ghcn_series.specs.Series.{Contents}
-use Rattle.rank_query.specs.Asked.{Asked}
+use Rattle.rank_query.specs.Meaning.Asked.{Asked}
 use Rattle.rank_scores.specs.declared.candidate.Candidate.{Candidate}
 use Rattle.rank_sched.specs.Plan.{Planned, planned}
 use Rattle.rank_sched.specs.Task.{task_of}
 use Rattle.rank_sched.specs.Laws.{RecordsAloneAreOne}
-use Rattle.rank_papers.specs.Report.{named, report_text}
-use Rattle.rank_papers.specs.Right.{IsAdmittedSeries, IsRightReport}
+use Rattle.rank_papers.specs.Meaning.Report.{report_text}
+use Rattle.rank_papers.specs.Meaning.Right.{IsAdmittedSeries}
+use Rattle.rank_papers.specs.Report.{named}
+use Rattle.rank_papers.specs.Right.{IsRightReport}
 use Rattle.rank_papers.specs.RightLaws.{BestAreOne}
 use Rattle.extremes.proofs.Readings.{one_query, one_saying}
 use Rattle.extremes.proofs.RightAnswers.{AreRight, answers_right}

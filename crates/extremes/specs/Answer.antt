@@ -1,25 +1,19 @@
 -- What is returned for an input without an error.
-use Rattle.std.specs.Prelude.{◌≡◌, ℕ, ◌-◌, ◌^◌, min, List, Option, ℤ}
-use Rattle.std.specs.List.{count_by, flat_map}
-use Rattle.ghcn_fields.specs.Lines.{lines}
-use Rattle.ghcn_files.specs.declared.station.Station.{Station}
-use Rattle.ghcn_series.specs.Said.{SaysStations, is_unlisted}
+use Rattle.std.specs.Prelude.{◌≡◌, ℕ, List, Option, ℤ}
 use Rattle.ghcn_series.specs.Series.{Contents}
-use Rattle.rank_query.specs.Asked.{Asked}
-use Rattle.rank_query.specs.Asks.{Asks}
-use Rattle.rank_scores.specs.declared.candidate.Candidate.{Candidate}
+use Rattle.rank_query.specs.Meaning.Asked.{Asked}
 use Rattle.rank_sched.specs.declared.record.Record.{Record}
 use Rattle.rank_sched.specs.Plan.{Planned, planned}
 use Rattle.rank_sched.specs.Task.{task_of}
 use Rattle.rank_sched.specs.Hauls.{AreSoundRecords}
 use Rattle.rank_sched.specs.Answers.{best_of_plan, lines_of, AreRecordsAlone}
 use Rattle.rank_papers.specs.Certificate.{certificate_of_best}
-use Rattle.rank_papers.specs.Report.{IsReport, IsReportOfBest}
-use Rattle.rank_papers.specs.Right.{AreBest, IsAdmittedSeries, IsCertificateOfBest}
+use Rattle.rank_papers.specs.Report.{IsReport}
 use Rattle.rank_papers.specs.RightLaws.{IsRightReportFor, IsRightCertificateFor}
 use Rattle.rank_papers.specs.PlanPapers.{IsMeasuredCertificate, IsReportOfPlan, IsCertificateOfPlan}
 use Rattle.extremes.specs.declared.papers.Papers.{Papers}
 use Rattle.rank_input.specs.Input.{IsReadOf}
+use Rattle.extremes.specs.Meaning.Answer.{Answers}
 
 -- a report and a certificate are right for a query and data
 pub record AreRightFor (q : Asked) (c : Contents) (papers : Papers) : Type 0 where
@@ -39,20 +33,6 @@ pub record ArePapersOfPlan (p : Planned) (passed_over : ℕ) (papers : Papers) :
   pub report : IsReportOfPlan p papers.report.items
   pub certificate : IsCertificateOfPlan p papers.certificate.items
   pub unlisted : papers.unlisted ≡ passed_over
-
--- the report and the certificate answer the input: its text denotes a query, its station list says some stations, and of
--- what its daily files say of these, there is a list of the best. The report is that of this list, the certificate, of
--- version 2, is right for it, and the lines of unlisted stations are counted, up to 2^64 - 1.
-pub record Answers (query stations : List ℕ) (files : List (List ℕ)) (papers : Papers) : Type 0 where
-  pub asked : Asked
-  pub asks : Asks query asked
-  pub list : List Station
-  pub lists : SaysStations stations list
-  pub best : List Candidate
-  pub are : AreBest asked (IsAdmittedSeries asked list files) best
-  pub report : IsReportOfBest asked list best papers.report.items
-  pub certificate : IsCertificateOfBest 2 asked (IsAdmittedSeries asked list files) best papers.certificate.items
-  pub unlisted : papers.unlisted ≡ min (count_by (is_unlisted list) (flat_map lines files)) (2 ^ 64 - 1)
 
 -- the input has no error
 pub record IsFaultless (query stations : List ℕ) (files : List (List ℕ)) : Type 0 where

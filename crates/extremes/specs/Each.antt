@@ -11,8 +11,8 @@ use Rattle.ghcn_series.specs.Gathered.{HasReadByRows}
 use Rattle.ghcn_series.specs.LineKinds.{warnings_of}
 use Rattle.ghcn_series.specs.SaidLists.{stations_said, unlisted_said}
 use Rattle.ghcn_series.specs.Series.{Contents}
-use Rattle.rank_query.specs.Asked.{Asked, score_element}
-use Rattle.rank_query.specs.Asks.{Asks}
+use Rattle.rank_query.specs.Meaning.Asked.{Asked, score_element}
+use Rattle.rank_query.specs.Meaning.Asks.{Asks}
 use Rattle.rank_sched.specs.Plan.{planned}
 use Rattle.rank_papers.specs.PlanPapers.{IsMeasuredCertificate}
 use Rattle.rank_input.specs.declared.intake.Intake.{Intake}
@@ -21,7 +21,8 @@ use Rattle.rank_input.specs.Takes.{IsTrueOf}
 use Rattle.extremes.specs.declared.papers.Papers.{Papers}
 use Rattle.extremes.specs.declared.papers_folder.Stop.{Stop}
 use Rattle.extremes.specs.declared.papers_folder.Stop.TheVariants.{Input, NotWritten}
-use Rattle.extremes.specs.Answer.{Answers, AreRightFor, IsCrewed, IsOfCrew}
+use Rattle.extremes.specs.Meaning.Answer.{Answers}
+use Rattle.extremes.specs.Answer.{AreRightFor, IsCrewed, IsOfCrew}
 use Rattle.extremes.specs.PapersFolder.{PutsUntil, new_files}
 use Rattle.extremes.specs.Targets.{NewFile, Storing}
 

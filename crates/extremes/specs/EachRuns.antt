@@ -8,8 +8,8 @@ use Rattle.ghcn_fields.specs.Refusals.{OrMemory}
 use Rattle.ghcn_series.specs.declared.counts.Warnings.{Warnings}
 use Rattle.ghcn_series.specs.LineKinds.{warnings_of}
 use Rattle.ghcn_series.specs.SaidLists.{stations_said, unlisted_said}
-use Rattle.rank_query.specs.Asked.{Asked}
-use Rattle.rank_query.specs.Asks.{Asks}
+use Rattle.rank_query.specs.Meaning.Asked.{Asked}
+use Rattle.rank_query.specs.Meaning.Asks.{Asks}
 use Rattle.rank_input.specs.declared.fault.Fault.{Fault}
 use Rattle.rank_input.specs.declared.fault.Fault.TheVariants.{Memory}
 use Rattle.rank_input.specs.declared.queries.QueriesFault.{QueriesFault}

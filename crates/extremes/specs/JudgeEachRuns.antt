@@ -4,8 +4,8 @@ use Rattle.std.specs.Io.KnownBytes.{Appends}
 use Rattle.std.specs.List.{AllZip}
 use Rattle.command_line.specs.declared.asked.CheckEachArguments.{CheckEachArguments}
 use Rattle.command_line.specs.declared.asked.NamedFiles.{NamedFiles}
-use Rattle.rank_query.specs.Asked.{Asked}
-use Rattle.rank_query.specs.Asks.{Asks}
+use Rattle.rank_query.specs.Meaning.Asked.{Asked}
+use Rattle.rank_query.specs.Meaning.Asks.{Asks}
 use Rattle.rank_input.specs.declared.fault.Fault.{Fault}
 use Rattle.rank_input.specs.declared.fault.Fault.TheVariants.{Memory}
 use Rattle.rank_input.specs.Feeding.{AreAllOf, AreFilesOf, AreOpened, AreOpenedFor, Opening}

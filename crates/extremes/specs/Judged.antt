@@ -3,8 +3,9 @@ use Rattle.std.specs.Prelude.{◌≡◌, ◌↔◌, ℕ, List}
 use Rattle.ghcn_files.specs.declared.station.Station.{Station}
 use Rattle.ghcn_series.specs.SaidLists.{stations_said}
 use Rattle.ghcn_series.specs.Series.{Contents}
-use Rattle.rank_query.specs.Asked.{Asked}
-use Rattle.rank_papers.specs.Right.{IsAdmittedSeries, IsRightReport, IsRightCertificate}
+use Rattle.rank_query.specs.Meaning.Asked.{Asked}
+use Rattle.rank_papers.specs.Meaning.Right.{IsAdmittedSeries}
+use Rattle.rank_papers.specs.Right.{IsRightReport, IsRightCertificate}
 use Rattle.rank_check.specs.declared.verdict.Verdict.{Verdict}
 use Rattle.rank_check.specs.declared.verdict.Verdict.TheVariants.{Accepted}
 use Rattle.rank_check.specs.Tests.{verdict}
@@ -12,7 +13,7 @@ use Rattle.rank_parts.specs.declared.verdict.PartVerdict.{PartVerdict}
 use Rattle.rank_parts.specs.Parts.{part_verdict}
 use Rattle.extremes.specs.declared.papers.Papers.{Papers}
 use Rattle.rank_input.specs.Input.{IsReadOf}
-use Rattle.extremes.specs.Answer.{Answers}
+use Rattle.extremes.specs.Meaning.Answer.{Answers}
 
 -- a report is the right one, and a certificate a right one of some version, for a query, a station list and what daily
 -- files say

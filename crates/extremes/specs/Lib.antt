@@ -1,3 +1,4 @@
+pub mod Meaning
 pub mod Answer
 pub mod Ending
 pub mod Messages

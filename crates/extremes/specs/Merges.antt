@@ -4,7 +4,7 @@ use Rattle.std.specs.List.{AllZip, flat_map}
 use Rattle.command_line.specs.declared.asked.Part.{Part}
 use Rattle.ghcn_fields.specs.Refusals.{IsRefusal, OrMemory}
 use Rattle.rank_query.specs.declared.fault.QueryFault.{QueryFault}
-use Rattle.rank_query.specs.Asked.{Asked}
+use Rattle.rank_query.specs.Meaning.Asked.{Asked}
 use Rattle.rank_query.specs.Reading.{read_query}
 use Rattle.rank_input.specs.Feeding.{AreAllOf, AreOpenedFor, Opening}
 use Rattle.rank_merge.specs.declared.fault.MergeFault.{MergeFault}

@@ -2,13 +2,15 @@
 use Rattle.std.specs.Prelude.{◌≡◌, ℕ, List}
 use Rattle.std.specs.List.{AllByRecursion}
 use Rattle.ghcn_series.specs.SaidLists.{stations_said}
-use Rattle.rank_query.specs.Asked.{Asked}
-use Rattle.rank_query.specs.Asks.{Asks}
+use Rattle.rank_query.specs.Meaning.Asked.{Asked}
+use Rattle.rank_query.specs.Meaning.Asks.{Asks}
 use Rattle.rank_scores.specs.Cut.{Filed}
-use Rattle.rank_papers.specs.Right.{IsAdmittedSeries, IsRightCertificate}
+use Rattle.rank_papers.specs.Meaning.Right.{IsAdmittedSeries}
+use Rattle.rank_papers.specs.Right.{IsRightCertificate}
 use Rattle.rank_merge.specs.Laws.{all_files, all_texts}
 use Rattle.extremes.specs.declared.papers.Papers.{Papers}
-use Rattle.extremes.specs.Answer.{Answers, IsFaultless}
+use Rattle.extremes.specs.Meaning.Answer.{Answers}
+use Rattle.extremes.specs.Answer.{IsFaultless}
 use Rattle.extremes.specs.Merges.{AreMerged}
 
 -- the report and the certificate of a part are those that a ranking returns for its files, and for a text that denotes

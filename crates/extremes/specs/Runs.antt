@@ -12,7 +12,8 @@ use Rattle.rank_input.specs.Taken.{IsTrueOf}
 use Rattle.rank_input.specs.Feeding.{AreAllOf, AreFilesOf, AreOpenedFor, Opening}
 use Rattle.rank_check.specs.declared.verdict.Verdict.{Verdict}
 use Rattle.extremes.specs.declared.papers.Papers.{Papers}
-use Rattle.extremes.specs.Answer.{Answers, IsFaultless, IsCrewed, IsSerial}
+use Rattle.extremes.specs.Meaning.Answer.{Answers}
+use Rattle.extremes.specs.Answer.{IsFaultless, IsCrewed, IsSerial}
 use Rattle.rank_parts.specs.declared.verdict.PartVerdict.{PartVerdict}
 use Rattle.extremes.specs.declared.judgement.Judgement.{Judgement}
 use Rattle.extremes.specs.declared.judgement.Judgement.TheVariants.{Whole, Part}

@@ -3,7 +3,8 @@
 
 ghost use Rattle.std.specs.Prelude.{◌≡◌, ◌<◌, true, Err, IfOk, IfErr, map};
 ghost use Rattle.ghcn_series.specs.Held.{IsContents};
-ghost use Rattle.extremes.specs.Answer.{Answers, ArePapersOfPlan, AreRightFor, IsCrewed, IsFaultless};
+ghost use Rattle.extremes.specs.Meaning.Answer.{Answers};
+ghost use Rattle.extremes.specs.Answer.{ArePapersOfPlan, AreRightFor, IsCrewed, IsFaultless};
 ghost use Rattle.extremes.specs.Answer.{IsOfCrew, IsOfOneWorker, IsSerial, SerialPapersAreOne};
 ghost use Rattle.rank_papers.specs.Certificate.{certificate_of_best};
 ghost use Rattle.rank_papers.specs.PlanPapers.{IsMeasuredCertificate};

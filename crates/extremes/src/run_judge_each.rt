@@ -3,7 +3,7 @@
 
 ghost use Rattle.std.specs.Prelude.{ℕ, List};
 ghost use Rattle.std.specs.List.{AllZip};
-ghost use Rattle.rank_query.specs.Asks.{Asks};
+ghost use Rattle.rank_query.specs.Meaning.Asks.{Asks};
 ghost use Rattle.extremes.specs.FaultTexts.{fault_line};
 ghost use Rattle.extremes.specs.JudgeEachRuns.{IsCheckEachRun, RunsAskedJudging, RunsAskedList, RunsJudgingEach};
 ghost use Rattle.extremes.specs.JudgeEachRuns.{RunsNamedJudging};

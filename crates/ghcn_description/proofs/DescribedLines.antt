@@ -9,22 +9,24 @@ use Rattle.std.proofs.lemmas.Bool.Decides.{nat_tests, Decides-eqb}
 use Rattle.std.proofs.lemmas.List.{append-nil, length-set, get_or-set_same, get_or-set_other}
 use Rattle.std.proofs.lemmas.List.Elements.{filter_map-append}
 use Rattle.std.proofs.lemmas.Slice.Zip.{AllZip-long}
-use Rattle.ghcn_fields.specs.Lines.{columns}
+use Rattle.ghcn_fields.specs.Meaning.Lines.{columns}
 use Rattle.ghcn_files.specs.declared.element.Element.{Element}
 use Rattle.ghcn_files.specs.declared.element.Element.TheVariants.{Prcp, Snow, Snwd, Tmax, Tmin}
 use Rattle.ghcn_files.specs.declared.element.Keep.{Keep}
-use Rattle.ghcn_files.specs.Elements.{nothing}
+use Rattle.ghcn_files.specs.Elements.{nothing, same_element, element_index, element_of}
 use Rattle.ghcn_files.specs.declared.fault.LineWhy.TheVariants.{Short}
 use Rattle.ghcn_files.specs.declared.station.Station.{Station}
 use Rattle.ghcn_files.specs.declared.month.Month.{Month}
-use Rattle.ghcn_files.specs.Ids.{same_id}
+use Rattle.ghcn_files.specs.Meaning.Ids.{same_id}
 use Rattle.ghcn_files.proofs.IdLaws.{same_id-turned, place_is}
-use Rattle.ghcn_files.specs.Elements.{elements, same_element, element_index, element_of}
-use Rattle.ghcn_files.specs.Listed.{AreListed, is_station_of, place_of}
+use Rattle.ghcn_files.specs.Meaning.Elements.{elements}
+use Rattle.ghcn_files.specs.Meaning.Listed.{is_station_of}
+use Rattle.ghcn_files.specs.Listed.{AreListed, place_of}
 use Rattle.ghcn_files.specs.Months.{read_month, month_if, month_of, month_why, unless}
 use Rattle.ghcn_series.specs.declared.reader.Reader.{Reader}
 use Rattle.ghcn_series.specs.DailyFaults.{FileLine, month_on, month_if_ok, is_listed}
-use Rattle.ghcn_series.specs.Says.{Fact, usable_facts, facts_of, is_usable}
+use Rattle.ghcn_series.specs.Meaning.Says.{Fact}
+use Rattle.ghcn_series.specs.Says.{usable_facts, facts_of, is_usable}
 use Rattle.ghcn_series.specs.Gathered.{HasReadFor}
 use Rattle.ghcn_series.proofs.AllSeries.{same_element-is}
 use Rattle.ghcn_series.proofs.ListFacts.{zip-weaker}

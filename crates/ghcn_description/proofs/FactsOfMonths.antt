@@ -15,11 +15,13 @@ use Rattle.ghcn_files.specs.declared.element.Element.{Element}
 use Rattle.ghcn_files.specs.declared.element.Element.TheVariants.{Prcp, Snow, Snwd, Tmax, Tmin}
 use Rattle.ghcn_files.specs.declared.month.Month.{Month}
 use Rattle.ghcn_files.specs.declared.month.Reading.{Reading}
-use Rattle.ghcn_files.specs.Ids.{same_id}
-use Rattle.ghcn_files.specs.Elements.{elements, same_element, may_be_negative}
-use Rattle.ghcn_series.specs.Series.{DayValue, Usable}
+use Rattle.ghcn_files.specs.Meaning.Ids.{same_id}
+use Rattle.ghcn_files.specs.Meaning.Elements.{elements, may_be_negative}
+use Rattle.ghcn_files.specs.Elements.{same_element}
+use Rattle.ghcn_series.specs.Meaning.Series.{DayValue, Usable}
 use Rattle.ghcn_series.specs.DailyFaults.{is_listed}
-use Rattle.ghcn_series.specs.Says.{Fact, fact_if, fact_of, is_usable, days_of, usable_of, all_series}
+use Rattle.ghcn_series.specs.Meaning.Says.{Fact}
+use Rattle.ghcn_series.specs.Says.{fact_if, fact_of, is_usable, days_of, usable_of, all_series}
 use Rattle.ghcn_series.specs.Gathered.{counted_day, usable_day}
 use Rattle.ghcn_series.proofs.ReadySeries.{length-sorted}
 use Rattle.ghcn_description.specs.Describing.{has_fact}

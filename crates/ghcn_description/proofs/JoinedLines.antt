@@ -12,12 +12,14 @@ use Rattle.ghcn_files.specs.declared.station.Station.{Station}
 use Rattle.ghcn_files.specs.declared.element.Element.{Element}
 use Rattle.ghcn_files.specs.declared.element.Element.TheVariants.{Prcp, Snow, Snwd, Tmax, Tmin}
 use Rattle.ghcn_files.specs.declared.month.Month.{Month}
-use Rattle.ghcn_files.specs.Elements.{element_index, elements, nothing, same_element}
-use Rattle.ghcn_files.specs.Ids.{same_id}
+use Rattle.ghcn_files.specs.Meaning.Elements.{elements}
+use Rattle.ghcn_files.specs.Elements.{element_index, nothing, same_element}
+use Rattle.ghcn_files.specs.Meaning.Ids.{same_id}
 use Rattle.ghcn_series.specs.DailyFaults.{FileLine, is_listed}
 use Rattle.ghcn_series.specs.Gathered.{HasReadFor}
 use Rattle.ghcn_series.specs.LinesRead.{HaveReadAlike, JoinsLines, ReadOneStation}
-use Rattle.ghcn_series.specs.Says.{Fact, facts_of, is_usable, usable_facts}
+use Rattle.ghcn_series.specs.Meaning.Says.{Fact}
+use Rattle.ghcn_series.specs.Says.{facts_of, is_usable, usable_facts}
 use Rattle.ghcn_series.proofs.ReadLines.{months-texts}
 use Rattle.ghcn_description.specs.declared.counts.ElementCounts.{ElementCounts}
 use Rattle.ghcn_description.specs.declared.describer.Describer.{Describer}

@@ -3,7 +3,7 @@ use Rattle.std.proofs.Common.{◌≡◌, ℕ, ◌+◌, true, false, Bool, cond, 
 use Rattle.std.specs.Prelude.{◌&&◌}
 use Rattle.std.specs.List.{count_by}
 use Rattle.std.proofs.lemmas.List.Sums.{sum_by-append, sum_by-cons}
-use Rattle.ghcn_fields.specs.Bytes.{same_bytes}
+use Rattle.ghcn_fields.specs.Meaning.Bytes.{same_bytes}
 use Rattle.ghcn_series.specs.DailyFaults.{FileLine}
 use Rattle.ghcn_series.specs.LinesRead.{line_texts}
 use Rattle.ghcn_description.specs.declared.counts.CodeCount.{CodeCount}

@@ -12,7 +12,8 @@ use Rattle.ghcn_files.specs.declared.month.Month.{Month}
 use Rattle.ghcn_files.specs.Elements.{same_element}
 use Rattle.ghcn_files.specs.Flags.{flagged_values}
 use Rattle.ghcn_series.specs.DailyFaults.{FileLine, month_on}
-use Rattle.ghcn_series.specs.Says.{Fact, facts_of, is_usable, usable_facts}
+use Rattle.ghcn_series.specs.Meaning.Says.{Fact}
+use Rattle.ghcn_series.specs.Says.{facts_of, is_usable, usable_facts}
 use Rattle.ghcn_description.specs.declared.counts.ElementCounts.{ElementCounts}
 use Rattle.ghcn_description.specs.Lines.{is_listed_of, lines_of_element}
 use Rattle.ghcn_description.specs.Described.{AreSums, IsSpan, days_of_element, flagged_of_element}

@@ -25,7 +25,7 @@ use Rattle.ghcn_files.specs.declared.month.Reading.{Reading}
 use Rattle.ghcn_files.specs.declared.row.MonthRow.{MonthRow}
 use Rattle.ghcn_files.specs.Months.{IsMonth}
 use Rattle.ghcn_files.specs.Rows.{no_reading, IsRowOf}
-use Rattle.ghcn_series.specs.Series.{DayValue}
+use Rattle.ghcn_series.specs.Meaning.Series.{DayValue}
 use Rattle.ghcn_series.specs.Gathered.{usable_day, usable_days}
 use Rattle.ghcn_series.proofs.MonthDays.{IsOfCalendar, has_number, day_number-is, day_number-after}
 use Rattle.ghcn_series.proofs.DistinctDays.{is_day_of}

@@ -11,14 +11,16 @@ use Rattle.ghcn_files.specs.declared.station.Station.{Station}
 use Rattle.ghcn_files.specs.declared.element.Element.{Element}
 use Rattle.ghcn_files.specs.declared.element.Element.TheVariants.{Prcp, Snow, Snwd, Tmax, Tmin}
 use Rattle.ghcn_files.specs.declared.month.Month.{Month}
-use Rattle.ghcn_files.specs.Ids.{same_id}
+use Rattle.ghcn_files.specs.Meaning.Ids.{same_id}
 use Rattle.ghcn_files.proofs.IdLaws.{same_id-is, same_id-turned}
-use Rattle.ghcn_files.specs.Elements.{elements, same_element, element_index}
+use Rattle.ghcn_files.specs.Meaning.Elements.{elements}
+use Rattle.ghcn_files.specs.Elements.{same_element, element_index}
 use Rattle.ghcn_files.specs.Flags.{flagged_values}
-use Rattle.ghcn_files.specs.Listed.{is_station_of}
-use Rattle.ghcn_series.specs.Series.{DayValue}
+use Rattle.ghcn_files.specs.Meaning.Listed.{is_station_of}
+use Rattle.ghcn_series.specs.Meaning.Series.{DayValue}
 use Rattle.ghcn_series.specs.DailyFaults.{FileLine, month_on, is_listed}
-use Rattle.ghcn_series.specs.Says.{Fact, facts_of, is_usable, usable_facts}
+use Rattle.ghcn_series.specs.Meaning.Says.{Fact}
+use Rattle.ghcn_series.specs.Says.{facts_of, is_usable, usable_facts}
 use Rattle.ghcn_series.specs.Gathered.{usable_days}
 use Rattle.ghcn_series.proofs.Places.{ids}
 use Rattle.ghcn_description.specs.declared.counts.ElementCounts.{ElementCounts}

@@ -20,7 +20,7 @@ use Rattle.std.proofs.lemmas.List.Sorted.{searchable_from_sorted}
 use Rattle.std.proofs.lemmas.List.Sums.{get_or-le-sum_by, sum_by-cons, sum_by-insert, sum_by-le-sum_by, sum_by-set}
 use Rattle.std.proofs.lemmas.List.Sums.{sum_by_push}
 use Rattle.std.proofs.lemmas.Map.Text.{is_eq-slice_cmp}
-use Rattle.ghcn_fields.specs.Bytes.{same_bytes}
+use Rattle.ghcn_fields.specs.Meaning.Bytes.{same_bytes}
 use Rattle.ghcn_description.specs.declared.counts.CodeCount.{CodeCount}
 use Rattle.ghcn_description.specs.declared.others.Others.{Others}
 use Rattle.ghcn_description.specs.Described.{CountCodes, CountSmallest, Precedes, Rise, codes_before, lines_for}

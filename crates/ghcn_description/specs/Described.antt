@@ -5,11 +5,12 @@ use Rattle.std.specs.List.{filter_map, count_by, sum_by, All, AllPairs, AllZip, 
 use Rattle.std.specs.declared.cmp.Ordering.TheVariants.{Less}
 use Rattle.std.specs.Ordering.{nat_cmp, is_lt}
 use Rattle.std.specs.Cmp.Lexicographic.{slice_cmp}
-use Rattle.ghcn_fields.specs.Bytes.{same_bytes}
+use Rattle.ghcn_fields.specs.Meaning.Bytes.{same_bytes}
 use Rattle.ghcn_files.specs.declared.element.Element.{Element}
 use Rattle.ghcn_files.specs.declared.station.Station.{Station}
 use Rattle.ghcn_files.specs.Flags.{flagged_values}
-use Rattle.ghcn_files.specs.Elements.{elements, same_element}
+use Rattle.ghcn_files.specs.Meaning.Elements.{elements}
+use Rattle.ghcn_files.specs.Elements.{same_element}
 use Rattle.ghcn_series.specs.DailyFaults.{FileLine, daily_lines, month_on}
 use Rattle.ghcn_series.specs.LineKinds.{all_lines, blank_lines, warnings_of}
 use Rattle.ghcn_series.specs.Says.{usable_facts, all_series}

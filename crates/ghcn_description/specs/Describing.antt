@@ -5,12 +5,12 @@ use Rattle.std.specs.List.{list_any, AllZip, slice_index_or, slice_set}
 use Rattle.ghcn_fields.specs.Faults.{HaveNoFault}
 use Rattle.ghcn_files.specs.declared.element.Element.{Element}
 use Rattle.ghcn_files.specs.declared.element.Keep.{Keep}
-use Rattle.ghcn_files.specs.Elements.{nothing}
+use Rattle.ghcn_files.specs.Elements.{nothing, same_element, element_index}
 use Rattle.ghcn_files.specs.declared.station.Station.{Station}
 use Rattle.ghcn_files.specs.declared.station.StationId.{StationId}
 use Rattle.ghcn_files.specs.declared.month.Month.{Month}
-use Rattle.ghcn_files.specs.Ids.{same_id}
-use Rattle.ghcn_files.specs.Elements.{elements, same_element, element_index}
+use Rattle.ghcn_files.specs.Meaning.Ids.{same_id}
+use Rattle.ghcn_files.specs.Meaning.Elements.{elements}
 use Rattle.ghcn_series.specs.declared.counts.LineCounts.{LineCounts}
 use Rattle.ghcn_series.specs.declared.fault.DailyWhy.TheVariants.{DuplicateMonth}
 use Rattle.ghcn_series.specs.declared.fault.DataFault.TheVariants.{DailyLine}
@@ -19,7 +19,8 @@ use Rattle.ghcn_series.specs.Counted.{HaveCounted}
 use Rattle.ghcn_series.specs.DailyFaults.{FileLine, daily_fault, daily_lines}
 use Rattle.ghcn_series.specs.Gathered.{HasReadFor, IsLineRefusal}
 use Rattle.ghcn_series.specs.LinesRead.{Making}
-use Rattle.ghcn_series.specs.Says.{Fact, usable_facts}
+use Rattle.ghcn_series.specs.Meaning.Says.{Fact}
+use Rattle.ghcn_series.specs.Says.{usable_facts}
 use Rattle.ghcn_description.specs.declared.counts.Description.{Description}
 use Rattle.ghcn_description.specs.declared.counts.ElementCounts.{ElementCounts}
 use Rattle.ghcn_description.specs.declared.describer.Describer.{Describer}

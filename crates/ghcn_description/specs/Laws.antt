@@ -3,7 +3,7 @@ use Rattle.std.specs.Prelude.{◌≡◌, ℕ, ◌+◌, List, length}
 use Rattle.std.specs.List.{sum_by}
 use Rattle.ghcn_fields.specs.Faults.{HaveNoFault}
 use Rattle.ghcn_files.specs.declared.station.Station.{Station}
-use Rattle.ghcn_files.specs.Elements.{elements}
+use Rattle.ghcn_files.specs.Meaning.Elements.{elements}
 use Rattle.ghcn_series.specs.DailyFaults.{daily_lines, daily_fault}
 use Rattle.ghcn_series.specs.LineKinds.{all_lines, blank_lines}
 use Rattle.ghcn_description.specs.declared.counts.Description.{Description}

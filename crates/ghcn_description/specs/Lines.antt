@@ -1,12 +1,12 @@
 -- The lines of daily files by what is on them.
 use Rattle.std.specs.Prelude.{ℕ, Bool, ◌&&◌, not, if◌then◌else◌, List, map}
 use Rattle.std.specs.List.{filter_map, count_by}
-use Rattle.ghcn_fields.specs.Bytes.{same_bytes}
-use Rattle.ghcn_fields.specs.Lines.{columns}
+use Rattle.ghcn_fields.specs.Meaning.Bytes.{same_bytes}
+use Rattle.ghcn_fields.specs.Meaning.Lines.{columns}
 use Rattle.ghcn_files.specs.declared.element.Element.{Element}
 use Rattle.ghcn_files.specs.declared.station.Station.{Station}
 use Rattle.ghcn_files.specs.declared.month.Month.{Month}
-use Rattle.ghcn_files.specs.Ids.{is_visible}
+use Rattle.ghcn_files.specs.Meaning.Ids.{is_visible}
 use Rattle.ghcn_files.specs.Elements.{same_element}
 use Rattle.ghcn_series.specs.DailyFaults.{FileLine, month_on, is_listed}
 use Rattle.ghcn_series.specs.LineKinds.{has_element}

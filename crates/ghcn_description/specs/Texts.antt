@@ -2,8 +2,8 @@
 use Rattle.std.specs.Prelude.{ℕ, zero, suc, List, [], ◌++◌, codes, Option, None, Some, ℤ}
 use Rattle.std.specs.List.{flat_map}
 use Rattle.std.specs.Fmt.{decimal}
-use Rattle.ghcn_fields.specs.Dates.{date_text}
-use Rattle.ghcn_files.specs.Elements.{code_of}
+use Rattle.ghcn_fields.specs.Meaning.Dates.{date_text}
+use Rattle.ghcn_files.specs.Meaning.Elements.{code_of}
 use Rattle.ghcn_description.specs.declared.counts.Description.{Description}
 use Rattle.ghcn_description.specs.declared.counts.ElementCounts.{ElementCounts}
 use Rattle.ghcn_description.specs.declared.counts.Span.{Span}

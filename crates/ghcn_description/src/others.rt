@@ -3,7 +3,7 @@
 ghost use Rattle.std.specs.Prelude.{◌≡◌, ◌<◌, ◌≤◌, ◌+◌, length, map, [], OnOk};
 ghost use Rattle.std.specs.Cmp.Lexicographic.{slice_cmp};
 ghost use Rattle.std.specs.Ordering.{nat_cmp};
-ghost use Rattle.ghcn_fields.specs.Lines.{columns};
+ghost use Rattle.ghcn_fields.specs.Meaning.Lines.{columns};
 ghost use Rattle.ghcn_description.specs.Described.{AreOthers};
 ghost use Rattle.ghcn_description.specs.Lines.{shown};
 ghost use Rattle.ghcn_description.specs.Steps.{HasCountedSome, CountsCode, JoinsCodes, IsPlaceOf, KeepsMost};

@@ -10,8 +10,8 @@ use Rattle.jiff_core.proofs.SignedLemmas.{signed_arith}
 use Rattle.jiff_core.proofs.CalendarLemmas.{days_from_civil-day_count, day_count-day_of_year, day_count-next_year}
 use Rattle.jiff_core.proofs.CalendarLemmas.{day_count-lt_year, days_of_months-zero, days_of_months_more, day_count-end}
 use Rattle.jiff_core.proofs.CalendarLemmas.{days_of_months_all, day_count-lt_month, day_count-day}
-use Rattle.ghcn_fields.specs.Days.{first_day, is_day, last_day}
-use Rattle.ghcn_fields.specs.Dates.{year_and_rest, month_and_day, civil}
+use Rattle.ghcn_fields.specs.Meaning.Days.{first_day, is_day, last_day}
+use Rattle.ghcn_fields.specs.Meaning.Dates.{year_and_rest, month_and_day, civil}
 use Rattle.ghcn_fields.proofs.DayNumbers.{first_count, is_day-from_civil}
 
 -- if no year may be taken off, the year stays

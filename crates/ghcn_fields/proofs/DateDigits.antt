@@ -11,7 +11,7 @@ use Rattle.std.proofs.lemmas.Bool.{and_parts}
 use Rattle.std.proofs.lemmas.List.Folds.{list_all-append}
 use Rattle.std.proofs.lemmas.Bool.Decides.{nat_tests}
 use Rattle.ghcn_fields.specs.Numbers.{natural, up_to}
-use Rattle.ghcn_fields.specs.NumberTexts.{last_digits}
+use Rattle.ghcn_fields.specs.Meaning.NumberTexts.{last_digits}
 use Rattle.ghcn_fields.proofs.Digits.{digit_is, natural-some}
 use Rattle.ghcn_fields.proofs.Decimals.{up_to-fits}
 

@@ -10,10 +10,12 @@ use Rattle.std.proofs.lemmas.Bool.{cases_Bool}
 use Rattle.std.proofs.lemmas.Bool.Decides.{nat_tests}
 use Rattle.jiff_core.proofs.SignedLemmas.{signed_arith}
 use Rattle.jiff_core.proofs.CalendarLemmas.{days_in_month_bounds}
-use Rattle.ghcn_fields.specs.Bytes.{same_bytes}
+use Rattle.ghcn_fields.specs.Meaning.Bytes.{same_bytes}
 use Rattle.ghcn_fields.specs.Numbers.{natural}
-use Rattle.ghcn_fields.specs.Days.{is_day, day_number}
-use Rattle.ghcn_fields.specs.Dates.{civil, date_bytes, date_text, read_date}
+use Rattle.ghcn_fields.specs.Meaning.Days.{is_day}
+use Rattle.ghcn_fields.specs.Days.{day_number}
+use Rattle.ghcn_fields.specs.Meaning.Dates.{civil, date_bytes, date_text}
+use Rattle.ghcn_fields.specs.Dates.{read_date}
 use Rattle.ghcn_fields.proofs.Digits.{natural-some}
 use Rattle.ghcn_fields.proofs.CivilDates.{civil-is, civil-date_of}
 use Rattle.ghcn_fields.proofs.DayNumbers.{is_day-date}

@@ -13,8 +13,9 @@ use Rattle.std.proofs.lemmas.List.{append-nil}
 use Rattle.std.proofs.lemmas.List.Folds.{list_all-append}
 use Rattle.std.proofs.lemmas.List.Sums.{split_at_first, passes_at_first}
 use Rattle.std.proofs.lemmas.Grind.{common_steps}
-use Rattle.ghcn_fields.specs.Numbers.{natural, joined, decimal_number, with_sign, signed_by}
-use Rattle.ghcn_fields.specs.Fields.{part_text, sign_text, Spells}
+use Rattle.ghcn_fields.specs.Meaning.Numbers.{with_sign}
+use Rattle.ghcn_fields.specs.Numbers.{natural, joined, decimal_number, signed_by}
+use Rattle.ghcn_fields.specs.Meaning.Fields.{part_text, sign_text, Spells}
 use Rattle.ghcn_fields.proofs.Decimals.{is_point}
 use Rattle.ghcn_fields.proofs.Digits.{natural-some, natural-from}
 

@@ -10,7 +10,8 @@ use Rattle.std.proofs.lemmas.List.{get_or_default}
 use Rattle.std.proofs.lemmas.List.Sums.{position_or_len_is}
 use Rattle.std.proofs.lemmas.List.Folds.{list_any_none, list_any_at}
 use Rattle.memchr.specs.Find.{IsFirstByte, is_byte}
-use Rattle.ghcn_fields.specs.Numbers.{natural, joined, decimal_number, up_to, with_sign, field_of, field_by, signed_by}
+use Rattle.ghcn_fields.specs.Meaning.Numbers.{with_sign}
+use Rattle.ghcn_fields.specs.Numbers.{natural, joined, decimal_number, up_to, field_of, field_by, signed_by}
 use Rattle.ghcn_fields.specs.Numbers.{after_blanks}
 
 -- a point

@@ -4,12 +4,15 @@ use Rattle.std.specs.Prelude.{codes, pos, negsuc, neg_ℤ}
 use Rattle.std.specs.Fmt.{digits}
 use Rattle.jiff_core.specs.Calendar.{days_from_civil, day_count, days_of_years, days_of_months}
 use Rattle.ghcn_fields.specs.declared.field.Field.TheVariants.{Blank, Number, Bad}
-use Rattle.ghcn_fields.specs.Lines.{lines, numbered_lines, columns}
+use Rattle.ghcn_fields.specs.Meaning.Lines.{lines, columns}
+use Rattle.ghcn_fields.specs.Lines.{numbered_lines}
 use Rattle.ghcn_fields.specs.Numbers.{int_field, scaled_field}
-use Rattle.ghcn_fields.specs.NumberTexts.{whole, tenths, four_places}
-use Rattle.ghcn_fields.specs.Fields.{HasNumber}
+use Rattle.ghcn_fields.specs.Meaning.NumberTexts.{tenths, four_places}
+use Rattle.ghcn_fields.specs.NumberTexts.{whole}
+use Rattle.ghcn_fields.specs.Meaning.Fields.{HasNumber}
 use Rattle.ghcn_fields.specs.Days.{day_number, block_of}
-use Rattle.ghcn_fields.specs.Dates.{civil, year_and_rest, month_and_day, date_text, read_date}
+use Rattle.ghcn_fields.specs.Meaning.Dates.{civil, year_and_rest, month_and_day, date_text}
+use Rattle.ghcn_fields.specs.Dates.{read_date}
 
 -- a field with a blank between digits is bad
 blanks_inside : int_field (codes "12 34") ≡ Bad

@@ -14,7 +14,7 @@ use Rattle.std.proofs.Math.Pow.{suc_ones}
 use Rattle.std.proofs.lemmas.Simd.{pick_l_whole, mask_l-mod, tops_compared, zip2_splat_left, length-zip2}
 use Rattle.std.proofs.lemmas.Bool.{and_parts}
 use lib.Lanes.{mask_l, top, zip2}
-use Rattle.ghcn_fields.specs.Bytes.{is_blank}
+use Rattle.ghcn_fields.specs.Meaning.Bytes.{is_blank}
 use Rattle.ghcn_fields.specs.Numbers.{int_field, is_bad, number_or}
 use Rattle.ghcn_fields.specs.FieldForms.{may_precede, is_minus, is_number_form, digits_behind, are_set, are_set_but}
 use Rattle.ghcn_fields.specs.FieldForms.{five_of_eight}

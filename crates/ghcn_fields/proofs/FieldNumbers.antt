@@ -12,7 +12,7 @@ use Rattle.ghcn_fields.specs.declared.field.Field.{Field}
 use Rattle.ghcn_fields.specs.declared.field.Field.TheVariants.{Blank, Number}
 use Rattle.ghcn_fields.specs.Numbers.{decimal_number, signed_by, field_of, field_by, after_blanks, int_field}
 use Rattle.ghcn_fields.specs.Numbers.{scaled_field}
-use Rattle.ghcn_fields.specs.Fields.{part_text, sign_text, Spells, HasNumber}
+use Rattle.ghcn_fields.specs.Meaning.Fields.{part_text, sign_text, Spells, HasNumber}
 use Rattle.ghcn_fields.proofs.DecimalTexts.{spells-from_signed, signed-from_spells, signed_by-zero}
 
 -- the field is blanks, then its text

@@ -10,8 +10,9 @@ use Rattle.std.proofs.lemmas.Bool.{cases_Bool, cases_eq, ne_eqb}
 use Rattle.std.proofs.lemmas.Bool.Decides.{nat_tests}
 use Rattle.ghcn_fields.specs.declared.field.Field.{Field}
 use Rattle.ghcn_fields.specs.declared.field.Field.TheVariants.{Blank, Bad}
-use Rattle.ghcn_fields.specs.Bytes.{is_blank}
-use Rattle.ghcn_fields.specs.Numbers.{natural, with_sign, signed_by, field_of, int_field}
+use Rattle.ghcn_fields.specs.Meaning.Bytes.{is_blank}
+use Rattle.ghcn_fields.specs.Meaning.Numbers.{with_sign}
+use Rattle.ghcn_fields.specs.Numbers.{natural, signed_by, field_of, int_field}
 use Rattle.ghcn_fields.specs.FieldForms.{is_minus, is_number_form, digits_behind}
 use Rattle.ghcn_fields.proofs.FieldNumbers.{not_empty}
 

@@ -10,8 +10,9 @@ use Rattle.ghcn_fields.specs.declared.field.Field.{Field}
 use Rattle.ghcn_fields.specs.declared.field.Field.TheVariants.{Blank, Bad}
 use Rattle.ghcn_fields.specs.declared.value.Form.{Form}
 use Rattle.ghcn_fields.specs.declared.value.Form.TheVariants.{Blanks, Plain, Negative, Malformed}
-use Rattle.ghcn_fields.specs.Bytes.{is_blank}
-use Rattle.ghcn_fields.specs.Numbers.{field_of, with_sign, int_field, is_bad, number_or}
+use Rattle.ghcn_fields.specs.Meaning.Bytes.{is_blank}
+use Rattle.ghcn_fields.specs.Meaning.Numbers.{with_sign}
+use Rattle.ghcn_fields.specs.Numbers.{field_of, int_field, is_bad, number_or}
 use Rattle.ghcn_fields.specs.FieldForms.{digit_of, is_minus, is_number_form, kind_of}
 use Rattle.ghcn_fields.specs.FieldForms.{form_of_five, form_of_kinds, IsSum, is_malformed, number_by}
 use Rattle.ghcn_fields.proofs.FieldsByForm.{field_by_form, int_field-form}

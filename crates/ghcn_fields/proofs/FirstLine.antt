@@ -9,7 +9,7 @@ use Rattle.std.proofs.lemmas.Bool.{false_from_ne_true}
 use Rattle.std.proofs.lemmas.Bool.Decides.{nat_tests}
 use Rattle.std.proofs.lemmas.List.Sums.{position_or_len_is, fails_before_first}
 use Rattle.memchr.specs.Find.{IsFirstByte, is_byte}
-use Rattle.ghcn_fields.specs.Lines.{lines, without_empty_last}
+use Rattle.ghcn_fields.specs.Meaning.Lines.{lines, without_empty_last}
 
 -- a line feed
 abbrev is_line_feed : ℕ → Bool

@@ -12,8 +12,9 @@ use Rattle.std.proofs.lemmas.Simd.{pick_l_whole}
 use Rattle.ghcn_fields.specs.declared.field.Field.TheVariants.{Blank, Number}
 use Rattle.ghcn_fields.specs.declared.value.Form.{Form}
 use Rattle.ghcn_fields.specs.declared.value.Form.TheVariants.{Blanks, Plain, Negative, Malformed}
-use Rattle.ghcn_fields.specs.Numbers.{after_blanks, decimal_number, field_of, scaled_field, signed_by, with_sign}
-use Rattle.ghcn_fields.specs.Fields.{part_text, sign_text, Spells}
+use Rattle.ghcn_fields.specs.Meaning.Numbers.{with_sign}
+use Rattle.ghcn_fields.specs.Numbers.{after_blanks, decimal_number, field_of, scaled_field, signed_by}
+use Rattle.ghcn_fields.specs.Meaning.Fields.{part_text, sign_text, Spells}
 use Rattle.ghcn_fields.specs.FieldForms.{is_number_form, is_minus, digits_behind, form_of_field, is_plain}
 use Rattle.ghcn_fields.specs.FieldForms.{IsSum, field_of_size, form_of_kinds}
 use Rattle.ghcn_fields.proofs.DecimalTexts.{signed-from_spells}

@@ -3,8 +3,9 @@ use Rattle.std.proofs.Common.{◌≡◌, ◌↔◌, ℕ, ◌≤◌, true, Some, 
 use Rattle.std.proofs.lemmas.Bool.Decides.{nat_tests}
 use Rattle.jiff_core.specs.Calendar.{days_from_civil, IsCivilDate}
 use Rattle.jiff_core.proofs.SignedLemmas.{signed_arith}
-use Rattle.ghcn_fields.specs.Days.{is_day, is_date, day_number}
-use Rattle.ghcn_fields.specs.Dates.{civil}
+use Rattle.ghcn_fields.specs.Meaning.Days.{is_day}
+use Rattle.ghcn_fields.specs.Days.{is_date, day_number}
+use Rattle.ghcn_fields.specs.Meaning.Dates.{civil}
 use Rattle.ghcn_fields.proofs.DayNumbers.{is_day-date}
 use Rattle.ghcn_fields.proofs.CivilDates.{civil-is, civil-date_of}
 

@@ -1,11 +1,8 @@
--- Days of the years 1 to 9999 by number: 1970-01-01 is day 0, and a day before it is negative.
-use Rattle.std.specs.Prelude.{ℕ, Bool, ◌&&◌, nat_le, if◌then◌else◌, Option, None, Some, ℤ, pos, neg_ℤ, ◌≤ℤ◌, int_le}
+-- Dates of the calendar with the numbers of their days, and blocks of days.
+use Rattle.std.specs.Prelude.{ℕ, Bool, ◌&&◌, if◌then◌else◌, Option, None, Some, ℤ, pos, ◌≤ℤ◌}
 use Rattle.std.specs.Int.{int_div_euclid}
 use Rattle.jiff_core.specs.Calendar.{days_from_civil, days_in_month}
-
--- n lies from low to high
-abbrev pub is_within : ℕ → ℕ → ℕ → Bool
-is_within low high n = nat_le low n && nat_le n high
+use Rattle.ghcn_fields.specs.Meaning.Days.{is_within, first_day, last_day, is_day}
 
 -- the calendar has a day with this year, month and day of the month, in the years 1 to 9999
 abbrev pub is_date : ℕ → ℕ → ℕ → Bool
@@ -15,18 +12,6 @@ is_date year month day = is_within 1 9999 year && is_within 1 12 month && is_wit
 -- the number of the day with this date, if the calendar has it
 abbrev pub day_number : ℕ → ℕ → ℕ → Option ℤ
 day_number year month day = if is_date year month day then Some (days_from_civil (pos year) month day) else None
-
--- the number of the first day, 0001-01-01
-abbrev pub first_day : ℤ
-first_day = neg_ℤ (pos 719_162)
-
--- the number of the last day, 9999-12-31
-abbrev pub last_day : ℤ
-last_day = pos 2_932_896
-
--- n is the number of a day of the years 1 to 9999
-abbrev pub is_day : ℤ → Bool
-is_day n = int_le first_day n && int_le n last_day
 
 -- n, if it is the number of a day
 abbrev pub day_if : ℤ → Option ℤ

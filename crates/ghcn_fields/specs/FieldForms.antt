@@ -7,7 +7,7 @@ use Rattle.ghcn_fields.specs.declared.field.Field.{Field}
 use Rattle.ghcn_fields.specs.declared.field.Field.TheVariants.{Number}
 use Rattle.ghcn_fields.specs.declared.value.Form.{Form}
 use Rattle.ghcn_fields.specs.declared.value.Form.TheVariants.{Blanks, Plain, Negative, Malformed}
-use Rattle.ghcn_fields.specs.Bytes.{blank_byte, is_blank}
+use Rattle.ghcn_fields.specs.Meaning.Bytes.{blank_byte, is_blank}
 
 -- the number that a byte writes by itself, 0 if it isn't a digit
 abbrev pub digit_of : ℕ → ℕ

@@ -1,6 +1,6 @@
 -- A group of eight columns: a number field of five, and three flags after it.
 use Rattle.std.specs.Prelude.{◌≡◌, ℕ, ◌*◌, ◌<◌, ◌==◌, false, if◌then◌else◌, List, get_or, take, drop, ℤ, pos, neg_ℤ}
-use Rattle.ghcn_fields.specs.Bytes.{blank_byte}
+use Rattle.ghcn_fields.specs.Meaning.Bytes.{blank_byte}
 use Rattle.ghcn_fields.specs.Numbers.{int_field, is_bad, number_or}
 
 -- the number of a group's field, if its second flag is a blank, or another one

@@ -2,10 +2,12 @@
 use Rattle.std.specs.Prelude.{◌≡◌, ◌↔◌, ℕ, List, Some, ℤ, IsTrue, FitsSigned}
 use Rattle.std.specs.Int.{w32}
 use Rattle.ghcn_fields.specs.declared.field.Field.TheVariants.{Number}
-use Rattle.ghcn_fields.specs.Days.{is_day, day_number}
-use Rattle.ghcn_fields.specs.Dates.{civil, date_text, read_date}
+use Rattle.ghcn_fields.specs.Meaning.Days.{is_day}
+use Rattle.ghcn_fields.specs.Days.{day_number}
+use Rattle.ghcn_fields.specs.Meaning.Dates.{civil, date_text}
+use Rattle.ghcn_fields.specs.Dates.{read_date}
 use Rattle.ghcn_fields.specs.Numbers.{scaled_field}
-use Rattle.ghcn_fields.specs.Fields.{HasNumber}
+use Rattle.ghcn_fields.specs.Meaning.Fields.{HasNumber}
 
 -- a date has the number of a day if and only if it is that day's year, month and day of the month
 abbrev pub DatesAreOfDays : Type 0

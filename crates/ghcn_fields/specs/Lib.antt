@@ -1,9 +1,8 @@
-pub mod Bytes
+pub mod Meaning
 pub mod Lines
 pub mod Faults
 pub mod Refusals
 pub mod Numbers
-pub mod Fields
 pub mod NumberTexts
 pub mod FieldForms
 pub mod Days

@@ -1,20 +1,7 @@
--- The lines of a text and the columns of a line.
-use Rattle.std.specs.Prelude.{◌≡◌, ℕ, suc, ◌-◌, ◌==◌, Bool, false, ◌⊎◌, if◌then◌else◌, nat_lt, List, [], ◌∷◌, ◌++◌}
-use Rattle.std.specs.Prelude.{length, take, drop, map, replicate}
-use Rattle.std.specs.List.{slice_split, enumerate_from, list_all, AllByRecursion}
-use Rattle.std.specs.Str.Lines.{strip_carriage_return}
-use Rattle.ghcn_fields.specs.Bytes.{blank_byte}
-
--- some parts of a text, without the last one if that is empty
-abbrev pub without_empty_last : List (List ℕ) → List (List ℕ)
-without_empty_last [] = []
-without_empty_last (x ∷ []) = if length x == 0 then [] else x ∷ []
-without_empty_last (x ∷ y ∷ more) = x ∷ without_empty_last (y ∷ more)
-
--- the lines of a text: each line feed ends one, and what follows the last line feed is one too, unless it is empty. One
--- carriage return at the end of a line is taken off.
-abbrev pub lines : List ℕ → List (List ℕ)
-lines text = map strip_carriage_return (without_empty_last (slice_split (λ b. b == 10) text))
+-- Line feeds in a text, and its lines with their numbers.
+use Rattle.std.specs.Prelude.{◌≡◌, ℕ, ◌==◌, Bool, false, ◌⊎◌, nat_lt, List, [], ◌∷◌, ◌++◌}
+use Rattle.std.specs.List.{enumerate_from, list_all, AllByRecursion}
+use Rattle.ghcn_fields.specs.Meaning.Lines.{lines}
 
 -- no byte of a text is a line feed
 abbrev pub HasNoLineFeed : List ℕ → Type 0
@@ -31,7 +18,3 @@ EndsLine text = (text ≡ []) ⊎ ((front : List ℕ) × (text ≡ front ++ 10 �
 -- each line with its number, from 1
 abbrev pub numbered_lines : List ℕ → List (ℕ × List ℕ)
 numbered_lines text = enumerate_from 1 (lines text)
-
--- the columns of a line from one to another, counted from 1; columns that the line lacks are blanks
-abbrev pub columns : ℕ → ℕ → List ℕ → List ℕ
-columns from to line = take (suc to - from) (drop (from - 1) (line ++ replicate to blank_byte))

@@ -1,13 +1,14 @@
 -- Numbers as fields spell them, read from the left.
 use Rattle.std.specs.Prelude.{ℕ, ◌+◌, ◌*◌, ◌-◌, ◌^◌, Bool, true, false, ◌==◌, nat_lt, nat_le, if◌then◌else◌, List, []}
-use Rattle.std.specs.Prelude.{◌∷◌, length, Option, None, Some, ℤ, pos, negsuc, neg_ℤ}
+use Rattle.std.specs.Prelude.{◌∷◌, length, Option, None, Some, ℤ, pos, negsuc}
 use Rattle.std.specs.List.{list_all, list_any, before_first, after_first}
 use Rattle.std.specs.Option.{option_map}
 use Rattle.std.specs.Char.{is_ascii_digit}
 use Rattle.std.specs.Str.Parse.{digits_value}
 use Rattle.ghcn_fields.specs.declared.field.Field.{Field}
 use Rattle.ghcn_fields.specs.declared.field.Field.TheVariants.{Blank, Number, Bad}
-use Rattle.ghcn_fields.specs.Bytes.{blank_byte}
+use Rattle.ghcn_fields.specs.Meaning.Bytes.{blank_byte}
+use Rattle.ghcn_fields.specs.Meaning.Numbers.{with_sign}
 
 -- a text without the blanks at its front
 abbrev pub after_blanks : List ℕ → List ℕ
@@ -36,11 +37,6 @@ decimal_number places bytes =
     then joined places (natural (before_first (λ b. b == 46) bytes)) (natural (after_first (λ b. b == 46) bytes))
     (length (after_first (λ b. b == 46) bytes))
     else option_map (λ n. n * 10 ^ places) (natural bytes)
-
--- -n if there is a minus, and otherwise n
-abbrev pub with_sign : Bool → ℕ → ℤ
-with_sign true n = neg_ℤ (pos n)
-with_sign false n = pos n
 
 -- the number of a text that may begin with a minus; `read` says which number the rest of the text writes
 abbrev pub signed_by : (List ℕ → Option ℕ) → List ℕ → Option ℤ

@@ -1,7 +1,8 @@
 //! Dates as texts, `YYYY-MM-DD`.
 
 ghost use Rattle.std.specs.Prelude.{◌≡◌, ◌↔◌, ℤ, ◌+◌, ◌%◌, IsTrue, Some};
-ghost use Rattle.ghcn_fields.specs.Days.{is_day};
+ghost use Rattle.ghcn_fields.specs.Meaning.Days.{is_day};
+ghost use Rattle.ghcn_fields.specs.Meaning.Dates.{date_text};
 ghost use Rattle.ghcn_fields.specs.Dates as dates;
 
 use crate::day::Day;
@@ -9,7 +10,7 @@ use crate::field::small_natural;
 
 /// The text of a day, `YYYY-MM-DD`.
 pub fn write_date(day: Day) -> [u8; 10]
-    ensures { result ≡ dates.date_text day }
+    ensures { result ≡ date_text day }
 {
     let (year, month, day) = day.civil();
     let (month, day) = (month as u16, day as u16);
@@ -31,7 +32,7 @@ pub fn write_date(day: Day) -> [u8; 10]
 pub fn read_date(text: &[u8]) -> Option<Day>
     ensures value { result ≡ dates.read_date text.now }
     ensures written { (day : ℤ) →
-        (result ≡ Some day) ↔ (IsTrue (is_day day) × (text.now ≡ dates.date_text day)) }
+        (result ≡ Some day) ↔ (IsTrue (is_day day) × (text.now ≡ date_text day)) }
 {
     let [_, _, _, _, b'-', _, _, b'-', _, _] = text else {
         return None;

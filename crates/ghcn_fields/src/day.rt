@@ -2,8 +2,9 @@
 
 ghost use Rattle.std.specs.Prelude.{◌≡◌, ◌≤◌, ℤ, pos, Some, IfSome, IsTrue};
 ghost use Rattle.jiff_core.specs.Calendar as calendar;
-ghost use Rattle.ghcn_fields.specs.Days.{is_day, day_if, day_number, block_of, IsBlock};
-ghost use Rattle.ghcn_fields.specs.Dates as dates;
+ghost use Rattle.ghcn_fields.specs.Meaning.Days.{is_day};
+ghost use Rattle.ghcn_fields.specs.Days.{day_if, day_number, block_of, IsBlock};
+ghost use Rattle.ghcn_fields.specs.Meaning.Dates as dates;
 
 use jiff_core::civil::Date;
 use std::marker::Model;

@@ -3,7 +3,7 @@
 
 ghost use Rattle.std.specs.Prelude.{◌≡◌, ◌↔◌, ◌<◌, ◌^◌, ℤ, IfSome, FitsSigned};
 ghost use Rattle.std.specs.Int.{w32};
-ghost use Rattle.ghcn_fields.specs.Fields.{HasNumber};
+ghost use Rattle.ghcn_fields.specs.Meaning.Fields.{HasNumber};
 ghost use Rattle.ghcn_fields.specs.FieldForms.{is_plain, field_of_size};
 ghost use Rattle.ghcn_fields.specs.Numbers as numbers;
 

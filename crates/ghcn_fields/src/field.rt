@@ -6,8 +6,9 @@ ghost use Rattle.std.specs.Char.{is_ascii_digit};
 ghost use Rattle.std.specs.Int.{w32};
 ghost use Rattle.std.specs.List.{before_first, list_any, position_or_len};
 ghost use Rattle.std.specs.Option.{option_map};
-ghost use Rattle.ghcn_fields.specs.Bytes.{blank_byte};
-ghost use Rattle.ghcn_fields.specs.Fields.{HasNumber};
+ghost use Rattle.ghcn_fields.specs.Meaning.Bytes.{blank_byte};
+ghost use Rattle.ghcn_fields.specs.Meaning.Fields.{HasNumber};
+ghost use Rattle.ghcn_fields.specs.Meaning.Numbers.{with_sign};
 ghost use Rattle.ghcn_fields.specs.Numbers as numbers;
 
 /// What a number field holds.
@@ -174,7 +175,7 @@ fn small(number: u64) -> Option<u64>
 
 pub(crate) fn signed_field(negative: bool, magnitude: Option<u64>) -> Field
     requires { IfSome magnitude (λ n. n ≤ 2 ^ 31) }
-    ensures { result ≡ numbers.field_of (option_map (numbers.with_sign negative) magnitude) }
+    ensures { result ≡ numbers.field_of (option_map (with_sign negative) magnitude) }
 {
     match magnitude {
         None => Field::Bad,

@@ -2,7 +2,7 @@
 
 ghost use Rattle.std.specs.Prelude.{◌≡◌, ◌≤◌, ◌<◌, ◌++◌, ◌∷◌, IfSome, IsNone, Some, true, length};
 ghost use Rattle.std.specs.Str.Lines.{strip_carriage_return};
-ghost use Rattle.ghcn_fields.specs.Bytes as bytes;
+ghost use Rattle.ghcn_fields.specs.Meaning.Bytes as bytes;
 ghost use Rattle.ghcn_fields.specs.Lines.{numbered_lines, HasNoLineFeed};
 ghost use Rattle.ghcn_fields.specs.Lines as feeds;
 ghost use Rattle.memchr.specs.Find.{IsFirstByte, is_byte};
@@ -27,7 +27,7 @@ pub struct Lines<'a> {
 impl<'a> Model for Lines<'a> {
     ghost use Rattle.std.specs.Prelude.{ℕ, List, ◌+◌, ◌<◌, ◌^◌, length};
     ghost use Rattle.std.specs.List.{enumerate_from};
-    ghost use Rattle.ghcn_fields.specs.Lines.{lines};
+    ghost use Rattle.ghcn_fields.specs.Meaning.Lines.{lines};
 
     ghost Value = { List (ℕ × List ℕ) };
 

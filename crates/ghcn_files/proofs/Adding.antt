@@ -8,22 +8,25 @@ use Rattle.std.specs.Option.{option_or, option_map}
 use Rattle.std.specs.Ordering.{is_eq}
 use Rattle.std.proofs.lemmas.Bool.Decides.{nat_tests}
 use Rattle.std.proofs.lemmas.List.{length_push, map-append, length-map, length-take-le, length-replicate}
-use Rattle.ghcn_fields.specs.Bytes.{blank_byte, is_blank}
+use Rattle.ghcn_fields.specs.Meaning.Bytes.{blank_byte, is_blank}
 use Rattle.std.proofs.lemmas.Map.Keys.{IsDistinct-push}
 use Rattle.ghcn_fields.specs.declared.field.Field.{Field}
 use Rattle.ghcn_fields.specs.declared.field.Field.TheVariants.{Blank, Number, Bad}
-use Rattle.ghcn_fields.specs.Lines.{columns}
+use Rattle.ghcn_fields.specs.Meaning.Lines.{columns}
 use Rattle.ghcn_files.specs.declared.station.StationId.{StationId}
 use Rattle.ghcn_files.specs.declared.station.Station.{Station}
 use Rattle.ghcn_files.specs.declared.fault.StationWhy.{StationWhy}
 use Rattle.ghcn_files.specs.declared.fault.StationWhy.TheVariants.{Duplicate}
 use Rattle.ghcn_files.specs.declared.fault.StationsFault.{StationsFault}
 use Rattle.ghcn_files.specs.declared.fault.StationsFault.TheVariants.{StationLine, TooManyStations}
-use Rattle.ghcn_files.specs.Ids.{same_id, is_id, is_visible}
+use Rattle.ghcn_files.specs.Meaning.Ids.{same_id, is_visible}
+use Rattle.ghcn_files.specs.Ids.{is_id}
 use Rattle.ghcn_files.specs.StationLines.{id_of, latitude, longitude, elevation, is_number_within, is_latitude}
-use Rattle.ghcn_files.specs.StationLines.{is_longitude, is_bad, number_of, is_printable, printable, station_of}
+use Rattle.ghcn_files.specs.StationLines.{is_longitude, is_bad, number_of, station_of}
+use Rattle.ghcn_files.specs.Meaning.StationLines.{is_printable, printable}
 use Rattle.ghcn_files.specs.StationLines.{line_why, is_station}
-use Rattle.ghcn_files.specs.Listed.{Numbered, is_repeated, stations_of, station_fault, is_station_of, place_of}
+use Rattle.ghcn_files.specs.Meaning.Listed.{is_station_of}
+use Rattle.ghcn_files.specs.Listed.{Numbered, is_repeated, stations_of, station_fault, place_of}
 use Rattle.ghcn_files.specs.KeptStations.{key_of}
 use Rattle.ghcn_files.specs.Listed.{AreListed}
 use Rattle.ghcn_files.specs.KeptStations.{key_cmp, AreEleven, kept_place, AreKept}

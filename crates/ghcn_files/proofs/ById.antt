@@ -17,9 +17,11 @@ use Rattle.std.proofs.lemmas.Nat.{be_bytes_4, be_bytes_8}
 use Rattle.std.proofs.lemmas.Option.{slice_get_past}
 use Rattle.ghcn_files.specs.declared.station.StationId.{StationId}
 use Rattle.ghcn_files.specs.declared.station.Station.{Station}
-use Rattle.ghcn_files.specs.Ids.{same_id, is_id, is_visible}
+use Rattle.ghcn_files.specs.Meaning.Ids.{same_id, is_visible}
+use Rattle.ghcn_files.specs.Ids.{is_id}
 use Rattle.ghcn_files.proofs.IdLaws.{same_id-laws, same_id-is, place_is, no_place}
-use Rattle.ghcn_files.specs.Listed.{is_station_of, place_of}
+use Rattle.ghcn_files.specs.Meaning.Listed.{is_station_of}
+use Rattle.ghcn_files.specs.Listed.{place_of}
 use Rattle.ghcn_files.specs.KeptStations.{key_of, key_cmp, AreEleven}
 
 -- ---- the station at a place that was found

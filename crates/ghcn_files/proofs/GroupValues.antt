@@ -7,8 +7,8 @@ use Rattle.std.specs.Prelude.{not, ◌==◌, ◌&&◌, neg_ℤ, if◌then◌else
 use Rattle.std.proofs.lemmas.Bool.{cases_lt}
 use Rattle.std.proofs.lemmas.List.{get_or-set_same, get_or-set_other, length-set, take-take, drop-take, drop-drop}
 use Rattle.std.proofs.lemmas.Simd.{get_or-chunk}
-use Rattle.ghcn_fields.specs.Bytes.{is_blank}
-use Rattle.ghcn_fields.specs.Lines.{columns}
+use Rattle.ghcn_fields.specs.Meaning.Bytes.{is_blank}
+use Rattle.ghcn_fields.specs.Meaning.Lines.{columns}
 use Rattle.ghcn_fields.specs.Numbers.{int_field, number_or}
 use Rattle.ghcn_fields.specs.Groups.{AreNumbers}
 use Rattle.ghcn_files.specs.declared.fault.LineWhy.{LineWhy}

@@ -8,8 +8,9 @@ use Rattle.std.proofs.lemmas.Cmp.{nat_list_eq_equiv}
 use Rattle.std.proofs.lemmas.Slice.Eq.{slice_eq-Decides}
 use Rattle.ghcn_files.specs.declared.station.StationId.{StationId}
 use Rattle.ghcn_files.specs.declared.station.Station.{Station}
-use Rattle.ghcn_files.specs.Ids.{same_id}
-use Rattle.ghcn_files.specs.Listed.{is_station_of, place_of}
+use Rattle.ghcn_files.specs.Meaning.Ids.{same_id}
+use Rattle.ghcn_files.specs.Meaning.Listed.{is_station_of}
+use Rattle.ghcn_files.specs.Listed.{place_of}
 
 -- either of two IDs may come first
 pub same_id-turned : (a b : StationId) → same_id a b ≡ same_id b a

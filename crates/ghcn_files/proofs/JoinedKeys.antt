@@ -16,7 +16,7 @@ use Rattle.std.proofs.lemmas.Map.Keys.{IsDistinct-cons, IsDistinct-from_apart, I
 use Rattle.std.proofs.lemmas.Map.Keys.{IsDistinct-tail, apart_from_distinct}
 use Rattle.ghcn_files.specs.declared.station.StationId.{StationId}
 use Rattle.ghcn_files.specs.declared.station.Station.{Station}
-use Rattle.ghcn_files.specs.Ids.{same_id}
+use Rattle.ghcn_files.specs.Meaning.Ids.{same_id}
 use Rattle.ghcn_files.specs.StationLines.{is_station}
 use Rattle.ghcn_files.specs.Listed.{AreListed, StayApart, have_one_id}
 use Rattle.ghcn_files.specs.KeptStations.{AreOrdered, Differ, Rise, id_key, key_cmp, key_of, key_with_place, keys_from}

@@ -6,7 +6,8 @@ use Rattle.std.specs.List.{slice_split, enumerate_from, onto_first}
 use Rattle.std.specs.Str.Lines.{strip_carriage_return}
 use Rattle.std.proofs.lemmas.List.{append-nil, map-append, length-map}
 use Rattle.std.proofs.lemmas.List.Splits.{slice_split-cons_yes, slice_split-cons_no, length-slice_split}
-use Rattle.ghcn_fields.specs.Lines.{lines, without_empty_last, HasNoLineFeed, EndsLine}
+use Rattle.ghcn_fields.specs.Meaning.Lines.{lines, without_empty_last}
+use Rattle.ghcn_fields.specs.Lines.{HasNoLineFeed, EndsLine}
 use Rattle.ghcn_fields.proofs.FirstLine.{last_stays}
 
 -- a line feed

@@ -16,9 +16,10 @@ use Rattle.std.proofs.lemmas.List.Sums.{position_or_len_is}
 use Rattle.std.proofs.lemmas.Map.Keys.{apart_from_distinct}
 use Rattle.ghcn_files.specs.declared.station.StationId.{StationId}
 use Rattle.ghcn_files.specs.declared.station.Station.{Station}
-use Rattle.ghcn_files.specs.Ids.{same_id}
+use Rattle.ghcn_files.specs.Meaning.Ids.{same_id}
 use Rattle.ghcn_files.specs.StationLines.{is_station}
-use Rattle.ghcn_files.specs.Listed.{AreListed, is_station_of, place_of}
+use Rattle.ghcn_files.specs.Meaning.Listed.{is_station_of}
+use Rattle.ghcn_files.specs.Listed.{AreListed, place_of}
 use Rattle.ghcn_files.specs.KeptStations.{AreEleven, Rise, id_key, key_cmp, key_of, key_with_place, keys_from}
 use Rattle.ghcn_files.proofs.IdLaws.{same_id-is}
 use Rattle.ghcn_files.proofs.ById.{compares_equal}

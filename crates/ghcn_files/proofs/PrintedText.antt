@@ -2,7 +2,7 @@
 use Rattle.std.proofs.Common.{◌≡◌, ℕ, ◌+◌, ◌<◌, List, [], ◌∷◌, ◌++◌, length, take, drop, map, get_or, set, sym, ap, ◌∙◌}
 use Rattle.std.proofs.Common.{arith}
 use Rattle.std.proofs.lemmas.List.{take_more, take_more_set, drop_more, drop-set-lt, map-append}
-use Rattle.ghcn_files.specs.StationLines.{printable}
+use Rattle.ghcn_files.specs.Meaning.StationLines.{printable}
 
 -- the next byte is the text's own, and so is what follows it
 next_same : (items text : List ℕ) (i : ℕ) → i < length items → length items ≡ length text

@@ -13,10 +13,11 @@ use Rattle.std.proofs.lemmas.Int.{ints}
 use Rattle.std.proofs.lemmas.Str.Parse.{IsNumeralModel, numerals_by_value, digits_value_short}
 use Rattle.ghcn_fields.specs.declared.field.Field.{Field}
 use Rattle.ghcn_fields.specs.declared.field.Field.TheVariants.{Blank, Number, Bad}
-use Rattle.ghcn_fields.specs.Bytes.{is_blank}
+use Rattle.ghcn_fields.specs.Meaning.Bytes.{is_blank}
 use Rattle.ghcn_fields.specs.Faults.{first_failing}
-use Rattle.ghcn_fields.specs.Lines.{columns}
-use Rattle.ghcn_fields.specs.Numbers.{after_blanks, natural, with_sign, signed_by, field_of, int_field, is_i32}
+use Rattle.ghcn_fields.specs.Meaning.Lines.{columns}
+use Rattle.ghcn_fields.specs.Meaning.Numbers.{with_sign}
+use Rattle.ghcn_fields.specs.Numbers.{after_blanks, natural, signed_by, field_of, int_field, is_i32}
 use Rattle.ghcn_files.specs.declared.element.Element.{Element}
 use Rattle.ghcn_files.specs.declared.fault.LineWhy.{LineWhy}
 use Rattle.ghcn_files.specs.Ids.{is_id}

@@ -3,7 +3,7 @@ use Rattle.std.proofs.Common.{◌≡◌, ℕ, ◌+◌, ◌<◌, Bool, true, fals
 use Rattle.std.proofs.Common.{drop, get_or, Option, None, Ok, Err, refl, sym, ap, subst, ◌∙◌, arith}
 use Rattle.std.specs.Prelude.{not}
 use Rattle.std.proofs.lemmas.List.{take_more, take_all, append-nil, take-append-drop, drop_more}
-use Rattle.ghcn_fields.specs.Bytes.{is_blank}
+use Rattle.ghcn_fields.specs.Meaning.Bytes.{is_blank}
 use Rattle.ghcn_fields.specs.Lines.{numbered_lines}
 use Rattle.ghcn_fields.specs.Faults.{first_fault, HaveNoFault, IsFirstFault}
 use Rattle.ghcn_files.proofs.FaultLaws.{no_fault-nil, no_fault-more, first_fault-none, first_fault-from}

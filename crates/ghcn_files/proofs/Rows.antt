@@ -20,7 +20,8 @@ use Rattle.ghcn_files.specs.declared.month.Head.{Head}
 use Rattle.ghcn_fields.specs.declared.field.Field.{Field}
 use Rattle.ghcn_fields.specs.declared.field.Field.TheVariants.{Blank, Number, Bad}
 use Rattle.ghcn_fields.specs.Numbers.{number_or}
-use Rattle.ghcn_files.specs.Elements.{may_be_negative, least_of}
+use Rattle.ghcn_files.specs.Meaning.Elements.{may_be_negative}
+use Rattle.ghcn_files.specs.Elements.{least_of}
 use Rattle.ghcn_files.specs.StationLines.{unless_missing}
 use Rattle.ghcn_files.specs.Months.{reading, value_field, is_flagged, is_readable, days_of_group, head_of, month_of}
 use Rattle.ghcn_files.specs.Rows.{if_so, if_possible, value_at, no_reading, value_within, line_value, AreDays, IsRowOf}

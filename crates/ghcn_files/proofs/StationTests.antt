@@ -3,14 +3,15 @@ use Rattle.std.proofs.Common.{◌≡◌, ℕ, ◌≤◌, Bool, true, cond, List,
 use Rattle.std.proofs.Common.{◌∙◌}
 use Rattle.std.specs.Prelude.{not, ℤ}
 use Rattle.std.proofs.lemmas.Bool.{le-leb}
-use Rattle.ghcn_fields.specs.Lines.{columns}
+use Rattle.ghcn_fields.specs.Meaning.Lines.{columns}
 use Rattle.ghcn_files.specs.declared.station.StationId.{StationId}
 use Rattle.ghcn_files.specs.declared.fault.StationWhy.{StationWhy}
 use Rattle.ghcn_files.specs.declared.fault.StationWhy.TheVariants.{Short, BadId, BadLatitude, BadLongitude}
 use Rattle.ghcn_files.specs.declared.fault.StationWhy.TheVariants.{BadElevation}
 use Rattle.ghcn_files.specs.Ids.{is_id}
 use Rattle.ghcn_files.specs.StationLines.{id_of, latitude, longitude, elevation, is_latitude, is_longitude, is_bad}
-use Rattle.ghcn_files.specs.StationLines.{number_of, numbers_of, unless_missing, printable, station_of, line_why}
+use Rattle.ghcn_files.specs.StationLines.{number_of, numbers_of, unless_missing, station_of, line_why}
+use Rattle.ghcn_files.specs.Meaning.StationLines.{printable}
 
 -- the first test that fails, by how each test came out
 abbrev pub why_by : Bool → Bool → Bool → Bool → Bool → Option StationWhy

@@ -4,8 +4,8 @@ use Rattle.std.proofs.Common.{◌≡◌, ℕ, zero, suc, ◌+◌, ◌*◌, ◌�
 use Rattle.std.proofs.Common.{get_or, Option, Some, refl, sym, ap, ap₂, subst, ◌∙◌, arith, ℤ, pos}
 use Rattle.std.specs.Prelude.{not, neg_ℤ, replicate}
 use Rattle.std.proofs.lemmas.List.{take-append-drop, length-take-le}
-use Rattle.ghcn_fields.specs.Bytes.{is_blank}
-use Rattle.ghcn_fields.specs.Lines.{columns}
+use Rattle.ghcn_fields.specs.Meaning.Bytes.{is_blank}
+use Rattle.ghcn_fields.specs.Meaning.Lines.{columns}
 use Rattle.ghcn_fields.specs.Numbers.{int_field, number_or}
 use Rattle.ghcn_files.specs.declared.fault.LineWhy.{LineWhy}
 use Rattle.ghcn_files.specs.declared.fault.LineWhy.TheVariants.{BadValue}

@@ -1,23 +1,11 @@
--- The five elements and their codes.
-use Rattle.std.specs.Prelude.{ℕ, Bool, true, false, ◌==◌, ◌||◌, List, [], ◌∷◌, codes, Option, ℤ, pos, neg_ℤ}
-use Rattle.std.specs.Prelude.{if◌then◌else◌}
+-- Elements by their places and codes, and sets of elements.
+use Rattle.std.specs.Prelude.{ℕ, Bool, true, false, ◌==◌, ◌||◌, List, Option, ℤ, pos, neg_ℤ, if◌then◌else◌}
 use Rattle.std.specs.List.{find}
-use Rattle.ghcn_fields.specs.Bytes.{same_bytes}
+use Rattle.ghcn_fields.specs.Meaning.Bytes.{same_bytes}
 use Rattle.ghcn_files.specs.declared.element.Element.{Element}
 use Rattle.ghcn_files.specs.declared.element.Element.TheVariants.{Prcp, Snow, Snwd, Tmax, Tmin}
 use Rattle.ghcn_files.specs.declared.element.Keep.{Keep}
-
--- the four bytes that name an element
-abbrev pub code_of : Element → List ℕ
-code_of Prcp = codes "PRCP"
-code_of Snow = codes "SNOW"
-code_of Snwd = codes "SNWD"
-code_of Tmax = codes "TMAX"
-code_of Tmin = codes "TMIN"
-
--- the five elements
-abbrev pub elements : List Element
-elements = Prcp ∷ Snow ∷ Snwd ∷ Tmax ∷ Tmin ∷ []
+use Rattle.ghcn_files.specs.Meaning.Elements.{code_of, elements, may_be_negative}
 
 -- an element's place among the five, from 0
 abbrev pub element_index : Element → ℕ
@@ -62,14 +50,6 @@ only e = with_one nothing e
 -- the element that bytes name
 abbrev pub element_of : List ℕ → Option Element
 element_of bytes = find (λ e. same_bytes (code_of e) bytes) elements
-
--- only temperatures have negative values
-abbrev pub may_be_negative : Element → Bool
-may_be_negative Prcp = false
-may_be_negative Snow = false
-may_be_negative Snwd = false
-may_be_negative Tmax = true
-may_be_negative Tmin = true
 
 -- the least value that an element can have: five columns hold no number below -9999, which stands for a missing one
 abbrev pub least_of : Element → ℤ

@@ -1,7 +1,7 @@
 -- What lines say before their first value that begin with the same columns.
 use Rattle.std.specs.Prelude.{◌≡◌, ℕ, ◌≤◌, true, List, length, take, drop, pos, Ok, None}
 use Rattle.jiff_core.specs.Calendar.{days_in_month}
-use Rattle.ghcn_fields.specs.Bytes.{is_blank}
+use Rattle.ghcn_fields.specs.Meaning.Bytes.{is_blank}
 use Rattle.ghcn_files.specs.declared.month.Head.{Head}
 use Rattle.ghcn_files.specs.declared.row.MonthRow.{MonthRow}
 use Rattle.ghcn_files.specs.Months.{unless, head_why, head_of}

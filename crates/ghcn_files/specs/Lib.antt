@@ -1,3 +1,4 @@
+pub mod Meaning
 pub mod Ids
 pub mod Elements
 pub mod StationLines

@@ -4,7 +4,7 @@ use Rattle.std.specs.Prelude.{List, ◌++◌, length, map}
 use Rattle.std.specs.Prelude.{Option, None, Some, Result, Ok, Err, filter, IsTrue}
 use Rattle.std.specs.List.{list_all, list_any, IsDistinct, position}
 use Rattle.std.specs.Option.{option_or, option_map}
-use Rattle.ghcn_fields.specs.Bytes.{is_blank}
+use Rattle.ghcn_fields.specs.Meaning.Bytes.{is_blank}
 use Rattle.ghcn_fields.specs.Lines.{numbered_lines, EndsLine}
 use Rattle.ghcn_fields.specs.Faults.{first_fault, IsFirstFault}
 use Rattle.ghcn_fields.specs.Refusals.{OrMemory}
@@ -14,8 +14,9 @@ use Rattle.ghcn_files.specs.declared.fault.StationWhy.{StationWhy}
 use Rattle.ghcn_files.specs.declared.fault.StationWhy.TheVariants.{Duplicate}
 use Rattle.ghcn_files.specs.declared.fault.StationsFault.{StationsFault}
 use Rattle.ghcn_files.specs.declared.fault.StationsFault.TheVariants.{StationLine, TooManyStations, Memory}
-use Rattle.ghcn_files.specs.Ids.{same_id}
+use Rattle.ghcn_files.specs.Meaning.Ids.{same_id}
 use Rattle.ghcn_files.specs.StationLines.{id_of, station_of, line_why, is_station}
+use Rattle.ghcn_files.specs.Meaning.Listed.{is_station_of}
 
 -- a line that isn't blank, with its number
 abbrev pub Numbered : Type 0
@@ -51,10 +52,6 @@ listed_unless (Some f) ls = Err f.1
 -- the listed stations of a text in file order, or the first error
 abbrev pub listed : List ℕ → Result (List Station) StationsFault
 listed text = listed_unless (first_fault station_fault (station_lines text)) (station_lines text)
-
--- the station has this ID
-abbrev pub is_station_of : StationId → Station → Bool
-is_station_of id s = same_id s.id id
 
 -- the place of the station with this ID, from 0
 abbrev pub place_of : List Station → StationId → Option ℕ

@@ -11,7 +11,8 @@ use Rattle.ghcn_files.specs.declared.month.Month.{Month}
 use Rattle.ghcn_files.specs.declared.month.Reading.{Reading}
 use Rattle.ghcn_files.specs.declared.row.MonthRow.{MonthRow}
 use Rattle.ghcn_files.specs.declared.fault.LineWhy.{LineWhy}
-use Rattle.ghcn_files.specs.Elements.{may_be_negative, is_kept}
+use Rattle.ghcn_files.specs.Meaning.Elements.{may_be_negative}
+use Rattle.ghcn_files.specs.Elements.{is_kept}
 use Rattle.ghcn_files.specs.Months.{reading, value_field, is_flagged, read_month, IsMonth}
 
 -- x, if the test passes

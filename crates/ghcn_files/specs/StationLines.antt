@@ -5,7 +5,7 @@ use Rattle.std.specs.List.{list_all}
 use Rattle.std.specs.Ordering.{int_eq}
 use Rattle.ghcn_fields.specs.declared.field.Field.{Field}
 use Rattle.ghcn_fields.specs.declared.field.Field.TheVariants.{Blank, Number, Bad}
-use Rattle.ghcn_fields.specs.Lines.{columns}
+use Rattle.ghcn_fields.specs.Meaning.Lines.{columns}
 use Rattle.ghcn_fields.specs.Faults.{first_failing}
 use Rattle.ghcn_fields.specs.Numbers.{scaled_field}
 pub use Rattle.ghcn_fields.specs.Numbers.{is_bad}
@@ -16,6 +16,7 @@ use Rattle.ghcn_files.specs.declared.fault.StationWhy.{StationWhy}
 use Rattle.ghcn_files.specs.declared.fault.StationWhy.TheVariants.{Short, BadId, BadLatitude, BadLongitude}
 use Rattle.ghcn_files.specs.declared.fault.StationWhy.TheVariants.{BadElevation}
 use Rattle.ghcn_files.specs.Ids.{is_id}
+use Rattle.ghcn_files.specs.Meaning.StationLines.{is_printable, printable}
 
 -- the ID that a line begins with
 abbrev pub id_of : List ℕ → StationId
@@ -47,14 +48,6 @@ abbrev pub unless_missing : Field → Option ℤ
 unless_missing Blank = None
 unless_missing (Number z) = if int_eq z (neg_ℤ (pos 9999)) then None else Some z
 unless_missing Bad = None
-
--- a byte that can be printed: a blank, or one that shows in print
-abbrev pub is_printable : ℕ → Bool
-is_printable b = nat_le 32 b && nat_le b 126
-
--- the byte, or a question mark if it can't be printed
-abbrev pub printable : ℕ → ℕ
-printable b = if is_printable b then b else 63
 
 -- the latitude on a line: degrees north, in ten-thousandths
 abbrev pub latitude : List ℕ → Field

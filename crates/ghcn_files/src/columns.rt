@@ -1,7 +1,7 @@
 //! Columns of a fixed-width line, counted from 1 as the readme counts them.
 
 ghost use Rattle.std.specs.Prelude.{◌≡◌, ◌≤◌, ◌+◌, ◌-◌, IfSome};
-ghost use Rattle.ghcn_fields.specs.Lines as lines;
+ghost use Rattle.ghcn_fields.specs.Meaning.Lines as lines;
 
 /// That many columns of a line from one on; a column that a short line lacks is a blank.
 pub(crate) fn columns<const N: usize>(line: &[u8], from: usize) -> [u8; N]

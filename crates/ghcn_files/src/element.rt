@@ -1,7 +1,8 @@
 //! What a daily value measures.
 
 ghost use Rattle.std.specs.Prelude.{◌≡◌};
-ghost use Rattle.ghcn_files.specs.Elements.{code_of, element_of, everything, is_kept, nothing, with_one};
+ghost use Rattle.ghcn_files.specs.Meaning.Elements.{code_of};
+ghost use Rattle.ghcn_files.specs.Elements.{element_of, everything, is_kept, nothing, with_one};
 
 use std::fmt;
 
@@ -116,7 +117,7 @@ impl Element {
 /// Writes the element's code.
 impl fmt::Display for Element {
     ghost use Rattle.std.specs.Prelude.{Some};
-    ghost use Rattle.ghcn_files.specs.Elements.{code_of};
+    ghost use Rattle.ghcn_files.specs.Meaning.Elements.{code_of};
 
     ghost output = { λ e. Some (code_of e) };
 

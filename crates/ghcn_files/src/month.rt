@@ -10,8 +10,8 @@
 ghost use Rattle.std.specs.Prelude.{◌≡◌, ◌≤◌, ◌<◌, ◌+◌, ◌*◌, length, take, drop, map, pos, Some, None, IfOk, IfSome};
 ghost use Rattle.std.specs.Prelude.{if◌then◌else◌, unsigned_abs};
 ghost use Rattle.ghcn_fields.specs.Numbers as numbers;
-ghost use Rattle.ghcn_fields.specs.Bytes as bytes;
-ghost use Rattle.ghcn_fields.specs.Lines.{columns};
+ghost use Rattle.ghcn_fields.specs.Meaning.Bytes as bytes;
+ghost use Rattle.ghcn_fields.specs.Meaning.Lines.{columns};
 ghost use Rattle.ghcn_files.specs.StationLines as stations;
 ghost use Rattle.ghcn_files.specs.Months as months;
 

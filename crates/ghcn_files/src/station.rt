@@ -14,11 +14,13 @@ ghost use Rattle.std.specs.Cmp.{on_po, unsigned_po};
 ghost use Rattle.std.specs.Cmp.Rules.{comparing};
 ghost use Rattle.std.specs.Cmp.Lexicographic.{lists_agrees, lists_po, slice_cmp, slice_partial_cmp};
 ghost use Rattle.std.specs.Ordering.{nat_cmp, on};
-ghost use Rattle.ghcn_fields.specs.Bytes.{blank_byte};
-ghost use Rattle.ghcn_fields.specs.Lines as lines;
+ghost use Rattle.ghcn_fields.specs.Meaning.Bytes.{blank_byte};
+ghost use Rattle.ghcn_fields.specs.Meaning.Lines as lines;
 ghost use Rattle.ghcn_fields.specs.Numbers as numbers;
-ghost use Rattle.ghcn_files.specs.Ids.{is_id, is_visible, same_id};
-ghost use Rattle.ghcn_files.specs.StationLines as stations;
+ghost use Rattle.ghcn_files.specs.Meaning.Ids.{is_visible, same_id};
+ghost use Rattle.ghcn_files.specs.Ids.{is_id};
+ghost use Rattle.ghcn_files.specs.StationLines.{id_of, line_why, number_within, numbers_of, station_of};
+ghost use Rattle.ghcn_files.specs.Meaning.StationLines as stations;
 
 use crate::StationWhy;
 use crate::columns::{columns, columns_filled, columns_in};
@@ -82,7 +84,7 @@ impl StationId {
     /// The ID that a line begins with, unless one of its bytes doesn't show in print.
     pub(crate) fn of_line(line: &[u8]) -> Option<Self>
         requires { 11 ≤ length line.now }
-        ensures { result ≡ (if is_id (lines.columns 1 11 line.now) then Some (stations.id_of line.now) else None) }
+        ensures { result ≡ (if is_id (lines.columns 1 11 line.now) then Some (id_of line.now) else None) }
     {
         let id = line.first_chunk()?;
         if begins_visibly(line) {
@@ -135,9 +137,9 @@ impl Numbers {
     /// may be blank, is this project's own leniency.
     #[inline(always)]
     pub(crate) fn of_line(line: &[u8]) -> Result<Self, StationWhy>
-        ensures right { IfOk result (λ numbers. numbers ≡ stations.numbers_of line.now) }
-        ensures ok { OnOk result (stations.line_why line.now ≡ None) }
-        ensures err { IfErr result (λ why. stations.line_why line.now ≡ Some why) }
+        ensures right { IfOk result (λ numbers. numbers ≡ numbers_of line.now) }
+        ensures ok { OnOk result (line_why line.now ≡ None) }
+        ensures err { IfErr result (λ why. line_why line.now ≡ Some why) }
     {
         if line.len() < LEAST_COLUMNS {
             return Err(StationWhy::Short);
@@ -168,8 +170,8 @@ impl Station {
     /// copied once, to where the station is kept.
     #[inline(always)]
     pub(crate) fn of_numbers(line: &[u8], numbers: Numbers) -> Self
-        requires { numbers ≡ stations.numbers_of line.now }
-        ensures { result ≡ stations.station_of line.now }
+        requires { numbers ≡ numbers_of line.now }
+        ensures { result ≡ station_of line.now }
     {
         Station {
             latitude: numbers.latitude,
@@ -195,7 +197,7 @@ fn after_blank(columns: [u8; 8]) -> [u8; 9]
 #[inline(always)]
 fn degrees(limit: i32, field: &[u8; 9]) -> Option<i32>
     requires { pos 0 ≤ℤ limit }
-    ensures { result ≡ stations.number_within (neg_ℤ limit) limit (numbers.scaled_field 4 field.now) }
+    ensures { result ≡ number_within (neg_ℤ limit) limit (numbers.scaled_field 4 field.now) }
 {
     match four_places_field(field) {
         Field::Number(number) if is_within(limit, number) => Some(number),

@@ -4,7 +4,8 @@ ghost use Rattle.std.specs.Prelude.{◌≡◌, ◌++◌, length, slice_get, Ok, 
 ghost use Rattle.std.specs.Arc.{arc_value};
 ghost use Rattle.std.specs.List.{find};
 ghost use Rattle.std.specs.Option.{option_copied};
-ghost use Rattle.ghcn_files.specs.Listed.{AreListed, is_station_of, place_of, listed};
+ghost use Rattle.ghcn_files.specs.Meaning.Listed.{is_station_of};
+ghost use Rattle.ghcn_files.specs.Listed.{AreListed, place_of, listed};
 ghost use Rattle.ghcn_files.specs.Listed.{is_memory, IsFirstRefusal, ListTogether, StayApart};
 ghost use Rattle.ghcn_fields.specs.Refusals.{IsRefusal};
 

@@ -4,8 +4,8 @@ use Rattle.std.proofs.Common.{Option, None, Some, Result, Err, refl, sym, ap, ap
 use Rattle.std.specs.Prelude.{nat_lt, nat_le, pos, unsigned_abs}
 use Rattle.std.specs.List.{range_with_len}
 use Rattle.std.proofs.lemmas.Bool.Decides.{nat_tests}
-use Rattle.ghcn_fields.specs.Bytes.{is_blank}
-use Rattle.ghcn_fields.specs.Lines.{columns}
+use Rattle.ghcn_fields.specs.Meaning.Bytes.{is_blank}
+use Rattle.ghcn_fields.specs.Meaning.Lines.{columns}
 use Rattle.ghcn_fields.specs.Numbers.{int_field}
 use Rattle.ghcn_files.specs.declared.element.Element.{Element}
 use Rattle.ghcn_files.specs.declared.fault.LineWhy.{LineWhy}

@@ -2,7 +2,7 @@
 use Rattle.std.proofs.Common.{◌≡◌, ℕ, true, false, List, ◌∙◌}
 use Rattle.std.specs.Str.Lines.{strip_carriage_return}
 use Rattle.std.proofs.lemmas.List.{append-nil}
-use Rattle.ghcn_fields.specs.Bytes.{is_blank}
+use Rattle.ghcn_fields.specs.Meaning.Bytes.{is_blank}
 use Rattle.ghcn_series.specs.declared.fault.DataFault.{DataFault}
 use Rattle.ghcn_series.specs.LinesRead.{Reading, ReadsLike, RefusesLike, ReadsText, RefusesText}
 use Rattle.ghcn_series.proofs.AlikeLines.{same_blank}

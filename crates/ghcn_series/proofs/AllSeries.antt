@@ -12,15 +12,18 @@ use Rattle.ghcn_files.specs.declared.station.Station.{Station}
 use Rattle.ghcn_files.specs.declared.element.Element.{Element}
 use Rattle.ghcn_files.specs.declared.element.Keep.{Keep}
 use Rattle.ghcn_files.specs.declared.month.Month.{Month}
-use Rattle.ghcn_files.specs.Ids.{same_id}
-use Rattle.ghcn_files.specs.Elements.{elements, same_element, is_kept, everything}
+use Rattle.ghcn_files.specs.Meaning.Ids.{same_id}
+use Rattle.ghcn_files.specs.Meaning.Elements.{elements}
+use Rattle.ghcn_files.specs.Elements.{same_element, is_kept, everything}
 use Rattle.ghcn_files.specs.Listed.{AreListed}
 use Rattle.ghcn_files.specs.Months.{IsMonth}
 use Rattle.ghcn_files.proofs.KeptElements.{is_kept-everything}
 use Rattle.ghcn_series.specs.declared.gathering.Gathering.{Gathering}
-use Rattle.ghcn_series.specs.Series.{DayValue, Usable, Contents, IsSeries, by_day}
+use Rattle.ghcn_series.specs.Meaning.Series.{DayValue, Usable}
+use Rattle.ghcn_series.specs.Series.{Contents, IsSeries, by_day}
 use Rattle.ghcn_series.specs.DailyFaults.{is_listed}
-use Rattle.ghcn_series.specs.Says.{Fact, facts_of, is_usable, days_of, usable_of, all_series}
+use Rattle.ghcn_series.specs.Meaning.Says.{Fact}
+use Rattle.ghcn_series.specs.Says.{facts_of, is_usable, days_of, usable_of, all_series}
 use Rattle.ghcn_series.specs.Held.{AreByStation, all_of, same_series}
 use Rattle.ghcn_series.specs.Kept.{kept}
 use Rattle.ghcn_series.specs.Gathered.{usable_days, kept_days, gathered_days, months_of, IsGatheringOf}

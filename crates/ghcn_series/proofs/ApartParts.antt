@@ -10,7 +10,7 @@ use Rattle.std.proofs.lemmas.Bool.{cases_Bool, false≢true}
 use Rattle.std.proofs.lemmas.Cmp.{int_eq_equiv}
 use Rattle.std.proofs.lemmas.Map.{lookup-none, none_passes_from_lookup}
 use Rattle.std.proofs.lemmas.Option.{none-some}
-use Rattle.ghcn_series.specs.Series.{DayValue, value_on}
+use Rattle.ghcn_series.specs.Meaning.Series.{DayValue, value_on}
 use Rattle.ghcn_series.specs.Packed.{Block, block_days, days_of_blocks, blocks_of, AreBlocks, AreRising}
 use Rattle.ghcn_series.specs.Parts.{AreNew, AreDisjoint, AreJoined}
 use Rattle.ghcn_files.proofs.Ordered.{each-map, each-mapped}

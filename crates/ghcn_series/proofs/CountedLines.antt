@@ -11,8 +11,8 @@ use Rattle.std.proofs.lemmas.List.Elements.{filter-append}
 use Rattle.std.proofs.lemmas.List.Folds.{list_any-append, list_all-append, find-append}
 use Rattle.std.proofs.lemmas.List.Sums.{sum_by-append, sum_by_push, count_by-le-length}
 use Rattle.std.proofs.lemmas.Grind.{flat_map-append}
-use Rattle.ghcn_fields.specs.Bytes.{is_blank}
-use Rattle.ghcn_fields.specs.Lines.{columns, lines}
+use Rattle.ghcn_fields.specs.Meaning.Bytes.{is_blank}
+use Rattle.ghcn_fields.specs.Meaning.Lines.{columns, lines}
 use Rattle.ghcn_files.proofs.LineLaws.{enumerate_from-append}
 use Rattle.ghcn_files.specs.Elements.{element_of}
 use Rattle.ghcn_series.specs.declared.counts.Foreign.{Foreign}

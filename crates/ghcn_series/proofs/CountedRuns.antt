@@ -14,7 +14,7 @@ use Rattle.std.proofs.lemmas.Nat.{leading_length, and_comm, and_le_l, and_le_r}
 use Rattle.std.proofs.Math.Nat.{pow-succ'}
 use Rattle.std.proofs.lemmas.Nat.Bits.{bit_at_and, bit_at-lt, bit_at_not, bit_at_above, bit_at-suc, bit_at_ones}
 use lib.Count.{count_leading_zeros}
-use Rattle.ghcn_series.specs.Series.{DayValue}
+use Rattle.ghcn_series.specs.Meaning.Series.{DayValue}
 use Rattle.ghcn_series.specs.Packed.{block_start, day_at, if_so, block_days, days_from, AreInARow, run_count}
 use Rattle.ghcn_series.specs.Packed.{runs_after, HasRuns, BeginsLastRun, TakesToLastRun}
 use Rattle.ghcn_series.proofs.LastDays.{highest-bit}

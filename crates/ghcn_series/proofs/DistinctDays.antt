@@ -8,12 +8,12 @@ use Rattle.std.specs.Option.{option_and_then}
 use Rattle.std.specs.Map.{keys_of}
 use Rattle.std.proofs.lemmas.Bool.{both_ways, and_from, eq-eqb}
 use Rattle.ghcn_fields.specs.Days.{day_number}
-use Rattle.ghcn_fields.specs.Dates.{civil}
+use Rattle.ghcn_fields.specs.Meaning.Dates.{civil}
 use Rattle.ghcn_fields.proofs.CivilDates.{civil-is}
 use Rattle.ghcn_files.specs.declared.month.Month.{Month}
 use Rattle.ghcn_files.specs.declared.month.Reading.{Reading}
-use Rattle.ghcn_files.specs.Elements.{may_be_negative}
-use Rattle.ghcn_series.specs.Series.{DayValue}
+use Rattle.ghcn_files.specs.Meaning.Elements.{may_be_negative}
+use Rattle.ghcn_series.specs.Meaning.Series.{DayValue}
 use Rattle.ghcn_series.specs.Says.{fact_if}
 use Rattle.ghcn_series.specs.Gathered.{counted_day, usable_day, usable_days, same_time}
 use Rattle.ghcn_series.proofs.Lookups.{int_eq-no}

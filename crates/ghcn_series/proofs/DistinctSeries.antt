@@ -5,10 +5,12 @@ use Rattle.std.proofs.lemmas.Bool.{and_left, and_right}
 use Rattle.ghcn_files.specs.declared.station.Station.{Station}
 use Rattle.ghcn_files.specs.declared.element.Element.{Element}
 use Rattle.ghcn_files.specs.declared.element.Element.TheVariants.{Prcp, Snow, Snwd, Tmax, Tmin}
-use Rattle.ghcn_files.specs.Ids.{same_id}
-use Rattle.ghcn_files.specs.Elements.{elements, same_element}
-use Rattle.ghcn_series.specs.Series.{Usable}
-use Rattle.ghcn_series.specs.Says.{Fact, usable_of}
+use Rattle.ghcn_files.specs.Meaning.Ids.{same_id}
+use Rattle.ghcn_files.specs.Meaning.Elements.{elements}
+use Rattle.ghcn_files.specs.Elements.{same_element}
+use Rattle.ghcn_series.specs.Meaning.Series.{Usable}
+use Rattle.ghcn_series.specs.Meaning.Says.{Fact}
+use Rattle.ghcn_series.specs.Says.{usable_of}
 use Rattle.ghcn_series.specs.Held.{same_series}
 use Rattle.ghcn_series.proofs.Places.{ids}
 use Rattle.ghcn_series.proofs.ListFacts.{each-append, both_distinct}

@@ -6,7 +6,7 @@ use Rattle.std.proofs.lemmas.Int.{ints}
 use Rattle.std.proofs.lemmas.List.{length-replicate}
 use Rattle.jiff_core.specs.Calendar.{days_from_civil, day_count, days_of_years, days_of_months}
 use Rattle.ghcn_fields.specs.Days.{block_of}
-use Rattle.ghcn_fields.specs.Lines.{lines}
+use Rattle.ghcn_fields.specs.Meaning.Lines.{lines}
 use Rattle.ghcn_files.specs.declared.element.Element.{Element}
 use Rattle.ghcn_files.specs.Elements.{nothing, everything, with_one, only}
 use Rattle.ghcn_files.specs.declared.element.Element.TheVariants.{Prcp, Snow, Tmax, Tmin}
@@ -17,10 +17,11 @@ use Rattle.ghcn_files.specs.Listed.{listed}
 use Rattle.ghcn_files.specs.Months.{days_of_group}
 use Rattle.ghcn_series.specs.declared.fault.DailyWhy.TheVariants.{Line, DuplicateMonth}
 use Rattle.ghcn_series.specs.declared.fault.DataFault.TheVariants.{DailyLine, TooManyFiles}
-use Rattle.ghcn_series.specs.Series.{DayValue, Usable, Contents, value_on, series_of}
+use Rattle.ghcn_series.specs.Meaning.Series.{DayValue, Usable, value_on}
+use Rattle.ghcn_series.specs.Series.{Contents, series_of}
 use Rattle.ghcn_series.specs.DailyFaults.{file_line, file_lines, daily_lines}
 use Rattle.ghcn_series.specs.Says.{in_64_bits, data_of}
-use Rattle.ghcn_series.specs.Said.{IsMadeOf, IsSaid, SaysStations, is_unlisted}
+use Rattle.ghcn_series.specs.Meaning.Said.{IsMadeOf, IsSaid, SaysStations, is_unlisted}
 use Rattle.ghcn_series.specs.SaidLists.{facts_said, unlisted_said}
 use Rattle.ghcn_series.specs.Held.{IsContents}
 use Rattle.ghcn_series.specs.Kept.{kept}

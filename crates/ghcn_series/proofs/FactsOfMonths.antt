@@ -12,11 +12,13 @@ use Rattle.ghcn_files.specs.declared.station.Station.{Station}
 use Rattle.ghcn_files.specs.declared.element.Element.{Element}
 use Rattle.ghcn_files.specs.declared.month.Month.{Month}
 use Rattle.ghcn_files.specs.declared.month.Reading.{Reading}
-use Rattle.ghcn_files.specs.Ids.{same_id}
-use Rattle.ghcn_files.specs.Elements.{same_element, may_be_negative}
-use Rattle.ghcn_series.specs.Series.{DayValue}
+use Rattle.ghcn_files.specs.Meaning.Ids.{same_id}
+use Rattle.ghcn_files.specs.Meaning.Elements.{may_be_negative}
+use Rattle.ghcn_files.specs.Elements.{same_element}
+use Rattle.ghcn_series.specs.Meaning.Series.{DayValue}
 use Rattle.ghcn_series.specs.DailyFaults.{is_listed}
-use Rattle.ghcn_series.specs.Says.{Fact, fact_of, fact_if, facts_of, is_usable}
+use Rattle.ghcn_series.specs.Meaning.Says.{Fact}
+use Rattle.ghcn_series.specs.Says.{fact_of, fact_if, facts_of, is_usable}
 use Rattle.ghcn_series.specs.Gathered.{counted_day, usable_day, usable_days, months_of}
 use Rattle.ghcn_files.proofs.IdLaws.{same_id-is}
 

@@ -5,7 +5,8 @@ use Rattle.std.proofs.lemmas.List.{append-nil, map-append}
 use Rattle.std.proofs.lemmas.List.Elements.{filter-append}
 use Rattle.std.proofs.lemmas.Grind.{flat_map-append}
 use Rattle.std.proofs.lemmas.Simd.{map-map}
-use Rattle.ghcn_fields.specs.Lines.{lines, EndsLine}
+use Rattle.ghcn_fields.specs.Meaning.Lines.{lines}
+use Rattle.ghcn_fields.specs.Lines.{EndsLine}
 use Rattle.ghcn_files.proofs.LineLaws.{lines-append, enumerate_from-append}
 use Rattle.ghcn_series.specs.DailyFaults.{FileLine, not_blank, file_lines, daily_lines}
 use Rattle.ghcn_series.specs.LinesRead.{line_texts}

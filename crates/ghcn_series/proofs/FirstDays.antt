@@ -10,8 +10,9 @@ use Rattle.std.proofs.lemmas.Nat.{shr-shr}
 use Rattle.std.proofs.lemmas.Nat.Bits.{bit_at-zero, bit_at-trailing_zeros, bit_at_and, bit_at_lowest, bit_at-suc}
 use Rattle.std.proofs.lemmas.Int.{ints}
 use Rattle.std.specs.Iterator.{YieldsFirst, MakesProgress, item_count}
-use Rattle.ghcn_fields.specs.Days.{is_day, IsBlock}
-use Rattle.ghcn_series.specs.Series.{DayValue}
+use Rattle.ghcn_fields.specs.Meaning.Days.{is_day}
+use Rattle.ghcn_fields.specs.Days.{IsBlock}
+use Rattle.ghcn_series.specs.Meaning.Series.{DayValue}
 use Rattle.ghcn_series.specs.Packed.{block_start, day_at, block_days, days_from, AreCalendarDays}
 
 -- a word that is shifted down has its upper bits

@@ -8,12 +8,15 @@ use Rattle.ghcn_files.specs.declared.station.StationId.{StationId}
 use Rattle.ghcn_files.specs.declared.station.Station.{Station}
 use Rattle.ghcn_files.specs.declared.element.Element.{Element}
 use Rattle.ghcn_files.specs.declared.element.Element.TheVariants.{Prcp, Snow, Snwd, Tmax, Tmin}
-use Rattle.ghcn_files.specs.Ids.{same_id}
-use Rattle.ghcn_files.specs.Elements.{same_element, elements}
+use Rattle.ghcn_files.specs.Meaning.Ids.{same_id}
+use Rattle.ghcn_files.specs.Meaning.Elements.{elements}
+use Rattle.ghcn_files.specs.Elements.{same_element}
 use Rattle.ghcn_files.proofs.IdLaws.{same_id-is}
-use Rattle.ghcn_series.specs.Series.{Usable, series_of, is_series_of}
+use Rattle.ghcn_series.specs.Meaning.Series.{Usable}
+use Rattle.ghcn_series.specs.Series.{series_of, is_series_of}
 use Rattle.ghcn_series.specs.DailyFaults.{is_listed}
-use Rattle.ghcn_series.specs.Says.{Fact, days_of, usable_of, all_series}
+use Rattle.ghcn_series.specs.Meaning.Says.{Fact}
+use Rattle.ghcn_series.specs.Says.{days_of, usable_of, all_series}
 use Rattle.ghcn_series.specs.JoinedFiles.{facts_in}
 use Rattle.ghcn_series.proofs.AllSeries.{same_element-is}
 pub use Rattle.ghcn_series.proofs.AllSeries.{has_days}

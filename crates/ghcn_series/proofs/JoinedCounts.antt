@@ -11,8 +11,8 @@ use Rattle.std.proofs.lemmas.List.Folds.{find-append, fold-map, list_any-append}
 use Rattle.std.proofs.lemmas.List.Sums.{sum_by-append}
 use Rattle.std.proofs.lemmas.Option.{slice_get-map}
 use Rattle.std.proofs.lemmas.Simd.{map-map}
-use Rattle.ghcn_fields.specs.Bytes.{is_blank}
-use Rattle.ghcn_fields.specs.Lines as text
+use Rattle.ghcn_fields.specs.Meaning.Bytes.{is_blank}
+use Rattle.ghcn_fields.specs.Meaning.Lines as text
 use Rattle.ghcn_fields.specs.Lines.{EndsLine}
 use Rattle.ghcn_files.proofs.LineLaws.{enumerate_from-append, lines-append}
 use Rattle.ghcn_series.specs.declared.counts.Foreign.{Foreign}

@@ -15,7 +15,7 @@ use Rattle.std.specs.Int.Bits.{or_zero_l, or_zero_r}
 use Rattle.std.proofs.lemmas.List.{get_or-set_same, get_or-set_other}
 use Rattle.std.proofs.lemmas.Int.{to_z-of_z}
 use Rattle.ghcn_fields.specs.Days.{block_of}
-use Rattle.ghcn_series.specs.Series.{DayValue, value_on}
+use Rattle.ghcn_series.specs.Meaning.Series.{DayValue, value_on}
 use Rattle.ghcn_series.specs.Packed.{Block, block_start, if_so, value_at, block_days, days_of_blocks, blocks_of, IsPacked}
 use Rattle.ghcn_series.specs.Parts.{AreJoined, JoinsAt, JoinsValues}
 use Rattle.ghcn_series.proofs.Lookups.{or_none, at_day, block-value, block-other, value_on-append}

@@ -13,13 +13,15 @@ use Rattle.ghcn_fields.specs.Sorting.{sorted_by}
 use Rattle.ghcn_files.specs.declared.station.StationId.{StationId}
 use Rattle.ghcn_files.specs.declared.station.Station.{Station}
 use Rattle.ghcn_files.specs.declared.element.Element.{Element}
-use Rattle.ghcn_files.specs.Ids.{same_id}
+use Rattle.ghcn_files.specs.Meaning.Ids.{same_id}
 use Rattle.ghcn_files.specs.Elements.{same_element}
 use Rattle.ghcn_series.specs.declared.fault.DataFault.{DataFault}
 use Rattle.ghcn_series.specs.declared.fault.DataFault.TheVariants.{TooManyFiles}
-use Rattle.ghcn_series.specs.Series.{DayValue, Contents, by_day}
+use Rattle.ghcn_series.specs.Meaning.Series.{DayValue}
+use Rattle.ghcn_series.specs.Series.{Contents, by_day}
 use Rattle.ghcn_series.specs.DailyFaults.{FileLine, daily_lines, daily_fault, month_on}
-use Rattle.ghcn_series.specs.Says.{Fact, contents, contents_unless}
+use Rattle.ghcn_series.specs.Meaning.Says.{Fact}
+use Rattle.ghcn_series.specs.Says.{contents, contents_unless}
 use Rattle.ghcn_series.specs.JoinedFiles.{facts_in, HaveData, FactsOfParts}
 use Rattle.ghcn_series.proofs.FedLines.{lines_from, daily_lines-append, texts-renumbered}
 use Rattle.ghcn_series.proofs.ReadLines.{months-texts}

@@ -7,8 +7,9 @@ use Rattle.std.proofs.Math.Path.{fun_ext}
 use Rattle.std.proofs.lemmas.Bool.{true≢false, ne_eqb}
 use Rattle.std.proofs.lemmas.List.{append-nil, map-append, nil_from_length}
 use Rattle.std.proofs.lemmas.Simd.{map-map}
-use Rattle.ghcn_fields.specs.Bytes.{is_blank}
-use Rattle.ghcn_fields.specs.Lines.{lines, EndsLine, HasNoLineFeed}
+use Rattle.ghcn_fields.specs.Meaning.Bytes.{is_blank}
+use Rattle.ghcn_fields.specs.Meaning.Lines.{lines}
+use Rattle.ghcn_fields.specs.Lines.{EndsLine, HasNoLineFeed}
 use Rattle.ghcn_series.specs.Counted.{placed_after}
 use Rattle.ghcn_series.specs.Cut.{lines_to}
 use Rattle.ghcn_series.specs.DailyFaults.{FileLine, file_line, not_blank, file_lines, daily_lines}

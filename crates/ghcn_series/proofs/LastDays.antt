@@ -10,7 +10,7 @@ use Rattle.std.proofs.lemmas.Bool.{cases_lt}
 use Rattle.std.proofs.lemmas.List.{append-nil}
 use Rattle.std.proofs.lemmas.Option.{slice_get_within, get_or_from_slice_get}
 use Rattle.std.proofs.lemmas.Nat.Bits.{bit_at_cat_high, bit_at_above}
-use Rattle.ghcn_series.specs.Series.{DayValue}
+use Rattle.ghcn_series.specs.Meaning.Series.{DayValue}
 use Rattle.ghcn_series.specs.Packed.{Block, block_start, day_at, block_days, days_from, days_of_blocks, blocks_of}
 use Rattle.ghcn_series.specs.Packed.{AreBlocks, AreCalendarDays, IsLastOf, IsPacked}
 use Rattle.ghcn_series.proofs.Lookups.{blocks-behind, blocks-end}

@@ -7,7 +7,8 @@ use Rattle.std.proofs.lemmas.Option.{cond_some}
 use Rattle.jiff_core.specs.Calendar.{days_in_month, days_from_civil, IsCivilDate}
 use Rattle.jiff_core.proofs.SignedLemmas.{signed_arith}
 use Rattle.jiff_core.proofs.CalendarLemmas.{days_from_civil-day_count, day_count-day}
-use Rattle.ghcn_fields.specs.Days.{day_number, day_if, is_date, is_day}
+use Rattle.ghcn_fields.specs.Meaning.Days.{is_day}
+use Rattle.ghcn_fields.specs.Days.{day_number, day_if, is_date}
 use Rattle.ghcn_fields.proofs.DayNumbers.{is_day-from_civil}
 
 -- a day of a month that many places after its first

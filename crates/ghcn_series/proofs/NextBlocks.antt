@@ -6,7 +6,8 @@ use Rattle.std.proofs.lemmas.Bool.{and_parts, cases_Bool}
 use Rattle.std.proofs.lemmas.Int.{ints}
 use Rattle.ghcn_fields.specs.Days.{block_of}
 use Rattle.ghcn_series.specs.Packed.{AreRising, IsLeastBlock, IsNextBlock, next_block}
-use Rattle.ghcn_series.specs.Series.{DayValue, is_by_day}
+use Rattle.ghcn_series.specs.Meaning.Series.{DayValue}
+use Rattle.ghcn_series.specs.Series.{is_by_day}
 use Rattle.ghcn_series.proofs.ListFacts.{each-weaker}
 use Rattle.ghcn_series.proofs.Lookups.{block-holds}
 use Rattle.ghcn_series.proofs.Members.{contains-in, in-contains}

@@ -9,7 +9,7 @@ use Rattle.std.proofs.lemmas.Bool.{cases_Bool}
 use Rattle.std.proofs.lemmas.Bool.Decides.{nat_tests}
 use Rattle.std.proofs.lemmas.Int.{ints}
 use Rattle.ghcn_fields.specs.Days.{block_of}
-use Rattle.ghcn_series.specs.Series.{DayValue}
+use Rattle.ghcn_series.specs.Meaning.Series.{DayValue}
 use Rattle.ghcn_series.specs.Packed.{Block, block_days, days_of_blocks, blocks_of, AreBlocks, IsPacked, next_block}
 use Rattle.ghcn_series.proofs.Lookups.{block-of_place}
 use Rattle.ghcn_series.proofs.FirstDays.{block-first, fewer}

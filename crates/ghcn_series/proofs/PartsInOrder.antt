@@ -21,7 +21,7 @@ use Rattle.std.proofs.lemmas.Nat.Bits.{bit_at-trailing_zeros}
 use Rattle.std.proofs.lemmas.Simd.{map-map}
 use borrow.Author.Differences.{up, down}
 use Rattle.ghcn_fields.specs.Days.{block_of}
-use Rattle.ghcn_series.specs.Series.{value_on}
+use Rattle.ghcn_series.specs.Meaning.Series.{value_on}
 use Rattle.ghcn_series.specs.Packed.{Block, block_start, if_so, block_days, days_of_blocks, blocks_of, IsPacked}
 use Rattle.ghcn_series.specs.Packed.{AreBlocks, AreRising}
 use Rattle.ghcn_series.specs.Parts.{AreDisjoint, AreParts, AreOrdered, AreEmpty, KeepsOrder, JoinsPart}

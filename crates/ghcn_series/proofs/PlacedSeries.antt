@@ -8,7 +8,7 @@ use Rattle.std.proofs.lemmas.List.{length-set, length-map, get_or-set_same, get_
 use Rattle.ghcn_files.specs.declared.station.Station.{Station}
 use Rattle.ghcn_series.specs.declared.gathering.Gathering.{Gathering}
 use Rattle.ghcn_series.specs.declared.station.StationGathering.{StationGathering}
-use Rattle.ghcn_series.specs.Series.{Usable}
+use Rattle.ghcn_series.specs.Meaning.Series.{Usable}
 use Rattle.ghcn_series.specs.ByPlace.{numbered, by_place, ArePlaced}
 use Rattle.ghcn_series.specs.Gathered.{station_series, series_by_place}
 use Rattle.ghcn_series.proofs.PlacedStations.{at_place, at_most_all}

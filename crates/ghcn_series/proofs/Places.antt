@@ -12,8 +12,9 @@ use Rattle.std.specs.Option.{option_map}
 use Rattle.ghcn_series.proofs.ListFacts.{from_all}
 use Rattle.ghcn_files.specs.declared.station.StationId.{StationId}
 use Rattle.ghcn_files.specs.declared.station.Station.{Station}
-use Rattle.ghcn_files.specs.Ids.{same_id}
-use Rattle.ghcn_files.specs.Listed.{is_station_of, place_of}
+use Rattle.ghcn_files.specs.Meaning.Ids.{same_id}
+use Rattle.ghcn_files.specs.Meaning.Listed.{is_station_of}
+use Rattle.ghcn_files.specs.Listed.{place_of}
 use Rattle.ghcn_series.specs.DailyFaults.{is_listed}
 use Rattle.ghcn_files.proofs.IdLaws.{same_id-is, no_place}
 

@@ -13,7 +13,8 @@ use Rattle.std.proofs.lemmas.Bool.{and_from, and_parts, eqb-false}
 use Rattle.std.proofs.lemmas.List.Sorted.{All-permutation, length_permutation}
 use Rattle.std.proofs.lemmas.List.Sums.{list_all-from_AllPass, AllPass-from_list_all}
 use Rattle.ghcn_files.proofs.Ordered.{sorted-permutation}
-use Rattle.ghcn_fields.specs.Days.{day_number, is_day}
+use Rattle.ghcn_fields.specs.Meaning.Days.{is_day}
+use Rattle.ghcn_fields.specs.Days.{day_number}
 use Rattle.ghcn_fields.specs.Sorting.{sorted_by}
 use Rattle.ghcn_fields.proofs.DayNumbers.{is_day-from_civil}
 use Rattle.ghcn_files.specs.declared.station.StationId.{StationId}
@@ -22,7 +23,8 @@ use Rattle.ghcn_files.specs.declared.month.Month.{Month}
 use Rattle.ghcn_files.specs.declared.month.Reading.{Reading}
 use Rattle.ghcn_files.specs.Months.{is_reading, IsMonth}
 use Rattle.ghcn_series.specs.declared.gathering.Gathering.{Gathering}
-use Rattle.ghcn_series.specs.Series.{DayValue, IsSeries, by_day, is_by_day, is_value}
+use Rattle.ghcn_series.specs.Meaning.Series.{DayValue}
+use Rattle.ghcn_series.specs.Series.{IsSeries, by_day, is_by_day, is_value}
 use Rattle.ghcn_series.specs.Gathered.{usable_day, usable_days, kept_days, same_time, gathered_days}
 use Rattle.ghcn_series.specs.Gathered.{IsGathering, IsReady}
 use Rattle.ghcn_series.proofs.MonthDays.{has_number, civil_of}

@@ -10,9 +10,10 @@ use Rattle.ghcn_fields.specs.Sorting.{sorted_by}
 use Rattle.ghcn_files.specs.declared.element.Element.{Element}
 use Rattle.ghcn_files.specs.declared.station.Station.{Station}
 use Rattle.ghcn_files.specs.declared.station.StationId.{StationId}
-use Rattle.ghcn_files.specs.Elements.{elements}
-use Rattle.ghcn_files.specs.Ids.{same_id}
-use Rattle.ghcn_files.specs.Listed.{Numbered, AreListed, is_repeated, is_station_of, place_of, station_fault}
+use Rattle.ghcn_files.specs.Meaning.Elements.{elements}
+use Rattle.ghcn_files.specs.Meaning.Ids.{same_id}
+use Rattle.ghcn_files.specs.Meaning.Listed.{is_station_of}
+use Rattle.ghcn_files.specs.Listed.{Numbered, AreListed, is_repeated, place_of, station_fault}
 use Rattle.ghcn_files.specs.Listed.{station_lines, stations_of}
 use Rattle.ghcn_files.specs.Months.{IsMonth}
 use Rattle.ghcn_files.specs.StationLines.{id_of, station_of}
@@ -25,7 +26,8 @@ use Rattle.ghcn_series.specs.Held.{IsContents, same_series}
 use Rattle.ghcn_series.specs.Laws.{DataAreRight, ListsAreRight}
 use Rattle.ghcn_series.specs.SaidLists.{facts_said, months_said}
 use Rattle.ghcn_series.specs.Says.{all_series, data_of, usable_of}
-use Rattle.ghcn_series.specs.Series.{Contents, DayValue, IsSeries, Usable, by_day}
+use Rattle.ghcn_series.specs.Meaning.Series.{DayValue, Usable}
+use Rattle.ghcn_series.specs.Series.{Contents, IsSeries, by_day}
 use Rattle.ghcn_series.proofs.AllSeries.{right_of}
 use Rattle.ghcn_series.proofs.DistinctSeries.{stations_apart}
 use Rattle.ghcn_series.proofs.FactsOfMonths.{selected-months}

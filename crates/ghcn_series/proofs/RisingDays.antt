@@ -14,7 +14,7 @@ use Rattle.std.proofs.lemmas.Option.{none-some, same_Some}
 use Rattle.ghcn_series.proofs.ListFacts.{each-weaker, each-append}
 use Rattle.ghcn_series.proofs.JoinedDays.{same_block}
 use Rattle.ghcn_fields.specs.Days.{block_of}
-use Rattle.ghcn_series.specs.Series.{DayValue, value_on}
+use Rattle.ghcn_series.specs.Meaning.Series.{DayValue, value_on}
 use Rattle.ghcn_series.specs.Packed.{Block, block_start, if_so, day_at, block_days, days_from, days_of_blocks, blocks_of}
 use Rattle.ghcn_series.specs.Packed.{AreRising, AreColumns}
 use Rattle.ghcn_series.proofs.Lookups.{no_block, int_eq-no, int_eq-yes, block-holds, blocks-at, blocks-length}

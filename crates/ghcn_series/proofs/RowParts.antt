@@ -10,8 +10,9 @@ use Rattle.std.proofs.lemmas.Int.{ints}
 use Rattle.std.proofs.lemmas.List.{get_or-take, get_or-drop, get_or_append_left, get_or-append_right}
 use Rattle.std.proofs.lemmas.Nat.{shl-shr, shr_split}
 use Rattle.std.proofs.lemmas.Nat.Bits.{bit_at_cat_low, bit_at-zero, bit_at_above}
-use Rattle.ghcn_fields.specs.Days.{is_day, block_of}
-use Rattle.ghcn_series.specs.Series.{DayValue, value_on}
+use Rattle.ghcn_fields.specs.Meaning.Days.{is_day}
+use Rattle.ghcn_fields.specs.Days.{block_of}
+use Rattle.ghcn_series.specs.Meaning.Series.{DayValue, value_on}
 use Rattle.ghcn_series.specs.Packed.{Block, block_start, value_at, days_from, block_days, IsPacked}
 use Rattle.ghcn_series.specs.Parts.{AreNew, AreJoined, IsRow, IsValueFrom, HasBitsOf}
 use Rattle.ghcn_series.proofs.Lookups.{from-value, from-other, block-value, block-other, block-holds, or_none, at_day}

@@ -14,7 +14,7 @@ use Rattle.std.proofs.lemmas.Nat.Bits.{bit_at-trailing_ones, bit_at_ones, bit_at
 use Rattle.std.proofs.lemmas.Nat.Bits.{bit_at-suc, bit_at_set_same, bit_at_set_other}
 use Rattle.std.specs.Int.RustNames.{count_ones}
 use lib.Count.{ones_step}
-use Rattle.ghcn_series.specs.Series.{DayValue}
+use Rattle.ghcn_series.specs.Meaning.Series.{DayValue}
 use Rattle.ghcn_series.specs.Packed.{block_start, day_at, if_so, block_days, days_from, ArePlacesOf, EndsRun, AreInARow}
 use Rattle.ghcn_series.specs.Packed.{TakesRun}
 use Rattle.ghcn_series.proofs.FirstDays.{none-set, shifted-bit}

@@ -1,7 +1,7 @@
 -- Worked examples of runs of days, by computation.
 use Rattle.std.proofs.Common.{◌≡◌, List, [], ◌∷◌, map, refl, arith, pos}
 use Rattle.std.proofs.lemmas.Int.{ints}
-use Rattle.ghcn_series.specs.Series.{DayValue}
+use Rattle.ghcn_series.specs.Meaning.Series.{DayValue}
 use Rattle.ghcn_series.specs.Packed.{run_count, TakesToLastRun}
 
 -- a run of two days, one of a single day, and one of three

@@ -14,9 +14,9 @@ use Rattle.std.proofs.lemmas.Slice.Eq.{slice_eq-Decides}
 use Rattle.jiff_core.proofs.CalendarLemmas.{days_in_month_bounds}
 use Rattle.ghcn_fields.specs.declared.field.Field.{Field}
 use Rattle.ghcn_fields.specs.declared.field.Field.TheVariants.{Number}
-use Rattle.ghcn_fields.specs.Bytes.{is_blank, same_bytes}
+use Rattle.ghcn_fields.specs.Meaning.Bytes.{is_blank, same_bytes}
 use Rattle.ghcn_fields.specs.Days.{day_number}
-use Rattle.ghcn_fields.specs.Lines.{columns, lines}
+use Rattle.ghcn_fields.specs.Meaning.Lines.{columns, lines}
 use Rattle.ghcn_fields.specs.Numbers.{is_bad}
 use Rattle.ghcn_fields.proofs.FieldNumbers.{int_field-number}
 use Rattle.ghcn_fields.proofs.WholeDays.{day_number-law}
@@ -26,14 +26,16 @@ use Rattle.ghcn_files.specs.declared.month.Month.{Month}
 use Rattle.ghcn_files.specs.declared.month.Reading.{Reading}
 use Rattle.ghcn_files.specs.declared.station.Station.{Station}
 use Rattle.ghcn_files.specs.declared.station.StationId.{StationId}
-use Rattle.ghcn_files.specs.Elements.{code_of, element_of, may_be_negative, elements}
+use Rattle.ghcn_files.specs.Meaning.Elements.{code_of, may_be_negative, elements}
+use Rattle.ghcn_files.specs.Elements.{element_of}
 use Rattle.ghcn_files.specs.Months.{days_of_group, is_flagged, month_field, month_head_tests, month_of, month_why}
 use Rattle.ghcn_files.specs.Months.{reading, value_field, value_test, year_field}
 use Rattle.ghcn_files.specs.StationLines.{number_of, unless_missing}
 use Rattle.ghcn_series.specs.DailyFaults.{FileLine, daily_fault, daily_lines, is_listed}
-use Rattle.ghcn_series.specs.Said.{IsSaid, SaysFact}
+use Rattle.ghcn_series.specs.Meaning.Said.{IsSaid, SaysFact}
 use Rattle.ghcn_series.specs.SaidLists.{facts_said, month_said, months_said}
-use Rattle.ghcn_series.specs.Says.{Fact, data_of, fact_of, facts_of, is_usable}
+use Rattle.ghcn_series.specs.Meaning.Says.{Fact}
+use Rattle.ghcn_series.specs.Says.{data_of, fact_of, facts_of, is_usable}
 use Rattle.ghcn_series.specs.Series.{Contents}
 use Rattle.ghcn_series.proofs.CountedLines.{blank_line}
 use Rattle.ghcn_series.proofs.FactsOfMonths.{fact_parts}

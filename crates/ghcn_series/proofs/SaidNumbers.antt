@@ -6,7 +6,7 @@ use Rattle.std.proofs.lemmas.Bool.Decides.{Decides-int_eq}
 use Rattle.std.proofs.lemmas.Int.{ints}
 use Rattle.ghcn_fields.specs.declared.field.Field.{Field}
 use Rattle.ghcn_fields.specs.declared.field.Field.TheVariants.{Blank, Number, Bad}
-use Rattle.ghcn_fields.specs.Fields.{HasNumber}
+use Rattle.ghcn_fields.specs.Meaning.Fields.{HasNumber}
 use Rattle.ghcn_fields.specs.Numbers.{after_blanks, decimal_number, field_of, int_field, is_bad, is_i32, scaled_field}
 use Rattle.ghcn_fields.specs.Numbers.{signed_by}
 use Rattle.ghcn_fields.proofs.DecimalTexts.{signed-from_spells, signed_by-zero}

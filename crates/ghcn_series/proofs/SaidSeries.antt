@@ -14,7 +14,7 @@ use Rattle.ghcn_fields.specs.Sorting.{sorted_by}
 use Rattle.ghcn_files.specs.declared.station.StationId.{StationId}
 use Rattle.ghcn_files.specs.declared.station.Station.{Station}
 use Rattle.ghcn_files.specs.declared.element.Element.{Element}
-use Rattle.ghcn_files.specs.Ids.{same_id}
+use Rattle.ghcn_files.specs.Meaning.Ids.{same_id}
 use Rattle.ghcn_files.specs.Elements.{same_element, element_index}
 use Rattle.ghcn_files.specs.declared.fault.LineWhy.{LineWhy}
 use Rattle.ghcn_files.specs.declared.month.Month.{Month}
@@ -23,10 +23,12 @@ use Rattle.ghcn_files.proofs.Ordered.{sorted-permutation}
 use Rattle.ghcn_files.proofs.IdLaws.{same_id-is}
 use Rattle.ghcn_series.specs.DailyFaults.{is_listed, FileLine, daily_lines, month_on, month_if_ok, daily_fault, repeats}
 use Rattle.ghcn_series.specs.DailyFaults.{same_month}
-use Rattle.ghcn_series.specs.Said.{IsMadeOf, IsSaid}
+use Rattle.ghcn_series.specs.Meaning.Said.{IsMadeOf, IsSaid}
 use Rattle.ghcn_series.specs.SaidLists.{facts_said, months_said}
-use Rattle.ghcn_series.specs.Says.{Fact, data_of}
-use Rattle.ghcn_series.specs.Series.{DayValue, Usable, Contents, by_day, series_of}
+use Rattle.ghcn_series.specs.Meaning.Says.{Fact}
+use Rattle.ghcn_series.specs.Says.{data_of}
+use Rattle.ghcn_series.specs.Meaning.Series.{DayValue, Usable}
+use Rattle.ghcn_series.specs.Series.{Contents, by_day, series_of}
 use Rattle.ghcn_series.specs.declared.fault.DailyWhy.TheVariants.{DuplicateMonth}
 use Rattle.ghcn_series.specs.declared.fault.DataFault.TheVariants.{DailyLine}
 use Rattle.ghcn_series.specs.Gathered.{same_time, months_of}

@@ -5,9 +5,9 @@ use Rattle.std.specs.Prelude.{nat_le, neg_ℤ}
 use Rattle.std.specs.List.{AllByRecursion, AllZip}
 use Rattle.std.proofs.lemmas.Bool.{not-true}
 use Rattle.ghcn_fields.specs.declared.field.Field.TheVariants.{Number}
-use Rattle.ghcn_fields.specs.Bytes.{is_blank}
+use Rattle.ghcn_fields.specs.Meaning.Bytes.{is_blank}
 use Rattle.ghcn_fields.specs.Faults.{first_fault}
-use Rattle.ghcn_fields.specs.Lines.{columns, lines}
+use Rattle.ghcn_fields.specs.Meaning.Lines.{columns, lines}
 use Rattle.ghcn_fields.specs.Numbers.{is_bad}
 use Rattle.ghcn_fields.proofs.FieldNumbers.{scaled_field-number}
 use Rattle.ghcn_files.specs.declared.fault.StationWhy.{StationWhy}
@@ -18,7 +18,7 @@ use Rattle.ghcn_files.specs.Ids.{is_id}
 use Rattle.ghcn_files.specs.Listed.{Numbered, listed, station_fault, station_lines}
 use Rattle.ghcn_files.specs.StationLines.{elevation, is_latitude, is_longitude, latitude, line_why}
 use Rattle.ghcn_files.specs.StationLines.{longitude, number_of, station_of, unless_missing}
-use Rattle.ghcn_series.specs.Said.{SaysStation, SaysStations}
+use Rattle.ghcn_series.specs.Meaning.Said.{SaysStation, SaysStations}
 use Rattle.ghcn_series.specs.SaidLists.{stations_said}
 use Rattle.ghcn_series.proofs.SaidLines.{all_met, are_listed, each_after, listed-said, numbered-kept, own_tests, shown}
 use Rattle.ghcn_series.proofs.SaidNumbers.{same_option, scaled_field-has, scaled-value, within-is}

@@ -19,7 +19,7 @@ use Rattle.ghcn_files.specs.declared.row.MonthRow.{MonthRow}
 use Rattle.ghcn_files.specs.Months.{IsMonth}
 use Rattle.ghcn_files.specs.Rows.{IsRowOf}
 use Rattle.ghcn_series.specs.declared.gathering.Gathering.{Gathering}
-use Rattle.ghcn_series.specs.Series.{value_on}
+use Rattle.ghcn_series.specs.Meaning.Series.{value_on}
 use Rattle.ghcn_series.specs.Steps.{ForMonth, IsRowFor, Gathers}
 use Rattle.ghcn_series.specs.Parts.{AreParts, AreNew, AreJoined}
 use Rattle.ghcn_series.specs.Gathered.{month_count, has_number, same_time, usable_days, gathered_days, kept_days}

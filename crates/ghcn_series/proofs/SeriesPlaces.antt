@@ -14,9 +14,11 @@ use Rattle.ghcn_series.proofs.Lookups.{or_none}
 use Rattle.ghcn_files.specs.declared.station.StationId.{StationId}
 use Rattle.ghcn_files.specs.declared.station.Station.{Station}
 use Rattle.ghcn_files.specs.declared.element.Element.{Element}
-use Rattle.ghcn_files.specs.Ids.{same_id}
-use Rattle.ghcn_files.specs.Listed.{is_station_of, place_of}
-use Rattle.ghcn_series.specs.Series.{Usable, Contents, is_series_of, series_of}
+use Rattle.ghcn_files.specs.Meaning.Ids.{same_id}
+use Rattle.ghcn_files.specs.Meaning.Listed.{is_station_of}
+use Rattle.ghcn_files.specs.Listed.{place_of}
+use Rattle.ghcn_series.specs.Meaning.Series.{Usable}
+use Rattle.ghcn_series.specs.Series.{Contents, is_series_of, series_of}
 use Rattle.ghcn_series.specs.Held.{all_of, is_of_element}
 use Rattle.ghcn_series.proofs.Places.{ids, first_place, listed-is}
 use Rattle.ghcn_files.proofs.IdLaws.{same_id-is, same_id-turned, no_place}

@@ -16,7 +16,8 @@ use Rattle.std.proofs.lemmas.List.Sorted.{Contains-permutation, IsPermutation-sy
 use Rattle.std.proofs.lemmas.Map.Views.{Contains-from_lookup, lookup-from_Contains}
 use Rattle.ghcn_fields.specs.Sorting.{sorted_by}
 use Rattle.ghcn_files.proofs.Ordered as ordered
-use Rattle.ghcn_series.specs.Series.{DayValue, value_on, by_day}
+use Rattle.ghcn_series.specs.Meaning.Series.{DayValue, value_on}
+use Rattle.ghcn_series.specs.Series.{by_day}
 use Rattle.ghcn_series.specs.Packed.{AreRising}
 use Rattle.ghcn_series.proofs.Lookups.{int_eq-yes}
 use Rattle.ghcn_series.proofs.RisingDays.{keys-rise, same-from_values}

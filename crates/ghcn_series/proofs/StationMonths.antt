@@ -16,8 +16,9 @@ use Rattle.ghcn_files.specs.declared.station.StationId.{StationId}
 use Rattle.ghcn_files.specs.declared.element.Element.{Element}
 use Rattle.ghcn_files.specs.declared.element.Keep.{Keep}
 use Rattle.ghcn_files.specs.declared.month.Month.{Month}
-use Rattle.ghcn_files.specs.Ids.{same_id}
-use Rattle.ghcn_files.specs.Elements.{elements, same_element, element_index, is_kept}
+use Rattle.ghcn_files.specs.Meaning.Ids.{same_id}
+use Rattle.ghcn_files.specs.Meaning.Elements.{elements}
+use Rattle.ghcn_files.specs.Elements.{same_element, element_index, is_kept}
 use Rattle.ghcn_series.specs.declared.gathering.Gathering.{Gathering}
 use Rattle.ghcn_series.specs.DailyFaults.{same_month}
 use Rattle.ghcn_series.specs.Gathered.{same_time, has_month_of, months_of, IsGathering, IsGatheringOf}

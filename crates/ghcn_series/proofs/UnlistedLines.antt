@@ -8,18 +8,18 @@ use Rattle.std.proofs.lemmas.Grind.{flat_map-append}
 use Rattle.std.proofs.lemmas.List.Elements.{filter_map-append}
 use Rattle.std.proofs.lemmas.List.Recursion.{is_count_by}
 use Rattle.std.proofs.lemmas.List.Sums.{sum_by-append, sum_by-cons}
-use Rattle.ghcn_fields.specs.Bytes.{same_bytes}
-use Rattle.ghcn_fields.specs.Lines.{columns, lines}
+use Rattle.ghcn_fields.specs.Meaning.Bytes.{same_bytes}
+use Rattle.ghcn_fields.specs.Meaning.Lines.{columns, lines}
 use Rattle.ghcn_files.specs.declared.element.Element.{Element}
 use Rattle.ghcn_files.specs.declared.month.Month.{Month}
 use Rattle.ghcn_files.specs.declared.station.Station.{Station}
-use Rattle.ghcn_files.specs.Elements.{code_of, elements}
+use Rattle.ghcn_files.specs.Meaning.Elements.{code_of, elements}
 use Rattle.ghcn_files.specs.Months.{month_of}
 use Rattle.ghcn_files.specs.StationLines.{id_of}
 use Rattle.ghcn_series.specs.DailyFaults.{is_listed}
 use Rattle.ghcn_series.specs.JoinedFiles.{files_together}
 use Rattle.ghcn_series.specs.Laws.{UnlistedAddUp}
-use Rattle.ghcn_series.specs.Said.{is_unlisted}
+use Rattle.ghcn_series.specs.Meaning.Said.{is_unlisted}
 use Rattle.ghcn_series.specs.SaidLists.{month_said, months_said, unlisted_said}
 use Rattle.ghcn_series.specs.Says.{in_64_bits}
 

@@ -1,7 +1,7 @@
 -- Lines of daily files of which nothing that is read, counted or refused differs.
 use Rattle.std.specs.Prelude.{◌≡◌, ℕ, List, ◌++◌, take, drop}
 use Rattle.std.specs.Str.Lines.{strip_carriage_return}
-use Rattle.ghcn_fields.specs.Bytes.{is_blank}
+use Rattle.ghcn_fields.specs.Meaning.Bytes.{is_blank}
 
 -- two lines are alike: they have the same columns, and only blanks follow the last column of both or of neither
 pub record AreAlike (a b : List ℕ) : Type 0 where

@@ -3,8 +3,9 @@ use Rattle.std.specs.Prelude.{◌≡◌, ℕ, ◌+◌, ◌==◌, nat_lt, Bool, f
 use Rattle.std.specs.Prelude.{List, ◌++◌, length, Some}
 use Rattle.std.specs.List.{list_any, count_by}
 use Rattle.std.specs.Option.{option_or, option_map}
-use Rattle.ghcn_fields.specs.Bytes.{is_blank}
-use Rattle.ghcn_fields.specs.Lines.{lines, EndsLine}
+use Rattle.ghcn_fields.specs.Meaning.Bytes.{is_blank}
+use Rattle.ghcn_fields.specs.Meaning.Lines.{lines}
+use Rattle.ghcn_fields.specs.Lines.{EndsLine}
 use Rattle.ghcn_series.specs.declared.counts.Foreign.{Foreign}
 use Rattle.ghcn_series.specs.declared.counts.LinePlace.{LinePlace}
 use Rattle.ghcn_series.specs.declared.counts.OddLines.{OddLines}

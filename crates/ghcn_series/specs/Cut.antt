@@ -2,7 +2,8 @@
 use Rattle.std.specs.Prelude.{◌≡◌, ℕ, ◌+◌, ◌^◌, ◌≤◌, nat_lt, nat_le, ◌⊎◌, Bool, true, false, ◌&&◌}
 use Rattle.std.specs.Prelude.{List, [], ◌++◌, length, Option, None, Some, is_none}
 use Rattle.std.specs.Str.Lines.{strip_carriage_return}
-use Rattle.ghcn_fields.specs.Lines.{lines, HasNoLineFeed, EndsLine}
+use Rattle.ghcn_fields.specs.Meaning.Lines.{lines}
+use Rattle.ghcn_fields.specs.Lines.{HasNoLineFeed, EndsLine}
 use Rattle.ghcn_fields.specs.Refusals.{IsRefusal}
 use Rattle.ghcn_series.specs.declared.cutter.Cut.{Cut}
 use Rattle.ghcn_series.specs.declared.cutter.Cutter.{Cutter}

@@ -4,16 +4,16 @@ use Rattle.std.specs.Prelude.{map, Option, None, Some, Result, Ok, Err, filter, 
 use Rattle.std.specs.List.{list_any, flat_map, filter_map, enumerate_from}
 use Rattle.std.specs.Option.{option_map}
 use Rattle.std.specs.Str.Lines.{strip_carriage_return}
-use Rattle.ghcn_fields.specs.Bytes.{is_blank}
+use Rattle.ghcn_fields.specs.Meaning.Bytes.{is_blank}
 use Rattle.ghcn_fields.specs.Lines.{numbered_lines}
 use Rattle.ghcn_fields.specs.Faults.{IsFirstFault}
 use Rattle.ghcn_files.specs.declared.station.StationId.{StationId}
 use Rattle.ghcn_files.specs.declared.station.Station.{Station}
 use Rattle.ghcn_files.specs.declared.month.Month.{Month}
 use Rattle.ghcn_files.specs.declared.fault.LineWhy.{LineWhy}
-use Rattle.ghcn_files.specs.Ids.{same_id}
+use Rattle.ghcn_files.specs.Meaning.Ids.{same_id}
 use Rattle.ghcn_files.specs.Elements.{same_element}
-use Rattle.ghcn_files.specs.Listed.{is_station_of}
+use Rattle.ghcn_files.specs.Meaning.Listed.{is_station_of}
 use Rattle.ghcn_files.specs.Months.{read_month}
 use Rattle.ghcn_series.specs.declared.fault.DailyWhy.{DailyWhy}
 use Rattle.ghcn_series.specs.declared.fault.DailyWhy.TheVariants.{Line, DuplicateMonth}

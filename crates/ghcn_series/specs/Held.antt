@@ -3,10 +3,11 @@ use Rattle.std.specs.Prelude.{◌≡◌, ℕ, Bool, true, ◌&&◌, List}
 use Rattle.std.specs.List.{flat_map, IsDistinct, AllByRecursion, AllZip}
 use Rattle.ghcn_files.specs.declared.station.Station.{Station}
 use Rattle.ghcn_files.specs.declared.element.Element.{Element}
-use Rattle.ghcn_files.specs.Ids.{same_id}
+use Rattle.ghcn_files.specs.Meaning.Ids.{same_id}
 use Rattle.ghcn_files.specs.Elements.{same_element}
 use Rattle.ghcn_files.specs.Listed.{AreListed}
-use Rattle.ghcn_series.specs.Series.{Usable, Contents, IsSeries}
+use Rattle.ghcn_series.specs.Meaning.Series.{Usable}
+use Rattle.ghcn_series.specs.Series.{Contents, IsSeries}
 use Rattle.ghcn_series.specs.DailyFaults.{is_listed}
 
 -- two series have the same station and element

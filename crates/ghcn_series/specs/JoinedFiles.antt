@@ -3,9 +3,11 @@ use Rattle.std.specs.Prelude.{◌≡◌, ℕ, List, Ok}
 use Rattle.std.specs.List.{flat_map, IsDistinct, AllZip}
 use Rattle.std.specs.List.Sorted.{IsPermutation}
 use Rattle.ghcn_files.specs.declared.station.Station.{Station}
-use Rattle.ghcn_series.specs.Series.{Usable, Contents}
+use Rattle.ghcn_series.specs.Meaning.Series.{Usable}
+use Rattle.ghcn_series.specs.Series.{Contents}
 use Rattle.ghcn_series.specs.DailyFaults.{daily_lines}
-use Rattle.ghcn_series.specs.Says.{Fact, usable_facts, data_of}
+use Rattle.ghcn_series.specs.Meaning.Says.{Fact}
+use Rattle.ghcn_series.specs.Says.{usable_facts, data_of}
 use Rattle.ghcn_series.specs.Held.{same_series}
 
 -- the facts that count, of some files

@@ -1,14 +1,15 @@
 -- What is true of all that files without an error hold, as statements for the contracts of public functions.
 use Rattle.std.specs.Prelude.{◌≡◌, ◌↔◌, ℕ, ◌-◌, ◌^◌, min, true, List, Some, Ok, map}
 use Rattle.std.specs.List.{count_by, flat_map, sum}
-use Rattle.ghcn_fields.specs.Lines.{lines}
+use Rattle.ghcn_fields.specs.Meaning.Lines.{lines}
 use Rattle.ghcn_files.specs.declared.station.Station.{Station}
 use Rattle.ghcn_files.specs.Listed.{listed, AreListed}
 use Rattle.ghcn_series.specs.DailyFaults.{is_listed}
-use Rattle.ghcn_series.specs.Series.{Contents, Usable, series_of}
+use Rattle.ghcn_series.specs.Meaning.Series.{Usable}
+use Rattle.ghcn_series.specs.Series.{Contents, series_of}
 use Rattle.ghcn_series.specs.Held.{IsContents}
 use Rattle.ghcn_series.specs.JoinedFiles.{files_together}
-use Rattle.ghcn_series.specs.Said.{IsMadeOf, IsSaid, SaysStations, is_unlisted}
+use Rattle.ghcn_series.specs.Meaning.Said.{IsMadeOf, IsSaid, SaysStations, is_unlisted}
 use Rattle.ghcn_series.specs.SaidLists.{unlisted_said}
 use Rattle.ghcn_series.specs.Says.{data_of, in_64_bits}
 

@@ -1,3 +1,4 @@
+pub mod Meaning
 pub mod Series
 pub mod DailyFaults
 pub mod Says
@@ -16,7 +17,6 @@ pub mod Cut
 pub mod Packed
 pub mod Parts
 pub mod JoinedFiles
-pub mod Said
 pub mod SaidLists
 pub mod FaultTexts
 pub mod Laws

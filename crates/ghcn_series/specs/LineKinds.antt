@@ -4,8 +4,8 @@ use Rattle.std.specs.Prelude.{List, [], ◌∷◌, map, filter, drop, get_or}
 use Rattle.std.specs.List.{flat_map, list_any, list_all, count_by, enumerate_from, slice_get, find}
 use Rattle.std.specs.Option.{is_some, option_map}
 use Rattle.std.specs.Char.{is_ascii_uppercase, is_ascii_digit}
-use Rattle.ghcn_fields.specs.Bytes.{is_blank}
-use Rattle.ghcn_fields.specs.Lines.{columns, lines}
+use Rattle.ghcn_fields.specs.Meaning.Bytes.{is_blank}
+use Rattle.ghcn_fields.specs.Meaning.Lines.{columns, lines}
 use Rattle.ghcn_files.specs.Elements.{element_of}
 use Rattle.ghcn_series.specs.declared.counts.LineKind.{LineKind}
 use Rattle.ghcn_series.specs.declared.counts.LineKind.TheVariants.{Blank, OfElement, Other, Odd}

@@ -6,9 +6,10 @@ use Rattle.std.specs.Int.{bit_at, int_rem_euclid, trailing_zeros, w32}
 use Rattle.std.specs.List.{Contains, find, filter_map, flat_map, range_with_len, zip, AllByRecursion}
 use Rattle.std.specs.Option.{option_map}
 use Rattle.std.specs.Ordering.{int_eq}
-use Rattle.ghcn_fields.specs.Days.{is_day, block_of}
+use Rattle.ghcn_fields.specs.Meaning.Days.{is_day}
+use Rattle.ghcn_fields.specs.Days.{block_of}
 pub use Rattle.ghcn_files.specs.Rows.{if_so, value_at}
-use Rattle.ghcn_series.specs.Series.{DayValue, value_on}
+use Rattle.ghcn_series.specs.Meaning.Series.{DayValue, value_on}
 
 -- a block: its number, its word and the values of its days
 abbrev pub Block : Type 0

@@ -5,8 +5,8 @@ use Rattle.std.specs.Int.{bit_at}
 use Rattle.std.specs.List.{range_with_len}
 use Rattle.std.specs.List.Sorted.{IsPermutation}
 use Rattle.std.specs.Option.{option_or}
-use Rattle.ghcn_series.specs.Series.{DayValue, value_on}
-use Rattle.ghcn_fields.specs.Days.{is_day}
+use Rattle.ghcn_series.specs.Meaning.Series.{DayValue, value_on}
+use Rattle.ghcn_fields.specs.Meaning.Days.{is_day}
 use Rattle.ghcn_series.specs.Packed.{Block, block_start, days_from, block_days, days_of_blocks, blocks_of, Rise, AreBlocks}
 use Rattle.ghcn_series.specs.declared.parts.Parts.{Parts}
 

@@ -4,15 +4,16 @@
 use Rattle.std.specs.Prelude.{ℕ, not, List, map, filter, Option}
 use Rattle.std.specs.List.{filter_map, flat_map, count_by}
 use Rattle.std.specs.Option.{option_map}
-use Rattle.ghcn_fields.specs.Bytes.{is_blank}
-use Rattle.ghcn_fields.specs.Lines.{columns, lines}
+use Rattle.ghcn_fields.specs.Meaning.Bytes.{is_blank}
+use Rattle.ghcn_fields.specs.Meaning.Lines.{columns, lines}
 use Rattle.ghcn_files.specs.declared.month.Month.{Month}
 use Rattle.ghcn_files.specs.declared.station.Station.{Station}
 use Rattle.ghcn_files.specs.Elements.{element_of}
 use Rattle.ghcn_files.specs.Months.{month_of}
 use Rattle.ghcn_files.specs.StationLines.{station_of}
 use Rattle.ghcn_series.specs.DailyFaults.{is_listed}
-use Rattle.ghcn_series.specs.Says.{Fact, facts_of, is_usable, all_series, in_64_bits}
+use Rattle.ghcn_series.specs.Meaning.Says.{Fact}
+use Rattle.ghcn_series.specs.Says.{facts_of, is_usable, all_series, in_64_bits}
 use Rattle.ghcn_series.specs.Series.{Contents}
 
 -- the stations of a list, in its order: one for each line that isn't blank

@@ -10,19 +10,15 @@ use Rattle.ghcn_files.specs.declared.element.Element.{Element}
 use Rattle.ghcn_files.specs.declared.station.Station.{Station}
 use Rattle.ghcn_files.specs.declared.month.Month.{Month}
 use Rattle.ghcn_files.specs.declared.month.Reading.{Reading}
-use Rattle.ghcn_files.specs.Ids.{same_id}
-use Rattle.ghcn_files.specs.Elements.{same_element, elements, may_be_negative}
+use Rattle.ghcn_files.specs.Meaning.Ids.{same_id}
+use Rattle.ghcn_files.specs.Meaning.Elements.{elements, may_be_negative}
+use Rattle.ghcn_files.specs.Elements.{same_element}
 use Rattle.ghcn_series.specs.declared.fault.DataFault.{DataFault}
 use Rattle.ghcn_series.specs.declared.fault.DataFault.TheVariants.{TooManyFiles}
-use Rattle.ghcn_series.specs.Series.{DayValue, Usable, Contents}
+use Rattle.ghcn_series.specs.Meaning.Series.{DayValue, Usable}
+use Rattle.ghcn_series.specs.Series.{Contents}
 use Rattle.ghcn_series.specs.DailyFaults.{FileLine, daily_lines, month_on, is_listed, daily_fault}
-
--- a station, an element, a day and the value that a line gives it
-pub record Fact : Type 0 where
-  pub id : StationId
-  pub element : Element
-  pub day : ℤ
-  pub value : ℤ
+use Rattle.ghcn_series.specs.Meaning.Says.{Fact}
 
 -- what a month says on a day: nothing if the value is flagged, or if there is no such day or no value
 abbrev pub fact_if : Month → Bool → Option ℤ → Option ℤ → Option Fact

@@ -1,25 +1,15 @@
--- What contracts see of a series and of all data.
+-- What contracts see of all data, and what is true of each series.
 use Rattle.std.specs.Prelude.{ℕ, ◌<◌, Bool, true, ◌&&◌, ◌||◌, List, [], ◌∷◌, length, Option, ℤ, pos, neg_ℤ, int_le}
 use Rattle.std.specs.Prelude.{int_lt, IsTrue}
 use Rattle.std.specs.List.{list_all, find}
-use Rattle.std.specs.Option.{option_map}
-use Rattle.std.specs.Ordering.{int_eq}
-use Rattle.ghcn_fields.specs.Days.{is_day}
+use Rattle.ghcn_fields.specs.Meaning.Days.{is_day}
 use Rattle.ghcn_files.specs.declared.station.StationId.{StationId}
 use Rattle.ghcn_files.specs.declared.element.Element.{Element}
 use Rattle.ghcn_files.specs.declared.station.Station.{Station}
-use Rattle.ghcn_files.specs.Ids.{same_id}
-use Rattle.ghcn_files.specs.Elements.{same_element, may_be_negative}
-
--- a day, by its number, and its value, in the unit of the element
-abbrev pub DayValue : Type 0
-DayValue = ℤ × ℤ
-
--- a series: the usable days of one station and one element, each with its value, in order of day
-pub record Usable : Type 0 where
-  pub id : StationId
-  pub element : Element
-  pub days : List DayValue
+use Rattle.ghcn_files.specs.Meaning.Ids.{same_id}
+use Rattle.ghcn_files.specs.Meaning.Elements.{may_be_negative}
+use Rattle.ghcn_files.specs.Elements.{same_element}
+use Rattle.ghcn_series.specs.Meaning.Series.{DayValue, Usable}
 
 -- the listed stations in file order; of each, in that order, its series, by element; and how many lines of unlisted
 -- stations were skipped
@@ -27,10 +17,6 @@ pub record Contents : Type 0 where
   pub stations : List Station
   pub series : List Usable
   pub unlisted : ℕ
-
--- the value of a day, if it is one of these days
-abbrev pub value_on : List DayValue → ℤ → Option ℤ
-value_on days day = option_map (λ x. x.1) (find (λ x. int_eq x.0 day) days)
 
 -- the first comes no later than the second
 abbrev pub by_day : DayValue → DayValue → Bool

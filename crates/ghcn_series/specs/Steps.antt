@@ -7,7 +7,7 @@ use Rattle.ghcn_files.specs.declared.station.StationId.{StationId}
 use Rattle.ghcn_files.specs.declared.station.Station.{Station}
 use Rattle.ghcn_files.specs.declared.row.MonthRow.{MonthRow}
 use Rattle.ghcn_files.specs.declared.element.Keep.{Keep}
-use Rattle.ghcn_files.specs.Elements.{elements}
+use Rattle.ghcn_files.specs.Meaning.Elements.{elements}
 use Rattle.ghcn_files.specs.Months.{IsMonth}
 use Rattle.ghcn_files.specs.Rows.{IsRowOf}
 use Rattle.ghcn_series.specs.declared.gathering.Gathering.{Gathering}

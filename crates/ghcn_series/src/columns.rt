@@ -4,7 +4,7 @@ ghost use Rattle.std.specs.Prelude.{◌≡◌, ◌-◌, ◌<◌, ◌≤◌, ◌*
 ghost use Rattle.std.specs.List.{find};
 ghost use Rattle.std.specs.Option.{option_map};
 ghost use Rattle.ghcn_fields.specs.Days.{IsBlock, day_if};
-ghost use Rattle.ghcn_series.specs.Series.{value_on};
+ghost use Rattle.ghcn_series.specs.Meaning.Series.{value_on};
 ghost use Rattle.ghcn_series.specs.Packed as packed;
 
 use crate::days::{Days, day_at};
@@ -21,7 +21,7 @@ pub(crate) struct Columns {
 
 impl Model for Columns {
     ghost use Rattle.std.specs.Prelude.{List};
-    ghost use Rattle.ghcn_series.specs.Series.{DayValue};
+    ghost use Rattle.ghcn_series.specs.Meaning.Series.{DayValue};
     ghost use Rattle.ghcn_series.specs.Packed.{days_of_blocks, blocks_of, AreColumns};
 
     ghost Value = { List DayValue };

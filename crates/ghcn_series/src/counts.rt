@@ -2,7 +2,7 @@
 
 ghost use Rattle.std.specs.Prelude.{◌≡◌, ℕ, ◌≤◌, ◌^◌, ◌&&◌, ◌||◌, if◌then◌else◌, not};
 ghost use Rattle.std.specs.Prelude.{List, [], ◌∷◌, ◌++◌, length, IfSome};
-ghost use Rattle.ghcn_fields.specs.Lines as text;
+ghost use Rattle.ghcn_fields.specs.Meaning.Lines as text;
 ghost use Rattle.ghcn_series.specs.LineKinds.{line_kind, foreign_of, odd_among, warnings_of};
 ghost use Rattle.ghcn_series.specs.Counted.{HaveCounted, CountsLine, AddsForeign, with_odd};
 ghost use Rattle.ghcn_series.specs.Counted.{JoinsForeign, JoinsOdd, JoinsCounts, CutsForeign};

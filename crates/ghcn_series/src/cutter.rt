@@ -20,7 +20,7 @@ use std::alloc::Global;
 /// Reads the lines of daily files one after another, and makes something of them.
 pub trait LineReader: Drop {
     ghost use Rattle.std.specs.Prelude.{◌≡◌, ℕ, false, List, [], IfOk, IfErr, OnOk};
-    ghost use Rattle.ghcn_fields.specs.Bytes.{is_blank};
+    ghost use Rattle.ghcn_fields.specs.Meaning.Bytes.{is_blank};
     ghost use Rattle.ghcn_files.specs.declared.element.Keep.{Keep};
     ghost use Rattle.ghcn_files.specs.declared.station.Station.{Station};
     ghost use Rattle.ghcn_series.specs.DailyFaults.{FileLine};

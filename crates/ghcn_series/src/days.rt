@@ -4,7 +4,8 @@ ghost use Rattle.std.specs.Prelude.{◌≡◌, ◌↔◌, ℕ, ◌<◌, ◌≤�
 ghost use Rattle.std.specs.Prelude.{IfSome, IfNone, length, slice_get, filter, int_le, int_lt};
 ghost use Rattle.std.specs.List.{AllByRecursion};
 ghost use Rattle.std.specs.Option.{option_map};
-ghost use Rattle.ghcn_fields.specs.Days.{IsBlock, is_day};
+ghost use Rattle.ghcn_fields.specs.Meaning.Days.{is_day};
+ghost use Rattle.ghcn_fields.specs.Days.{IsBlock};
 ghost use Rattle.ghcn_series.specs.Packed as packed;
 
 use ghcn_fields::Day;
@@ -21,7 +22,7 @@ pub struct BlockDays<'a> {
 
 impl<'a> Model for BlockDays<'a> {
     ghost use Rattle.std.specs.Prelude.{List};
-    ghost use Rattle.ghcn_series.specs.Series.{DayValue};
+    ghost use Rattle.ghcn_series.specs.Meaning.Series.{DayValue};
     ghost use Rattle.ghcn_series.specs.Packed.{block_days, AreCalendarDays};
 
     ghost Value = { List DayValue };
@@ -260,7 +261,7 @@ struct Blocks<'a> {
 
 impl<'a> Model for Blocks<'a> {
     ghost use Rattle.std.specs.Prelude.{List, drop};
-    ghost use Rattle.ghcn_series.specs.Series.{DayValue};
+    ghost use Rattle.ghcn_series.specs.Meaning.Series.{DayValue};
     ghost use Rattle.ghcn_series.specs.Packed.{days_of_blocks, blocks_of, AreBlocks};
 
     ghost Value = { List DayValue };
@@ -306,7 +307,7 @@ pub struct Days<'a> {
 
 impl<'a> Model for Days<'a> {
     ghost use Rattle.std.specs.Prelude.{List, ◌++◌};
-    ghost use Rattle.ghcn_series.specs.Series.{DayValue};
+    ghost use Rattle.ghcn_series.specs.Meaning.Series.{DayValue};
 
     ghost Value = { List DayValue };
 

@@ -2,7 +2,7 @@
 
 ghost use Rattle.std.specs.Prelude.{◌≡◌, ◌<◌, length, drop};
 ghost use Rattle.std.specs.Char.{is_ascii_uppercase};
-ghost use Rattle.ghcn_fields.specs.Bytes as bytes;
+ghost use Rattle.ghcn_fields.specs.Meaning.Bytes as bytes;
 ghost use Rattle.ghcn_series.specs.LineKinds as kinds;
 
 use ghcn_fields::is_blank;

@@ -4,7 +4,8 @@ ghost use Rattle.std.specs.Prelude.{◌≡◌, ◌<◌, ◌-◌, ◌==◌, ◌&&
 ghost use Rattle.std.specs.Prelude.{IfOk, OnOk, IsTrue};
 ghost use Rattle.std.specs.Prelude.{nat_lt, int_lt, length, slice_index_or};
 ghost use Rattle.std.specs.Ordering.{int_eq};
-ghost use Rattle.ghcn_fields.specs.Days.{IsBlock, is_day};
+ghost use Rattle.ghcn_fields.specs.Meaning.Days.{is_day};
+ghost use Rattle.ghcn_fields.specs.Days.{IsBlock};
 ghost use Rattle.ghcn_fields.specs.Sorting.{sorted_by};
 ghost use Rattle.ghcn_series.specs.Series.{by_day};
 ghost use Rattle.ghcn_series.specs.Packed as packed;

@@ -2,7 +2,8 @@
 
 ghost use Rattle.std.specs.Prelude.{◌≡◌, ◌-◌, length, slice_get, IfSome, IfNone};
 ghost use Rattle.std.specs.Option.{option_map};
-ghost use Rattle.ghcn_series.specs.Series.{IsSeries, value_on};
+ghost use Rattle.ghcn_series.specs.Meaning.Series.{value_on};
+ghost use Rattle.ghcn_series.specs.Series.{IsSeries};
 ghost use Rattle.ghcn_series.specs.Packed.{IsBlockOf, HasNone, IsNextBlock, next_block};
 
 use crate::columns::Columns;
@@ -23,7 +24,8 @@ pub struct Series {
 }
 
 impl Model for Series {
-    ghost use Rattle.ghcn_series.specs.Series.{Usable, IsSeries};
+    ghost use Rattle.ghcn_series.specs.Meaning.Series.{Usable};
+    ghost use Rattle.ghcn_series.specs.Series.{IsSeries};
 
     ghost Value = { Usable };
 

@@ -2,7 +2,8 @@
 
 ghost use Rattle.std.specs.Prelude.{◌≡◌, length, map, IfOk, OnOk};
 ghost use Rattle.std.specs.List.{AllByRecursion};
-ghost use Rattle.ghcn_files.specs.Elements.{elements, element_index, is_kept};
+ghost use Rattle.ghcn_files.specs.Meaning.Elements.{elements};
+ghost use Rattle.ghcn_files.specs.Elements.{element_index, is_kept};
 ghost use Rattle.ghcn_series.specs.Gathered as gathered;
 ghost use Rattle.ghcn_series.specs.Parts.{AreEmpty};
 ghost use Rattle.ghcn_series.specs.Steps.{GathersNothing, FiveGatherSome, FiveGather, IsForMonth, ForMonth};

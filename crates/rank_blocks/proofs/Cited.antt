@@ -23,23 +23,25 @@ pub use Rattle.std.specs.Int.{bit_at, bit_not, from_bool, int_max, int_min, lead
 pub use Rattle.std.specs.List.{AllByRecursion, list_any, range_with_len}
 unfoldable pub use Rattle.std.specs.List.Sorted.{IsStrictlySortedBy}
 pub use Rattle.std.specs.Option.{option_map_or}
-pub use Rattle.ghcn_fields.specs.Days.{IsBlock, block_of, first_day, is_day, last_day}
+pub use Rattle.ghcn_fields.specs.Meaning.Days.{first_day, is_day, last_day}
+pub use Rattle.ghcn_fields.specs.Days.{IsBlock, block_of}
 pub use Rattle.ghcn_fields.specs.Sorting.{greatest}
 pub use Rattle.ghcn_files.specs.declared.element.Element.{Element}
 pub use Rattle.ghcn_series.proofs.ListFacts.{each-append}
 pub use Rattle.ghcn_series.proofs.Lookups.{block-holds, block-of_place, int_eq-no, int_eq-yes}
+pub use Rattle.ghcn_series.specs.Meaning.Series.{DayValue, Usable, value_on}
 pub use Rattle.ghcn_series.specs.Packed.{AreRising, HasNone, IsBlockOf, block_days, day_from, next_block}
 unfoldable pub use Rattle.ghcn_series.specs.Packed.{days_from}
-pub use Rattle.ghcn_series.specs.Series.{DayValue, IsSeries, Usable, is_value, value_on}
-pub use Rattle.rank_query.specs.Admits.{admits_day}
-pub use Rattle.rank_query.specs.Asked.{Asked, IsAsked, score_element}
+pub use Rattle.ghcn_series.specs.Series.{IsSeries, is_value}
+pub use Rattle.rank_query.specs.Meaning.Admits.{admits_day}
+pub use Rattle.rank_query.specs.Meaning.Asked.{Asked, IsAsked, score_element}
 pub use Rattle.rank_query.specs.declared.score.Score.{Score}
 pub use Rattle.rank_query.specs.declared.score.Score.TheVariants.{Cold, Dry, Highest, Hot, Lowest, Sum, Wet}
 pub use Rattle.rank_scores.proofs.Rising.{admitted-rise, from_both, from_each, rise-filter, rise-from_by_day, values_stand}
 pub use Rattle.rank_scores.proofs.Runs.{counted}
 pub use Rattle.rank_scores.proofs.Totals.{total-days}
-pub use Rattle.rank_scores.specs.Candidates.{Days, Spells, Windows, admitted, begun, candidate, contenders_among}
-pub use Rattle.rank_scores.specs.Candidates.{is_such, shape, sum_of_values, test_of, window_total}
+pub use Rattle.rank_scores.specs.Candidates.{begun, candidate, contenders_among, test_of, window_total}
+pub use Rattle.rank_scores.specs.Meaning.Candidates.{Days, Spells, Windows, admitted, is_such, shape, sum_of_values}
 pub use Rattle.rank_scores.specs.Morsels.{IsAskedOf}
 pub use Rattle.rank_scores.specs.Runs.{calendar_len, longest_run, run_len}
 unfoldable pub use Rattle.rank_scores.specs.Runs.{run_from}

@@ -2,10 +2,11 @@
 use Rattle.std.specs.Prelude.{ℕ, Bool, ◌&&◌, List, [], ◌∷◌, map, filter, Option, ℤ, pos, ◌+ℤ◌, int_le, int_lt}
 use Rattle.std.specs.Option.{unwrap_or}
 use Rattle.std.specs.Ordering.{int_eq}
-use Rattle.ghcn_fields.specs.Days.{block_of, first_day, last_day}
+use Rattle.ghcn_fields.specs.Meaning.Days.{first_day, last_day}
+use Rattle.ghcn_fields.specs.Days.{block_of}
 pub use Rattle.ghcn_series.specs.Packed.{block_start}
-use Rattle.ghcn_series.specs.Series.{DayValue, Usable}
-use Rattle.rank_query.specs.Asked.{Asked}
+use Rattle.ghcn_series.specs.Meaning.Series.{DayValue, Usable}
+use Rattle.rank_query.specs.Meaning.Asked.{Asked}
 
 -- the first day and the last day of the period, or of the calendar if there is none
 abbrev pub period_of : Option (ℤ × ℤ) → ℤ × ℤ

@@ -7,11 +7,12 @@ use Rattle.std.specs.Int.{int_min}
 use Rattle.std.specs.Ordering.{int_eq}
 use Rattle.ghcn_fields.specs.Days.{block_of}
 use Rattle.ghcn_fields.specs.Sorting.{greatest}
-use Rattle.ghcn_series.specs.Series.{DayValue, Usable}
+use Rattle.ghcn_series.specs.Meaning.Series.{DayValue, Usable}
 use Rattle.rank_query.specs.declared.score.Score.{Score}
 use Rattle.rank_query.specs.declared.score.Score.TheVariants.{Highest, Lowest, Sum, Dry, Wet, Hot, Cold}
-use Rattle.rank_query.specs.Asked.{Asked}
-use Rattle.rank_scores.specs.Candidates.{is_such, test_of}
+use Rattle.rank_query.specs.Meaning.Asked.{Asked}
+use Rattle.rank_scores.specs.Meaning.Candidates.{is_such}
+use Rattle.rank_scores.specs.Candidates.{test_of}
 use Rattle.rank_scores.specs.declared.spell.Spell.TheVariants as spells
 use Rattle.rank_scores.specs.Runs.{longest_run}
 use Rattle.rank_blocks.specs.Blocks.{is_reached, days_reached, blocks_total}

@@ -1,9 +1,10 @@
 -- What the summaries of the blocks of a range say.
 use Rattle.std.specs.Prelude.{◌≡◌, ℕ, Bool, true, ◌&&◌, List, map, filter, ℤ, pos, neg_ℤ, ◌≤ℤ◌, int_le}
 use Rattle.ghcn_fields.specs.Days.{block_of}
-use Rattle.ghcn_series.specs.Series.{DayValue}
-use Rattle.rank_query.specs.Asked.{Asked}
-use Rattle.rank_scores.specs.Candidates.{is_such, test_of}
+use Rattle.ghcn_series.specs.Meaning.Series.{DayValue}
+use Rattle.rank_query.specs.Meaning.Asked.{Asked}
+use Rattle.rank_scores.specs.Candidates.{test_of}
+use Rattle.rank_scores.specs.Meaning.Candidates.{is_such}
 use Rattle.rank_scores.specs.declared.spell.Spell.{Spell}
 use Rattle.rank_scores.specs.declared.spell.Spell.TheVariants.{Dry, Wet, Hot, Cold}
 use Rattle.rank_blocks.specs.declared.range.BlockRange.{BlockRange}

@@ -3,8 +3,10 @@ use Rattle.std.specs.Prelude.{◌≡◌, ℕ, List, map, Option, None, Some, ℤ
 use Rattle.std.specs.List.{AllByRecursion, Contains}
 use Rattle.std.specs.List.Sorted.{IsStrictlySortedBy}
 use Rattle.std.specs.Ordering.{int_cmp}
-use Rattle.ghcn_fields.specs.Days.{block_of, first_day}
-use Rattle.ghcn_series.specs.Series.{DayValue, Usable, IsSeries}
+use Rattle.ghcn_fields.specs.Meaning.Days.{first_day}
+use Rattle.ghcn_fields.specs.Days.{block_of}
+use Rattle.ghcn_series.specs.Meaning.Series.{DayValue, Usable}
+use Rattle.ghcn_series.specs.Series.{IsSeries}
 use Rattle.rank_query.specs.declared.score.Score.{Score}
 use Rattle.rank_query.specs.declared.score.Score.TheVariants.{Highest, Lowest, Sum, Dry, Wet, Hot, Cold}
 use Rattle.rank_scores.specs.declared.spell.Spell.{Spell}

@@ -2,8 +2,8 @@
 
 ghost use Rattle.std.specs.Prelude.{◌≡◌, ◌<◌, ◌+◌, ◌-ℤ◌, unsigned_abs, Some, IfOk};
 ghost use Rattle.ghcn_fields.specs.Days.{block_of};
-ghost use Rattle.ghcn_series.specs.Series.{Usable};
-ghost use Rattle.rank_query.specs.Asked.{IsAsked};
+ghost use Rattle.ghcn_series.specs.Meaning.Series.{Usable};
+ghost use Rattle.rank_query.specs.Meaning.Asked.{IsAsked};
 ghost use Rattle.rank_scores.specs.Morsels.{IsAskedOf};
 ghost use Rattle.rank_blocks.specs.Greatest.{IsBound, IsSeriesBound};
 ghost use Rattle.rank_blocks.specs.Summaries.{AreSummaries, AreSummariesTo, AreSummariesUpTo, ArePossible};

@@ -5,7 +5,7 @@ ghost use Rattle.std.specs.Prelude.{ℤ, pos, ◌≤ℤ◌, ◌*ℤ◌};
 ghost use Rattle.std.specs.Int.{int_min};
 ghost use Rattle.std.specs.List.{AllByRecursion};
 ghost use Rattle.ghcn_fields.specs.Sorting.{greatest};
-ghost use Rattle.ghcn_series.specs.Series.{Usable};
+ghost use Rattle.ghcn_series.specs.Meaning.Series.{Usable};
 ghost use Rattle.rank_blocks.specs.Bounds.{blocks_of_window};
 ghost use Rattle.rank_blocks.specs.Greatest.{IsGreatest, IsRunLength};
 ghost use Rattle.rank_blocks.specs.Reached as told;

@@ -4,7 +4,7 @@ ghost use Rattle.std.specs.Prelude.{◌≡◌, ◌<◌, ◌+ℤ◌, FitsSigned, 
 ghost use Rattle.std.specs.Int.{w64};
 ghost use Rattle.ghcn_fields.specs.Days.{IsBlock};
 ghost use Rattle.ghcn_series.specs.Packed.{AreRising, IsBlockOf};
-ghost use Rattle.ghcn_series.specs.Series.{DayValue};
+ghost use Rattle.ghcn_series.specs.Meaning.Series.{DayValue};
 ghost use Rattle.rank_blocks.specs.Reached.{in_range, IsNear, IsTotal};
 ghost use Rattle.rank_blocks.specs.Summaries.{IsPossible, IsSummary};
 ghost use Rattle.rank_blocks.specs.Values.{HasZeros};

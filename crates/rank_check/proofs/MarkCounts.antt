@@ -10,7 +10,7 @@ use Rattle.std.proofs.lemmas.List.Sums.{sum_by-set, sum_by_more_le, sum_by-cons}
 use Rattle.std.proofs.lemmas.Option.{slice_get-get_or, slice_get_past}
 use Rattle.ghcn_series.specs.Says.{in_64_bits}
 use Rattle.rank_scores.specs.declared.candidate.Candidate.{Candidate}
-use Rattle.rank_scores.specs.Order.{precedes}
+use Rattle.rank_scores.specs.Meaning.Order.{precedes}
 use Rattle.rank_check.specs.declared.tally.Mark.{Mark}
 use Rattle.rank_check.specs.Marks.{candidates_at, unmet, is_met_at, is_met, passed_at, passed}
 use Rattle.rank_check.specs.Marks.{counted_mark, counted_at, IsPlace, AreMarksInOrder}

@@ -6,7 +6,7 @@ use Rattle.std.specs.Ordering.{int_eq}
 use Rattle.std.proofs.Math.Path.{fun_ext}
 use Rattle.ghcn_fields.specs.Faults.{first_failing}
 use Rattle.ghcn_series.specs.Series.{Contents}
-use Rattle.rank_query.specs.Asked.{Asked}
+use Rattle.rank_query.specs.Meaning.Asked.{Asked}
 use Rattle.rank_scores.specs.declared.candidate.Candidate.{Candidate}
 use Rattle.rank_scores.specs.Morsels.{all_candidates, morsels, kth_of_query}
 use Rattle.rank_scores.specs.OneElement.{data_for, CandidatesStay, MorselsStay, KthStays}

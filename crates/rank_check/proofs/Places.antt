@@ -11,7 +11,8 @@ use Rattle.std.proofs.lemmas.List.{length-map}
 use Rattle.std.proofs.lemmas.List.Sorted.{ranks_by, sorted_far}
 use Rattle.std.proofs.Math.ListN.{get_or-map}
 use Rattle.rank_scores.specs.declared.candidate.Candidate.{Candidate}
-use Rattle.rank_scores.specs.Order.{full_cmp, rank_cmp, precedes}
+use Rattle.rank_scores.specs.Meaning.Order.{rank_cmp, precedes}
+use Rattle.rank_scores.specs.Order.{full_cmp}
 use Rattle.rank_scores.proofs.Listing.{full_cmp_total}
 use Rattle.rank_scores.proofs.Ranks.{rank_cmp_total}
 use Rattle.rank_check.specs.declared.tally.Mark.{Mark}

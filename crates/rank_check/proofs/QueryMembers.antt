@@ -12,16 +12,18 @@ use Rattle.std.proofs.lemmas.List.{nil_from_length}
 use Rattle.ghcn_files.specs.declared.station.Station.{Station}
 use Rattle.ghcn_files.specs.declared.station.StationId.{StationId}
 use Rattle.ghcn_files.specs.declared.element.Element.{Element}
-use Rattle.ghcn_files.specs.Ids.{same_id}
+use Rattle.ghcn_files.specs.Meaning.Ids.{same_id}
 use Rattle.ghcn_files.proofs.IdLaws.{same_id-is, same_id-laws}
-use Rattle.ghcn_files.specs.Listed.{is_station_of}
-use Rattle.ghcn_series.specs.Series.{Usable, Contents, series_of, is_series_of}
+use Rattle.ghcn_files.specs.Meaning.Listed.{is_station_of}
+use Rattle.ghcn_series.specs.Meaning.Series.{Usable}
+use Rattle.ghcn_series.specs.Series.{Contents, series_of, is_series_of}
 use Rattle.ghcn_series.specs.Held.{IsContents}
-use Rattle.rank_query.specs.Asked.{Asked, score_element}
+use Rattle.rank_query.specs.Meaning.Asked.{Asked, score_element}
 use Rattle.rank_query.specs.Admits.{admits_station}
 use Rattle.rank_scores.specs.declared.candidate.Candidate.{Candidate}
 use Rattle.rank_scores.specs.Groups.{leaders}
-use Rattle.rank_scores.specs.Candidates.{admitted, shape, contenders_among, candidates}
+use Rattle.rank_scores.specs.Meaning.Candidates.{admitted, shape}
+use Rattle.rank_scores.specs.Candidates.{contenders_among, candidates}
 use Rattle.rank_scores.specs.Morsels.{has_admitted, admitted_series, all_candidates, morsels, id_comes_first}
 use Rattle.rank_scores.proofs.QueryCandidates.{candidates-own}
 use Rattle.ghcn_files.proofs.Ordered as ordered

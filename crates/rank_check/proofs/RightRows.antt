@@ -7,15 +7,17 @@ use Rattle.std.specs.Option.{option_map, option_map_or}
 use Rattle.std.specs.Cmp.Lexicographic.{bytes_decides}
 use Rattle.std.proofs.lemmas.Bool.{and_parts, leb-true, leb-false, le-leb, lt-leb}
 use Rattle.std.proofs.lemmas.List.{length-take, length-map}
-use Rattle.ghcn_fields.specs.Bytes.{same_bytes}
+use Rattle.ghcn_fields.specs.Meaning.Bytes.{same_bytes}
 use Rattle.ghcn_files.specs.declared.station.Station.{Station}
-use Rattle.ghcn_files.specs.Listed.{is_station_of}
+use Rattle.ghcn_files.specs.Meaning.Listed.{is_station_of}
 use Rattle.ghcn_series.specs.Series.{Contents}
-use Rattle.rank_query.specs.Asked.{Asked}
+use Rattle.rank_query.specs.Meaning.Asked.{Asked}
 use Rattle.rank_scores.specs.declared.candidate.Candidate.{Candidate}
-use Rattle.rank_scores.specs.Order.{precedes, rank_in, AreApart}
+use Rattle.rank_scores.specs.Meaning.Order.{precedes}
+use Rattle.rank_scores.specs.Order.{rank_in, AreApart}
 use Rattle.rank_scores.specs.Morsels.{all_candidates, best_of_query}
-use Rattle.rank_papers.specs.Report.{Named, trimmed}
+use Rattle.rank_papers.specs.Meaning.Report.{trimmed}
+use Rattle.rank_papers.specs.Report.{Named}
 use Rattle.rank_papers.specs.ReportLines.{name_of}
 use Rattle.rank_papers.specs.Papers.{of_rows}
 use Rattle.rank_check.specs.Tests.{is_one_of, is_named, row_before, row_tests, are_enough}

@@ -12,7 +12,8 @@ use Rattle.std.proofs.lemmas.Cmp.{int_ranked}
 use Rattle.std.proofs.lemmas.List.MinMax.{ranks_by}
 use Rattle.std.proofs.lemmas.Int.{ints}
 use Rattle.rank_scores.specs.declared.candidate.Candidate.{Candidate}
-use Rattle.rank_scores.specs.Order.{precedes, full_cmp}
+use Rattle.rank_scores.specs.Meaning.Order.{precedes}
+use Rattle.rank_scores.specs.Order.{full_cmp}
 use Rattle.rank_scores.proofs.Ranks.{rank_cmp_total, Descends}
 use Rattle.ghcn_files.proofs.Ordered as ordered
 use Rattle.rank_papers.specs.Papers.{AreInOrder}

@@ -16,7 +16,8 @@ use Rattle.ghcn_fields.specs.Sorting.{sorted_by}
 use Rattle.ghcn_files.proofs.IdLaws.{same_id-is}
 use Rattle.ghcn_series.proofs.Members.{found_in}
 use Rattle.rank_scores.specs.declared.candidate.Candidate.{Candidate}
-use Rattle.rank_scores.specs.Order.{precedes, rank_cmp, full_cmp, rank_in, best, begin_alike, AreApart}
+use Rattle.rank_scores.specs.Meaning.Order.{precedes, rank_cmp}
+use Rattle.rank_scores.specs.Order.{full_cmp, rank_in, best, begin_alike, AreApart}
 use Rattle.rank_scores.proofs.Listing.{full_cmp_total, tied_alike, alike-symm}
 use Rattle.rank_scores.proofs.Ranks.{rank_cmp_total, Descends, of_rank-is, best-is}
 use Rattle.rank_check.specs.Tests.{is_one_of}

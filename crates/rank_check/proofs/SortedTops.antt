@@ -4,9 +4,10 @@ use Rattle.std.specs.List.Sorted.{IsPermutation, IsSortedBy}
 use Rattle.ghcn_files.specs.declared.station.StationId.{StationId}
 use Rattle.ghcn_files.proofs.IdOrder.{comes_first, same_station, strictly, one_sort}
 use Rattle.ghcn_files.proofs.Ordered.{distinct-map, sorted-map}
-use Rattle.ghcn_series.specs.Series.{Usable, Contents}
+use Rattle.ghcn_series.specs.Meaning.Series.{Usable}
+use Rattle.ghcn_series.specs.Series.{Contents}
 use Rattle.ghcn_series.specs.Held.{IsContents}
-use Rattle.rank_query.specs.Asked.{Asked}
+use Rattle.rank_query.specs.Meaning.Asked.{Asked}
 use Rattle.rank_scores.specs.Morsels.{has_admitted, admitted_series, morsels}
 use Rattle.rank_scores.proofs.QueryCandidates.{morsels_apart}
 use Rattle.rank_check.specs.declared.survey.Top.{Top}

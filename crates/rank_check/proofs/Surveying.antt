@@ -17,12 +17,13 @@ use Rattle.std.proofs.lemmas.List.Folds.{list_any-append}
 use Rattle.std.proofs.lemmas.List.Sums.{sum_by-append, sum_by-cons}
 use Rattle.std.proofs.lemmas.Grind.{flat_map-append}
 use Rattle.std.proofs.lemmas.Int.{ints}
-use Rattle.ghcn_series.specs.Series.{Usable}
+use Rattle.ghcn_series.specs.Meaning.Series.{Usable}
 use Rattle.ghcn_series.specs.Says.{in_64_bits}
-use Rattle.rank_query.specs.Asked.{Asked}
+use Rattle.rank_query.specs.Meaning.Asked.{Asked}
 use Rattle.rank_scores.specs.declared.candidate.Candidate.{Candidate}
 use Rattle.rank_scores.specs.Candidates.{candidates}
-use Rattle.rank_scores.specs.Order.{full_cmp, rank_cmp, precedes, rank_in}
+use Rattle.rank_scores.specs.Meaning.Order.{rank_cmp, precedes}
+use Rattle.rank_scores.specs.Order.{full_cmp, rank_in}
 use Rattle.rank_scores.proofs.Listing.{full_cmp_total}
 use Rattle.rank_check.specs.declared.tally.Met.{Met}
 use Rattle.rank_check.specs.Tests.{is_one_of}

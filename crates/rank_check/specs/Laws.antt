@@ -2,7 +2,7 @@
 use Rattle.std.specs.Prelude.{◌≡◌, ◌↔◌, ℕ, List}
 use Rattle.ghcn_series.specs.Series.{Contents}
 use Rattle.ghcn_series.specs.Held.{IsContents}
-use Rattle.rank_query.specs.Asked.{Asked, IsAsked}
+use Rattle.rank_query.specs.Meaning.Asked.{Asked, IsAsked}
 use Rattle.rank_scores.specs.OneElement.{data_for}
 use Rattle.rank_papers.specs.Report.{IsReport}
 use Rattle.rank_papers.specs.Certificate.{IsCertificate}

@@ -6,17 +6,19 @@ use Rattle.std.specs.Prelude.{Some, ℤ}
 use Rattle.std.specs.List.{list_all, Contains, AllByRecursion}
 use Rattle.std.specs.Option.{option_map, option_map_or}
 use Rattle.std.specs.Ordering.{is_eq}
-use Rattle.ghcn_fields.specs.Bytes.{same_bytes}
+use Rattle.ghcn_fields.specs.Meaning.Bytes.{same_bytes}
 use Rattle.ghcn_files.specs.declared.station.Station.{Station}
-use Rattle.ghcn_files.specs.Ids.{same_id}
-use Rattle.ghcn_series.specs.Series.{Usable}
-use Rattle.rank_query.specs.Asked.{Asked}
+use Rattle.ghcn_files.specs.Meaning.Ids.{same_id}
+use Rattle.ghcn_series.specs.Meaning.Series.{Usable}
+use Rattle.rank_query.specs.Meaning.Asked.{Asked}
 use Rattle.rank_query.specs.Admits.{admits_station}
 use Rattle.rank_scores.specs.declared.candidate.Candidate.{Candidate}
 use Rattle.rank_scores.specs.Candidates.{candidates}
-use Rattle.rank_scores.specs.Order.{full_cmp, precedes, bound_is_below}
+use Rattle.rank_scores.specs.Meaning.Order.{precedes}
+use Rattle.rank_scores.specs.Order.{full_cmp, bound_is_below}
 use Rattle.rank_scores.specs.Morsels.{has_admitted, IsAbove}
-use Rattle.rank_papers.specs.Report.{Named, trimmed}
+use Rattle.rank_papers.specs.Meaning.Report.{trimmed}
+use Rattle.rank_papers.specs.Report.{Named}
 use Rattle.rank_papers.specs.Certificate.{Entry}
 use Rattle.rank_papers.specs.Papers.{of_rows, AreInOrder}
 use Rattle.rank_check.specs.declared.verdict.Why.{Why}

@@ -5,12 +5,14 @@ use Rattle.std.specs.List.{AllByRecursion, flat_map}
 use Rattle.std.specs.Int.{int_max}
 use Rattle.std.specs.Ordering.{is_eq, is_le}
 use Rattle.ghcn_fields.specs.Sorting.{greatest}
-use Rattle.ghcn_series.specs.Series.{Usable, Contents}
+use Rattle.ghcn_series.specs.Meaning.Series.{Usable}
+use Rattle.ghcn_series.specs.Series.{Contents}
 use Rattle.ghcn_series.specs.Says.{in_64_bits}
-use Rattle.rank_query.specs.Asked.{Asked}
+use Rattle.rank_query.specs.Meaning.Asked.{Asked}
 use Rattle.rank_scores.specs.declared.candidate.Candidate.{Candidate}
 use Rattle.rank_scores.specs.Candidates.{candidates}
-use Rattle.rank_scores.specs.Order.{full_cmp, precedes, rank_in}
+use Rattle.rank_scores.specs.Meaning.Order.{precedes}
+use Rattle.rank_scores.specs.Order.{full_cmp, rank_in}
 use Rattle.rank_scores.specs.Morsels.{all_candidates, morsels}
 use Rattle.rank_check.specs.declared.tally.Met.{Met}
 use Rattle.rank_check.specs.declared.survey.Top.{Top}

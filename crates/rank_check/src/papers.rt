@@ -2,7 +2,7 @@
 
 ghost use Rattle.std.specs.Prelude.{◌≡◌, ◌↔◌, IfOk};
 ghost use Rattle.ghcn_series.specs.Held.{IsContents};
-ghost use Rattle.rank_query.specs.Asked.{IsAsked};
+ghost use Rattle.rank_query.specs.Meaning.Asked.{IsAsked};
 ghost use Rattle.rank_papers.specs.Report.{IsReport};
 ghost use Rattle.rank_papers.specs.Certificate.{IsCertificate};
 ghost use Rattle.rank_papers.specs.Papers as papers;

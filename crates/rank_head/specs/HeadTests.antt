@@ -7,9 +7,9 @@ use Rattle.std.specs.Ordering.{is_lt, nat_cmp, int_eq}
 use Rattle.std.specs.Cmp.Lexicographic.{slice_cmp}
 use Rattle.ghcn_fields.specs.Faults.{first_failing}
 use Rattle.ghcn_files.specs.declared.station.StationId.{StationId}
-use Rattle.ghcn_files.specs.Ids.{same_id}
-use Rattle.rank_query.specs.Asked.{Asked}
-use Rattle.rank_scores.specs.Order.{precedes}
+use Rattle.ghcn_files.specs.Meaning.Ids.{same_id}
+use Rattle.rank_query.specs.Meaning.Asked.{Asked}
+use Rattle.rank_scores.specs.Meaning.Order.{precedes}
 use Rattle.rank_papers.specs.Papers.{same_query, of_rows, neighbours}
 use Rattle.rank_papers.specs.Report.{Named}
 use Rattle.rank_papers.specs.ReportLines.{Reported}

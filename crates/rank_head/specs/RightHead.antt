@@ -1,7 +1,7 @@
 -- The right head of a report and a certificate: what must hold of both without any data.
 use Rattle.std.specs.Prelude.{◌≡◌, ◌↔◌, true, length, Option, None}
 use Rattle.std.specs.List.{sum, AllByRecursion}
-use Rattle.rank_query.specs.Asked.{Asked, IsAsked}
+use Rattle.rank_query.specs.Meaning.Asked.{Asked, IsAsked}
 use Rattle.rank_papers.specs.Papers.{same_query, of_rows, AreInOrder}
 use Rattle.rank_papers.specs.ReportLines.{Reported, IsReported}
 use Rattle.rank_papers.specs.Certificate.{Certified, IsCertified, kth_of_best, counts_of}

@@ -1,7 +1,7 @@
 -- Rows counted by the lines of their stations.
 use Rattle.std.specs.Prelude.{◌≡◌, ℕ, ◌+◌, Bool, ◌&&◌, not, if◌then◌else◌, List, map}
 use Rattle.ghcn_files.specs.declared.station.StationId.{StationId}
-use Rattle.ghcn_files.specs.Ids.{same_id}
+use Rattle.ghcn_files.specs.Meaning.Ids.{same_id}
 use Rattle.rank_papers.specs.Certificate.{Entry}
 
 -- a line belongs to this station, and its series wasn't skipped

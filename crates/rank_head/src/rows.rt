@@ -3,7 +3,7 @@
 ghost use Rattle.std.specs.Prelude.{◌≡◌, ℕ, ◌+◌, ◌^◌, ◌<◌, true, [], ◌∷◌, map, length, replicate, slice_index};
 ghost use Rattle.std.specs.Prelude.{None, IfSome};
 ghost use Rattle.ghcn_fields.specs.Faults.{first_failing};
-ghost use Rattle.rank_scores.specs.Order.{precedes};
+ghost use Rattle.rank_scores.specs.Meaning.Order.{precedes};
 ghost use Rattle.rank_papers.specs.Certificate.{count_of};
 ghost use Rattle.rank_papers.specs.ReportLines.{named_in};
 ghost use Rattle.rank_papers.specs.Papers.{of_rows, neighbours};

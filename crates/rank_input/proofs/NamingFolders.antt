@@ -21,7 +21,7 @@ use Rattle.std.proofs.lemmas.Iterator.Splits.{YieldsList-from_str_split}
 use Rattle.std.proofs.lemmas.List.{map-append, get_or-map, length-map}
 use Rattle.std.proofs.lemmas.List.Elements.{filter-append, Contains-append_right}
 use Rattle.std.proofs.lemmas.List.Sorted.{IsPermutation-map}
-use Rattle.ghcn_fields.specs.Lines.{without_empty_last}
+use Rattle.ghcn_fields.specs.Meaning.Lines.{without_empty_last}
 use Rattle.rank_input.specs.Named.{Text, is_name, names_in, is_daily, daily_in, below, AreDailyIn}
 use Rattle.rank_input.proofs.Naming.{cut, cut-at, cut-map}
 

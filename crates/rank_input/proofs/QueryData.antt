@@ -6,8 +6,8 @@ use Rattle.ghcn_files.specs.Elements.{is_kept}
 use Rattle.ghcn_files.specs.Listed.{listed}
 use Rattle.ghcn_series.specs.Series.{Contents}
 use Rattle.ghcn_series.specs.Kept.{AreKept}
-use Rattle.rank_query.specs.Asked.{Asked, score_element}
-use Rattle.rank_query.specs.Asks.{Asks}
+use Rattle.rank_query.specs.Meaning.Asked.{Asked, score_element}
+use Rattle.rank_query.specs.Meaning.Asks.{Asks}
 use Rattle.rank_scores.specs.OneElement.{data_for, KeptAreEnough}
 use Rattle.rank_input.specs.Input.{IsReadOf}
 

@@ -12,7 +12,7 @@ use Rattle.ghcn_files.specs.declared.element.Element.TheVariants.{Prcp, Snow, Sn
 use Rattle.ghcn_files.specs.declared.element.Keep.{Keep}
 use Rattle.ghcn_files.specs.Elements.{same_element, is_kept, with_one}
 use Rattle.ghcn_series.proofs.AllSeries.{same_element-is}
-use Rattle.rank_query.specs.Asked.{Asked, score_element}
+use Rattle.rank_query.specs.Meaning.Asked.{Asked, score_element}
 
 -- some query is about an element
 abbrev pub IsAsked : Element → List Asked → Type 0

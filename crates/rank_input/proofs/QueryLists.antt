@@ -5,9 +5,10 @@ use Rattle.std.specs.List.{All, AllZip}
 use Rattle.std.proofs.lemmas.List.{take_more, take_all, take-append-drop, drop_more, length-take-le}
 use Rattle.std.proofs.lemmas.List.FromFn.{length-enumerate_from, get_or-enumerate_from}
 use Rattle.std.proofs.lemmas.Slice.Zip.{all_zipped_more, AllZip-long}
-use Rattle.ghcn_fields.specs.Lines.{lines, numbered_lines}
-use Rattle.rank_query.specs.Asked.{Asked}
-use Rattle.rank_query.specs.Asks.{Asks}
+use Rattle.ghcn_fields.specs.Meaning.Lines.{lines}
+use Rattle.ghcn_fields.specs.Lines.{numbered_lines}
+use Rattle.rank_query.specs.Meaning.Asked.{Asked}
+use Rattle.rank_query.specs.Meaning.Asks.{Asks}
 use Rattle.rank_input.specs.declared.queries.QueriesFault.{QueriesFault}
 use Rattle.rank_input.specs.declared.queries.QueriesFault.TheVariants.{Line, NotText, Memory}
 use Rattle.rank_input.specs.Named.{Text}

@@ -13,7 +13,7 @@ use Rattle.ghcn_series.specs.Kept.{HoldFiles}
 use Rattle.ghcn_series.specs.Says.{data_of}
 use Rattle.ghcn_series.specs.Series.{Contents}
 use Rattle.rank_query.specs.declared.fault.QueryFault.{QueryFault}
-use Rattle.rank_query.specs.Asked.{Asked, score_element}
+use Rattle.rank_query.specs.Meaning.Asked.{Asked, score_element}
 use Rattle.rank_query.specs.Reading.{read_query}
 use Rattle.rank_query.proofs.Asks.{read_asks}
 use Rattle.rank_input.specs.declared.fault.Fault.{Fault}

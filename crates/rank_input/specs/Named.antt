@@ -5,7 +5,7 @@ use Rattle.std.specs.Prelude.{IsPermutation, IsSorted}
 use Rattle.std.specs.List.{slice_split, flat_map, starts_with, ends_with, AllZip}
 use Rattle.std.specs.Ordering.{nat_cmp}
 use Rattle.std.specs.Cmp.Lexicographic.{slice_cmp}
-use Rattle.ghcn_fields.specs.Lines.{lines}
+use Rattle.ghcn_fields.specs.Meaning.Lines.{lines}
 use Rattle.rank_input.specs.declared.archive.Place.{Place}
 use Rattle.rank_input.specs.declared.archive.Place.TheVariants.{Folder}
 use Rattle.rank_input.specs.Feeding.{AreAllOf, Opening}

@@ -1,9 +1,9 @@
 -- A list of queries, one a line, and why it is refused.
 use Rattle.std.specs.Prelude.{◌≡◌, ℕ, ◌+◌, Bool, true, false, List, [], ◌∷◌, ◌++◌, length, Err, ⊤, IsUtf8}
 use Rattle.std.specs.List.{All}
-use Rattle.ghcn_fields.specs.Lines.{lines}
-use Rattle.rank_query.specs.Asked.{Asked}
-use Rattle.rank_query.specs.Asks.{Asks}
+use Rattle.ghcn_fields.specs.Meaning.Lines.{lines}
+use Rattle.rank_query.specs.Meaning.Asked.{Asked}
+use Rattle.rank_query.specs.Meaning.Asks.{Asks}
 use Rattle.rank_query.specs.Reading.{read_query}
 use Rattle.rank_input.specs.declared.queries.QueriesFault.{QueriesFault}
 use Rattle.rank_input.specs.declared.queries.QueriesFault.TheVariants.{Line, NotText, Memory}

@@ -8,7 +8,7 @@ use Rattle.ghcn_series.specs.Fed.{Files, ended_files, files_of}
 use Rattle.ghcn_series.specs.Gathered.{HasReadByRows}
 use Rattle.ghcn_series.specs.LineKinds.{warnings_of}
 use Rattle.rank_query.specs.declared.fault.QueryFault.{QueryFault}
-use Rattle.rank_query.specs.Asked.{Asked, score_element}
+use Rattle.rank_query.specs.Meaning.Asked.{Asked, score_element}
 use Rattle.rank_query.specs.Reading.{read_query}
 use Rattle.rank_scores.specs.OneElement.{data_for}
 use Rattle.ghcn_fields.specs.Refusals.{IsRefusal}

@@ -4,8 +4,8 @@ ghost use Rattle.std.specs.Prelude.{◌≡◌, true, IfOk, IfErr};
 ghost use Rattle.std.specs.List.{All, AllZip, Any};
 ghost use Rattle.ghcn_files.specs.declared.element.Element.{Element};
 ghost use Rattle.ghcn_files.specs.Elements.{is_kept};
-ghost use Rattle.rank_query.specs.Asked.{score_element};
-ghost use Rattle.rank_query.specs.Asks.{Asks};
+ghost use Rattle.rank_query.specs.Meaning.Asked.{score_element};
+ghost use Rattle.rank_query.specs.Meaning.Asks.{Asks};
 ghost use Rattle.rank_input.specs.Queries.{query_lines, IsBadLine, IsFirstBadQuery};
 
 use ghcn_fields::{Memory, lines};

@@ -2,7 +2,7 @@
 
 ghost use Rattle.std.specs.Prelude.{◌≡◌, [], IfOk, IfErr, map, string_bytes};
 ghost use Rattle.ghcn_files.specs.Elements.{only};
-ghost use Rattle.rank_query.specs.Asked.{score_element};
+ghost use Rattle.rank_query.specs.Meaning.Asked.{score_element};
 ghost use Rattle.rank_input.specs.Feeding.{StopsAt};
 ghost use Rattle.rank_input.specs.Shares.{AsksWhole};
 ghost use Rattle.rank_input.specs.Taken.{given, HasTaken, HasTakenSome};

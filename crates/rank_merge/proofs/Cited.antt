@@ -22,18 +22,20 @@ pub use Rattle.ghcn_fields.specs.Refusals.{IsRefusal, OrMemory}
 pub use Rattle.ghcn_fields.specs.Sorting.{placed, sorted_by}
 pub use Rattle.ghcn_files.proofs.IdLaws.{same_id-is, same_id-laws, same_id-turned}
 pub use Rattle.ghcn_files.proofs.Ordered.{Descend, sorted-map, sorted-permutation}
-pub use Rattle.ghcn_files.specs.Ids.{same_id}
+pub use Rattle.ghcn_files.specs.Meaning.Ids.{same_id}
 pub use Rattle.ghcn_files.specs.declared.station.Station.{Station}
 pub use Rattle.ghcn_files.specs.declared.station.StationId.{StationId}
 pub use Rattle.ghcn_series.proofs.ListFacts.{each-append, from_all, zip-weaker}
 pub use Rattle.ghcn_series.specs.Held.{IsContents}
-pub use Rattle.ghcn_series.specs.Series.{Contents, Usable}
-pub use Rattle.rank_query.specs.Asked.{Asked, IsAsked}
+pub use Rattle.ghcn_series.specs.Meaning.Series.{Usable}
+pub use Rattle.ghcn_series.specs.Series.{Contents}
+pub use Rattle.rank_query.specs.Meaning.Asked.{Asked, IsAsked}
 pub use Rattle.rank_scores.proofs.QueryCandidates.{all_apart, candidates-own, morsels_rise}
 pub use Rattle.rank_scores.specs.Cut.{CutByFiles, Filed, IsDataOf, IsSameFor, MorselsOfParts, morsel_ids, series_first}
+pub use Rattle.rank_scores.specs.Meaning.Order.{precedes}
 pub use Rattle.rank_scores.specs.Morsels.{admitted_series, all_candidates, best_of_query, has_admitted, id_comes_first}
 pub use Rattle.rank_scores.specs.Morsels.{kth_of_query, morsels}
-pub use Rattle.rank_scores.specs.Order.{bound_is_below, full_cmp, precedes}
+pub use Rattle.rank_scores.specs.Order.{bound_is_below, full_cmp}
 pub use Rattle.rank_scores.specs.declared.candidate.Candidate.{Candidate}
 pub use Rattle.rank_pool.proofs.Counts.{NoneAbove, ScoresFall, above-append, below_kth, in_order-falls, one_if}
 pub use Rattle.rank_pool.proofs.Counts.{score_at}
@@ -46,8 +48,9 @@ pub use Rattle.rank_papers.specs.Certificate.{Certified, Entry, IsCertificate, I
 pub use Rattle.rank_papers.specs.Certificate.{IsRightEntry, SaysRightCertificate, certificate_text, count_of, counts_of}
 pub use Rattle.rank_papers.specs.Certificate.{kth_of_best}
 pub use Rattle.rank_papers.specs.CertificateLines.{read_certificate}
+pub use Rattle.rank_papers.specs.Meaning.Report.{report_text}
 pub use Rattle.rank_papers.specs.Papers.{of_both, of_rows}
-pub use Rattle.rank_papers.specs.Report.{IsReport, Named, report_text, with_stations}
+pub use Rattle.rank_papers.specs.Report.{IsReport, Named, with_stations}
 pub use Rattle.rank_papers.specs.ReportLines.{IsReportOf, IsRow, Reported, SaysRightReport, name_of, named_in}
 pub use Rattle.rank_papers.specs.declared.paper.Row.{Row}
 pub use Rattle.rank_head.proofs.FirstPlaces.{behind_first}

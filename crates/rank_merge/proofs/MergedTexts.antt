@@ -18,7 +18,8 @@ use Rattle.std.proofs.lemmas.Map.Keys.{IsDistinct-IsPermutation}
 use Rattle.ghcn_series.specs.Laws.{DataAreRight}
 use Rattle.ghcn_series.specs.Says.{data_of}
 use Rattle.rank_papers.specs.Laws.{CertificatesAreRead, RightCertificatesSayRight, ReportsAreRead, RightReportsSayRight}
-use Rattle.ghcn_files.specs.Listed.{is_station_of, listed}
+use Rattle.ghcn_files.specs.Meaning.Listed.{is_station_of}
+use Rattle.ghcn_files.specs.Listed.{listed}
 use Rattle.rank_head.specs.declared.fault.HeadFault.{HeadFault}
 use Rattle.ghcn_files.proofs.Ordered as ordered
 use Rattle.rank_merge.proofs.Lists.{zip-same}

@@ -2,7 +2,7 @@
 use Rattle.std.proofs.Common.{Bor}
 use Rattle.std.specs.Prelude.{◌≡◌, ◌≤◌, ℕ, true, List, ◌++◌, map, Option, None, Some, Ok, IfSome}
 use Rattle.std.specs.List.{AllByRecursion, count_by}
-use Rattle.rank_query.specs.Asked.{Asked}
+use Rattle.rank_query.specs.Meaning.Asked.{Asked}
 use Rattle.rank_scores.specs.declared.candidate.Candidate.{Candidate}
 use Rattle.rank_pool.specs.First.{comes_first}
 use Rattle.rank_papers.specs.Report.{Named}

@@ -3,11 +3,11 @@ use Rattle.std.specs.Prelude.{◌≡◌, ℕ, List, Result, Ok, Err, map}
 use Rattle.std.specs.List.{flat_map, AllByRecursion, AllZip, IsDistinct}
 use Rattle.ghcn_files.specs.declared.station.Station.{Station}
 use Rattle.ghcn_files.specs.declared.station.StationId.{StationId}
-use Rattle.ghcn_files.specs.Ids.{same_id}
+use Rattle.ghcn_files.specs.Meaning.Ids.{same_id}
 use Rattle.ghcn_files.specs.Listed.{listed}
 use Rattle.ghcn_series.specs.Series.{Contents}
 use Rattle.ghcn_series.specs.Says.{data_of}
-use Rattle.rank_query.specs.Asked.{Asked, IsAsked}
+use Rattle.rank_query.specs.Meaning.Asked.{Asked, IsAsked}
 use Rattle.rank_scores.specs.Cut.{Filed, IsDataOf, morsel_ids, series_ids}
 use Rattle.rank_papers.specs.Report.{IsReport}
 use Rattle.rank_papers.specs.Certificate.{IsCertificate}

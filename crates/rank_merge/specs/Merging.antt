@@ -3,9 +3,9 @@ use Rattle.std.specs.Prelude.{ℕ, suc, Bool, true, false, if◌then◌else◌, 
 use Rattle.std.specs.Prelude.{Err}
 use Rattle.std.specs.List.{list_any}
 use Rattle.ghcn_files.specs.declared.station.StationId.{StationId}
-use Rattle.ghcn_files.specs.Ids.{same_id}
-use Rattle.rank_query.specs.Asked.{Asked}
-use Rattle.rank_papers.specs.Report.{report_text}
+use Rattle.ghcn_files.specs.Meaning.Ids.{same_id}
+use Rattle.rank_query.specs.Meaning.Asked.{Asked}
+use Rattle.rank_papers.specs.Meaning.Report.{report_text}
 use Rattle.rank_papers.specs.declared.fault.Paper.{Paper}
 use Rattle.rank_papers.specs.declared.fault.Paper.TheVariants.{Report, Certificate}
 use Rattle.rank_papers.specs.Papers.{read_papers}

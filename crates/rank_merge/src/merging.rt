@@ -3,7 +3,7 @@
 ghost use Rattle.std.specs.Prelude.{◌≡◌, Ok, Err, map, IfOk, IfErr};
 ghost use Rattle.ghcn_fields.specs.Refusals.{IsRefusal, OrMemory};
 ghost use Rattle.rank_papers.specs.Certificate.{certificate_of_best};
-ghost use Rattle.rank_papers.specs.Report.{report_text};
+ghost use Rattle.rank_papers.specs.Meaning.Report.{report_text};
 ghost use Rattle.rank_papers.specs.ReportLines.{named_in};
 ghost use Rattle.rank_papers.specs.Papers.{of_rows};
 ghost use Rattle.rank_merge.specs.Found as found;

@@ -11,12 +11,14 @@ use Rattle.std.proofs.lemmas.List.Sorted.{IsPermutation-sym}
 use Rattle.ghcn_files.proofs.Ordered.{Descend, descend-weaker}
 use Rattle.ghcn_series.proofs.ListFacts.{each-append}
 use Rattle.ghcn_series.proofs.Members.{In, contains-in, in-contains, of_one, for_each, in_all, in_permuted}
-use Rattle.ghcn_series.specs.Series.{Usable, Contents, IsSeries}
+use Rattle.ghcn_series.specs.Meaning.Series.{Usable}
+use Rattle.ghcn_series.specs.Series.{Contents, IsSeries}
 use Rattle.ghcn_series.specs.Held.{IsContents}
-use Rattle.rank_query.specs.Asked.{Asked, IsAsked}
+use Rattle.rank_query.specs.Meaning.Asked.{Asked, IsAsked}
 use Rattle.rank_scores.specs.declared.candidate.Candidate.{Candidate}
 use Rattle.rank_scores.specs.Candidates.{candidates}
-use Rattle.rank_scores.specs.Order.{precedes, rank_cmp, full_cmp}
+use Rattle.rank_scores.specs.Meaning.Order.{precedes, rank_cmp}
+use Rattle.rank_scores.specs.Order.{full_cmp}
 use Rattle.rank_scores.specs.Morsels.{admitted_series, all_candidates, best_of_query}
 use Rattle.rank_scores.proofs.Exactly.{exactly}
 use Rattle.rank_scores.proofs.Listing.{full_cmp_total}
@@ -26,7 +28,7 @@ use Rattle.rank_scores.proofs.QueryCandidates.{all_apart}
 use Rattle.rank_pool.specs.First.{in_order}
 use Rattle.rank_pool.proofs.Orders.{same_place, take-all}
 use Rattle.rank_pool.proofs.Ranked.{in_order-permutation, in_order-descends, best-first}
-use Rattle.rank_papers.specs.Right.{IsOfQuery, AreBest}
+use Rattle.rank_papers.specs.Meaning.Right.{IsOfQuery, AreBest}
 use Rattle.rank_papers.specs.RightLaws.{IsHeldSeries, HaveOneBest, BestAreFound}
 use Rattle.rank_papers.proofs.RightCertificates.{series_hold}
 

@@ -7,17 +7,18 @@ use Rattle.std.specs.Ordering.{int_eq}
 use Rattle.std.proofs.lemmas.Bool.{and_parts}
 use Rattle.std.proofs.lemmas.Bool.Decides.{nat_tests}
 use Rattle.std.proofs.lemmas.Int.{ints}
-use Rattle.ghcn_fields.specs.Days.{is_day, is_within}
+use Rattle.ghcn_fields.specs.Meaning.Days.{is_day, is_within}
 use Rattle.ghcn_files.specs.declared.station.StationId.{StationId}
-use Rattle.ghcn_series.specs.Series.{DayValue, Usable, value_on}
+use Rattle.ghcn_series.specs.Meaning.Series.{DayValue, Usable, value_on}
 use Rattle.ghcn_series.proofs.ListFacts.{all-filter}
 use Rattle.rank_query.specs.declared.score.Score.{Score}
 use Rattle.rank_query.specs.declared.score.Score.TheVariants.{Highest, Lowest, Sum, Dry, Wet, Hot, Cold}
-use Rattle.rank_query.specs.Asked.{Asked, IsAsked, is_score, is_fall}
-use Rattle.rank_query.specs.Admits.{admits_day, period_holds, season_holds}
+use Rattle.rank_query.specs.Meaning.Asked.{Asked, IsAsked, is_score, is_fall}
+use Rattle.rank_query.specs.Meaning.Admits.{admits_day, period_holds, season_holds}
 use Rattle.rank_scores.specs.declared.candidate.Candidate.{Candidate}
 use Rattle.rank_scores.specs.Runs.{run_from, run_len, begins_run}
-use Rattle.rank_scores.specs.Candidates.{Shape, Days, Windows, Spells, shape, plus, window_total, is_such, begun, candidate, candidates, contenders, test_of}
+use Rattle.rank_scores.specs.Meaning.Candidates.{Shape, Days, Windows, Spells, shape, is_such}
+use Rattle.rank_scores.specs.Candidates.{plus, window_total, begun, candidate, candidates, contenders, test_of}
 use Rattle.rank_scores.specs.Stretches.{admitted_among}
 use Rattle.rank_scores.specs.declared.spell.Spell.TheVariants as spells
 

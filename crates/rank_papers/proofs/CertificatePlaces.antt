@@ -1,8 +1,9 @@
 -- Where the reading of a certificate ends is its first bad line.
 use Rattle.std.proofs.Common.{ℕ, None, refl, sym, ◌∙◌}
-use Rattle.rank_query.specs.Asked.{Asked}
-use Rattle.rank_papers.specs.Report.{query_line}
-use Rattle.rank_papers.specs.Certificate.{title_line, kth_line, end_line, certificate_text}
+use Rattle.rank_query.specs.Meaning.Asked.{Asked}
+use Rattle.rank_papers.specs.Meaning.Report.{query_line}
+use Rattle.rank_papers.specs.Meaning.Certificate.{title_line, kth_line, end_line}
+use Rattle.rank_papers.specs.Certificate.{certificate_text}
 use Rattle.rank_papers.specs.Lines.{query_in}
 use Rattle.rank_papers.specs.Places.{IsCertificateText}
 use Rattle.rank_papers.specs.CertificateLines.{kth_in, entry_in, entries_in, with_entries, behind_query, behind_title, version_in, certified_lines}

@@ -7,19 +7,20 @@ use Rattle.std.specs.Cmp.Lexicographic.{bytes_decides}
 use Rattle.std.proofs.lemmas.Bool.{and_parts}
 use Rattle.std.proofs.lemmas.Int.{ints}
 use Rattle.std.proofs.lemmas.List.Sums.{take_while-cons}
-use Rattle.ghcn_fields.specs.Bytes.{same_bytes}
+use Rattle.ghcn_fields.specs.Meaning.Bytes.{same_bytes}
 use Rattle.ghcn_fields.specs.Numbers.{natural, up_to}
 use Rattle.std.specs.Fmt.{signed_decimal}
 use Rattle.ghcn_fields.proofs.Decimals.{up_to-fits}
-use Rattle.ghcn_files.specs.Ids.{is_visible}
-use Rattle.ghcn_files.specs.StationLines.{is_printable}
-use Rattle.rank_query.specs.Asked.{Asked}
-use Rattle.rank_query.specs.QueryTexts.{query_text}
+use Rattle.ghcn_files.specs.Meaning.Ids.{is_visible}
+use Rattle.ghcn_files.specs.Meaning.StationLines.{is_printable}
+use Rattle.rank_query.specs.Meaning.Asked.{Asked}
+use Rattle.rank_query.specs.Meaning.QueryTexts.{query_text}
 use Rattle.rank_query.proofs.CanonicalTexts.{canonical}
 use Rattle.rank_papers.specs.declared.counted.Counted.{Counted}
-use Rattle.rank_papers.specs.Report.{text_line, query_line}
+use Rattle.rank_papers.specs.Meaning.Report.{text_line, query_line}
 use Rattle.rank_papers.specs.ReportLines.{first_word}
-use Rattle.rank_papers.specs.Certificate.{Entry, Certified, title_line, kth_line, counted, has_count, entry_line, end_line, certificate_text, AreCounts, IsCertified, IsCertificateOf}
+use Rattle.rank_papers.specs.Meaning.Certificate.{title_line, kth_line, has_count, entry_line, end_line}
+use Rattle.rank_papers.specs.Certificate.{Entry, Certified, counted, certificate_text, AreCounts, IsCertified, IsCertificateOf}
 use Rattle.rank_papers.specs.Lines.{paper_lines, number_in}
 use Rattle.rank_papers.specs.CertificateLines.{kth_in, kth_word, entry_with, behind_id, entry_in_columns, behind_word, count_field, with_count, counted_in_columns, entry_in, entries_in, entries_of, counts_in, with_entries, behind_query, behind_title, version_in, certified_lines, read_certificate}
 use Rattle.rank_papers.specs.Laws.{CertificatesAreRead}

@@ -4,7 +4,8 @@ use Rattle.std.specs.Prelude.{◌==◌, ◌&&◌}
 use Rattle.std.specs.List.{AllByRecursion, AllZip}
 use Rattle.std.proofs.lemmas.Bool.{not-false}
 use Rattle.rank_papers.specs.declared.counted.Counted.{Counted}
-use Rattle.rank_papers.specs.Certificate.{Entry, counted, has_count, IsEntry, IsCount, AreCounts}
+use Rattle.rank_papers.specs.Meaning.Certificate.{has_count}
+use Rattle.rank_papers.specs.Certificate.{Entry, counted, IsEntry, IsCount, AreCounts}
 use Rattle.rank_papers.specs.CertificateLines.{entries_of, counts_in}
 
 -- what a line of a version can say: an entry and a count that can be, and 0 if the line has no count

@@ -6,12 +6,13 @@ use Rattle.std.specs.Prelude.{◌↔◌, ◌==◌, if◌then◌else◌, length, 
 use Rattle.std.specs.List.{AllByRecursion, AllZip, Contains, flat_map, count_by}
 use Rattle.std.proofs.lemmas.Int.{ints}
 use Rattle.ghcn_files.specs.declared.station.Station.{Station}
-use Rattle.ghcn_files.specs.Ids.{same_id}
-use Rattle.ghcn_series.specs.Series.{Usable, Contents, IsSeries}
+use Rattle.ghcn_files.specs.Meaning.Ids.{same_id}
+use Rattle.ghcn_series.specs.Meaning.Series.{Usable}
+use Rattle.ghcn_series.specs.Series.{Contents, IsSeries}
 use Rattle.ghcn_series.specs.Held.{IsContents}
-use Rattle.rank_query.specs.Asked.{Asked, IsAsked}
+use Rattle.rank_query.specs.Meaning.Asked.{Asked, IsAsked}
 use Rattle.rank_scores.specs.declared.candidate.Candidate.{Candidate}
-use Rattle.rank_scores.specs.Candidates.{admitted}
+use Rattle.rank_scores.specs.Meaning.Candidates.{admitted}
 use Rattle.rank_scores.specs.Morsels.{admitted_series, all_candidates, best_of_query, kth_of_query, morsels}
 use Rattle.rank_scores.specs.Morsels.{id_comes_first}
 use Rattle.rank_scores.specs.Order.{bound_is_below}
@@ -20,10 +21,12 @@ use Rattle.rank_scores.proofs.Exactly.{bounds}
 use Rattle.rank_scores.proofs.Rising.{all-filter, from_each}
 use Rattle.rank_scores.proofs.QueryCandidates.{all_apart}
 use Rattle.rank_pool.proofs.Orders.{sorted-all}
-use Rattle.rank_papers.specs.Report.{IsReportOfBest, query_line}
+use Rattle.rank_papers.specs.Meaning.Report.{IsReportOfBest, query_line}
 use Rattle.rank_papers.specs.Certificate.{Entry, IsCertificate, IsRightEntry, certificate_text, counted, count_of}
-use Rattle.rank_papers.specs.Certificate.{counts_of, kth_of_best, title_line, kth_line, entry_line, end_line}
-use Rattle.rank_papers.specs.Right.{IsOfQuery, AreSeriesOf, AreBest, IsRightReport, IsTrueEntry, IsRightCertificate}
+use Rattle.rank_papers.specs.Certificate.{counts_of, kth_of_best}
+use Rattle.rank_papers.specs.Meaning.Certificate.{title_line, kth_line, entry_line, end_line}
+use Rattle.rank_papers.specs.Meaning.Right.{IsOfQuery, AreSeriesOf, AreBest, IsTrueEntry}
+use Rattle.rank_papers.specs.Right.{IsRightReport, IsRightCertificate}
 use Rattle.rank_papers.specs.RightLaws.{IsHeldSeries, IsRightCertificateFor}
 use Rattle.rank_papers.specs.RightLaws.{ReportsAreFound, CertificatesAreFound, RightReportStays, RightCertificateStays}
 use Rattle.rank_papers.proofs.PlanPapers.{kth-best, some_asked}

@@ -3,9 +3,10 @@ use Rattle.std.proofs.Common.{◌≡◌, ℕ, ◌+◌, ◌<◌, List, [], ◌∷
 use Rattle.std.proofs.Common.{arith, map}
 use Rattle.std.specs.List.{enumerate_from}
 use Rattle.std.proofs.lemmas.List.{take_more, length-map, map-append, length-take}
-use Rattle.rank_query.specs.Asked.{Asked}
+use Rattle.rank_query.specs.Meaning.Asked.{Asked}
 use Rattle.rank_papers.specs.declared.paper.Row.{Row}
-use Rattle.rank_papers.specs.Report.{Named, text_line, row_fields}
+use Rattle.rank_papers.specs.Meaning.Report.{text_line, row_fields}
+use Rattle.rank_papers.specs.Report.{Named}
 use Rattle.rank_papers.proofs.RowText.{rows_text}
 use Rattle.rank_papers.specs.ReportLines.{named_in}
 use Rattle.rank_papers.proofs.ReportRows.{rows-more}

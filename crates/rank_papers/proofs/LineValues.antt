@@ -5,12 +5,12 @@ use Rattle.std.specs.List.{flat_map, list_all}
 use Rattle.std.specs.Option.{option_map_or}
 use Rattle.std.specs.Cmp.Lexicographic.{bytes_decides}
 use Rattle.std.proofs.lemmas.Int.{ints}
-use Rattle.ghcn_fields.specs.Bytes.{same_bytes}
-use Rattle.ghcn_files.specs.StationLines.{is_printable}
-use Rattle.rank_query.specs.Asked.{Asked, IsAsked}
+use Rattle.ghcn_fields.specs.Meaning.Bytes.{same_bytes}
+use Rattle.ghcn_files.specs.Meaning.StationLines.{is_printable}
+use Rattle.rank_query.specs.Meaning.Asked.{Asked, IsAsked}
 use Rattle.rank_query.specs.Reading.{read_query}
 use Rattle.rank_query.proofs.ReadAsked.{read_asked}
-use Rattle.rank_papers.specs.Report.{query_line}
+use Rattle.rank_papers.specs.Meaning.Report.{query_line}
 use Rattle.rank_papers.specs.Lines.{paper_lines, onto_first, exactly, is_i64, in_i64, ok_query, query_in, query_of_text}
 
 -- ---- lines, one after the other, are the text

@@ -12,9 +12,10 @@ use Rattle.ghcn_files.specs.declared.station.Station.{Station}
 use Rattle.ghcn_files.specs.declared.station.StationId.{StationId}
 use Rattle.ghcn_files.specs.Ids.{is_id}
 use Rattle.ghcn_files.proofs.IdLaws.{same_id-is}
-use Rattle.ghcn_files.specs.Listed.{is_station_of}
-use Rattle.ghcn_files.specs.StationLines.{is_station, is_latitude, is_longitude, is_printable}
-use Rattle.rank_papers.specs.Report.{trimmed}
+use Rattle.ghcn_files.specs.Meaning.Listed.{is_station_of}
+use Rattle.ghcn_files.specs.Meaning.StationLines.{is_printable}
+use Rattle.ghcn_files.specs.StationLines.{is_station, is_latitude, is_longitude}
+use Rattle.rank_papers.specs.Meaning.Report.{trimmed}
 use Rattle.rank_papers.specs.ReportLines.{is_name, ends_in_print}
 
 -- ---- a station of the list

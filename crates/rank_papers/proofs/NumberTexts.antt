@@ -7,7 +7,8 @@ use Rattle.std.specs.Char.{is_ascii_digit}
 use Rattle.std.proofs.lemmas.Bool.{and_parts}
 use Rattle.std.proofs.lemmas.Bool.Decides.{nat_tests}
 use Rattle.std.proofs.lemmas.Int.{ints}
-use Rattle.ghcn_fields.specs.Numbers.{natural, signed_by, with_sign}
+use Rattle.ghcn_fields.specs.Meaning.Numbers.{with_sign}
+use Rattle.ghcn_fields.specs.Numbers.{natural, signed_by}
 use Rattle.std.specs.Fmt.{signed_decimal}
 use Rattle.ghcn_fields.proofs.Digits.{natural-from}
 use Rattle.rank_query.proofs.PrintedWords.{decimal_numeral}

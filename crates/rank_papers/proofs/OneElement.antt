@@ -2,8 +2,9 @@
 -- k-th score and the same morsels the same report and the same certificates are right.
 use Rattle.std.proofs.Common.{◌≡◌, ℕ, List, map, Option, refl, sym, ap, ◌∙◌, subst, ℤ}
 use Rattle.std.specs.List.{AllZip}
-use Rattle.ghcn_series.specs.Series.{Usable, Contents}
-use Rattle.rank_query.specs.Asked.{Asked}
+use Rattle.ghcn_series.specs.Meaning.Series.{Usable}
+use Rattle.ghcn_series.specs.Series.{Contents}
+use Rattle.rank_query.specs.Meaning.Asked.{Asked}
 use Rattle.rank_scores.specs.Morsels.{best_of_query, kth_of_query, morsels}
 use Rattle.rank_scores.specs.OneElement.{data_for, BestStay, KthStays, MorselsStay}
 use Rattle.rank_blocks.specs.Bounds.{bound}

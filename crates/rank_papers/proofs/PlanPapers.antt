@@ -7,7 +7,7 @@ use Rattle.std.proofs.lemmas.Bool.Decides.{nat_tests}
 use Rattle.ghcn_files.specs.declared.station.Station.{Station}
 use Rattle.ghcn_series.specs.Series.{Contents}
 use Rattle.ghcn_series.specs.Held.{IsContents}
-use Rattle.rank_query.specs.Asked.{Asked, IsAsked}
+use Rattle.rank_query.specs.Meaning.Asked.{Asked, IsAsked}
 use Rattle.rank_scores.specs.declared.candidate.Candidate.{Candidate}
 use Rattle.rank_scores.specs.Order.{AreApart, best, kth_score}
 use Rattle.rank_scores.specs.Morsels.{morsels, all_candidates, best_of_query, kth_of_query}
@@ -19,8 +19,10 @@ use Rattle.rank_sched.specs.declared.answer.Answer.{Answer}
 use Rattle.rank_sched.specs.Plan.{Planned, IsPlan, planned}
 use Rattle.rank_sched.specs.Answers.{best_of_plan, IsAnswerOfPlan, IsAnswerOfCrew}
 use Rattle.rank_sched.proofs.PlanBest.{plan_has_best}
-use Rattle.rank_papers.specs.Report.{IsReportOfBest, query_line}
-use Rattle.rank_papers.specs.Certificate.{title_line, Entry, kth_line, counted, counts_of, entry_line, end_line, kth_of_best, certificate_text, AreInRange, certificate_of_best}
+use Rattle.rank_papers.specs.Meaning.Report.{IsReportOfBest, query_line}
+use Rattle.rank_papers.specs.Meaning.Certificate.{title_line, kth_line, entry_line, end_line}
+use Rattle.rank_papers.specs.Certificate.{Entry, counted, counts_of, kth_of_best, certificate_text, AreInRange}
+use Rattle.rank_papers.specs.Certificate.{certificate_of_best}
 use Rattle.rank_papers.specs.PlanPapers.{IsReportOfPlan, IsCertificateOfPlan}
 use Rattle.rank_papers.proofs.PlanLines.{IsLineOf, right_entries, bounds_are, lines_right}
 

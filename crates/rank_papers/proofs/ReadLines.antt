@@ -5,14 +5,16 @@ use Rattle.std.specs.List.{list_all}
 use Rattle.std.proofs.lemmas.Bool.{and_parts}
 use Rattle.std.proofs.lemmas.Bool.Decides.{nat_tests}
 use Rattle.std.proofs.lemmas.Int.{ints}
-use Rattle.ghcn_files.specs.Ids.{is_id, is_visible}
+use Rattle.ghcn_files.specs.Meaning.Ids.{is_visible}
+use Rattle.ghcn_files.specs.Ids.{is_id}
 use Rattle.rank_query.specs.declared.score.Score.TheVariants.{Dry}
-use Rattle.rank_query.specs.Asked.{Asked, IsAsked, top}
-use Rattle.rank_query.specs.QueryTexts.{query_text}
+use Rattle.rank_query.specs.Meaning.Asked.{Asked, IsAsked}
+use Rattle.rank_query.specs.Asked.{top}
+use Rattle.rank_query.specs.Meaning.QueryTexts.{query_text}
 use Rattle.rank_query.specs.Reading.{read_query}
 use Rattle.rank_query.proofs.CanonicalTexts.{canonical}
 use Rattle.rank_query.proofs.Spellings.{spelling_read}
-use Rattle.rank_papers.specs.Report.{query_line}
+use Rattle.rank_papers.specs.Meaning.Report.{query_line}
 use Rattle.rank_papers.specs.Lines.{is_i64, ok_query, query_in, query_of_text}
 use Rattle.rank_papers.proofs.LineValues.{exactly-from}
 use Rattle.rank_papers.proofs.WrittenLines.{last_field}

@@ -8,14 +8,15 @@ use Rattle.std.proofs.lemmas.Bool.Decides.{nat_tests}
 use Rattle.std.proofs.lemmas.List.{take_all}
 use Rattle.std.proofs.lemmas.List.Sums.{prefix_len_is}
 use Rattle.memchr.specs.Find.{IsFirstByte, is_byte}
-use Rattle.ghcn_fields.specs.Bytes.{same_bytes}
-use Rattle.ghcn_fields.specs.Dates.{read_date, date_text}
+use Rattle.ghcn_fields.specs.Meaning.Bytes.{same_bytes}
+use Rattle.ghcn_fields.specs.Meaning.Dates.{date_text}
+use Rattle.ghcn_fields.specs.Dates.{read_date}
 use Rattle.ghcn_fields.proofs.DateTexts.{read_date-law}
 use Rattle.ghcn_files.specs.Ids.{is_id}
-use Rattle.ghcn_files.specs.StationLines.{is_printable}
+use Rattle.ghcn_files.specs.Meaning.StationLines.{is_printable}
 use Rattle.ghcn_fields.specs.Numbers.{natural, signed_by}
-use Rattle.rank_query.specs.Asked.{Asked}
-use Rattle.rank_papers.specs.Values.{measure_of_score, unit_text, value_of}
+use Rattle.rank_query.specs.Meaning.Asked.{Asked}
+use Rattle.rank_papers.specs.Meaning.Values.{measure_of_score, unit_text, value_of}
 use Rattle.rank_papers.specs.Report.{Named}
 use Rattle.rank_papers.specs.Lines.{exactly}
 use Rattle.rank_papers.specs.ReportLines.{row_line, score_in, row_with, is_name, first_word, row_in_columns, row_in}

@@ -1,9 +1,9 @@
 -- Where the reading of a report ends is its first bad line.
 use Rattle.std.proofs.Common.{◌≡◌, ℕ, true, false, cond, List, Option, Some, None, Err, refl, sym, ◌∙◌}
 use Rattle.std.specs.Option.{option_map_or}
-use Rattle.ghcn_fields.specs.Bytes.{same_bytes}
-use Rattle.rank_query.specs.Asked.{Asked}
-use Rattle.rank_papers.specs.Report.{query_line, report_text}
+use Rattle.ghcn_fields.specs.Meaning.Bytes.{same_bytes}
+use Rattle.rank_query.specs.Meaning.Asked.{Asked}
+use Rattle.rank_papers.specs.Meaning.Report.{query_line, report_text}
 use Rattle.rank_papers.specs.Lines.{query_in}
 use Rattle.rank_papers.specs.ReportLines.{report_end, row_behind, rows_in, with_rows, behind_report_title, reported_lines}
 use Rattle.rank_papers.specs.Places.{IsReportText}

@@ -7,12 +7,14 @@ use Rattle.std.proofs.lemmas.List.{take_more, length-map, map-append}
 use Rattle.std.proofs.lemmas.List.Elements.{filter_map-append}
 use Rattle.std.proofs.lemmas.Grind.{flat_map-append}
 use Rattle.ghcn_files.specs.declared.station.Station.{Station}
-use Rattle.ghcn_files.specs.Listed.{is_station_of}
+use Rattle.ghcn_files.specs.Meaning.Listed.{is_station_of}
 use Rattle.ghcn_files.proofs.LineLaws.{enumerate_from-append}
-use Rattle.rank_query.specs.Asked.{Asked}
+use Rattle.rank_query.specs.Meaning.Asked.{Asked}
 use Rattle.rank_scores.specs.declared.candidate.Candidate.{Candidate}
 use Rattle.rank_scores.specs.QueryCandidates.{AreOfListed}
-use Rattle.rank_papers.specs.Report.{Named, named, trimmed, with_stations, with_station, rows_of_best, text_line, row_fields, end_fields, query_line, report_text, text_of_best, IsReportOfBest}
+use Rattle.rank_papers.specs.Meaning.Report.{trimmed, text_line, row_fields, end_fields, query_line, report_text}
+use Rattle.rank_papers.specs.Meaning.Report.{IsReportOfBest}
+use Rattle.rank_papers.specs.Report.{Named, named, with_stations, with_station, rows_of_best, text_of_best}
 use Rattle.rank_papers.proofs.RowText.{rows_text}
 
 -- the line of one row more follows the lines of the rows before it

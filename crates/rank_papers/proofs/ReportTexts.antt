@@ -7,17 +7,18 @@ use Rattle.std.specs.List.{list_all, join_with_byte, enumerate_from, AllByRecurs
 use Rattle.std.specs.Option.{option_map_or}
 use Rattle.std.proofs.lemmas.Bool.{leb-true, and_parts}
 use Rattle.std.proofs.lemmas.Bool.Decides.{nat_tests}
-use Rattle.ghcn_fields.specs.Dates.{date_text}
-use Rattle.ghcn_files.specs.Ids.{is_visible}
-use Rattle.ghcn_files.specs.StationLines.{is_printable}
-use Rattle.rank_query.specs.Asked.{Asked}
-use Rattle.rank_query.specs.QueryTexts.{query_text}
+use Rattle.ghcn_fields.specs.Meaning.Dates.{date_text}
+use Rattle.ghcn_files.specs.Meaning.Ids.{is_visible}
+use Rattle.ghcn_files.specs.Meaning.StationLines.{is_printable}
+use Rattle.rank_query.specs.Meaning.Asked.{Asked}
+use Rattle.rank_query.specs.Meaning.QueryTexts.{query_text}
 use Rattle.rank_query.proofs.CanonicalTexts.{canonical}
 use Rattle.rank_query.proofs.PrintedWords.{date_word}
 use Rattle.rank_papers.specs.declared.measure.Measure.{Measure}
 use Rattle.rank_papers.specs.declared.measure.Measure.TheVariants.{Degrees, Millimetres, WholeMillimetres, Days}
-use Rattle.rank_papers.specs.Values.{measure_of_score, unit_text, value_text, value_of}
-use Rattle.rank_papers.specs.Report.{field_unless_empty, Named, row_fields, end_fields, query_line, report_text}
+use Rattle.rank_papers.specs.Meaning.Values.{measure_of_score, unit_text, value_text, value_of}
+use Rattle.rank_papers.specs.Meaning.Report.{field_unless_empty, row_fields, end_fields, query_line, report_text}
+use Rattle.rank_papers.specs.Report.{Named}
 use Rattle.rank_papers.proofs.RowText.{rows_text}
 use Rattle.rank_papers.specs.Lines.{paper_lines}
 use Rattle.rank_papers.specs.ReportLines.{Reported, IsReported, IsReportOf, IsRow, ends_in_print, row_line, row_in, report_end, row_behind, rows_in, with_rows, reported_lines, read_report}

@@ -5,15 +5,16 @@ use Rattle.std.specs.Option.{option_map}
 use Rattle.std.specs.Cmp.Lexicographic.{bytes_decides}
 use Rattle.std.proofs.lemmas.Bool.{le-leb, and_parts}
 use Rattle.std.proofs.lemmas.Bool.Decides.{nat_tests}
-use Rattle.ghcn_fields.specs.Bytes.{same_bytes}
-use Rattle.ghcn_fields.specs.Days.{is_day}
+use Rattle.ghcn_fields.specs.Meaning.Bytes.{same_bytes}
+use Rattle.ghcn_fields.specs.Meaning.Days.{is_day}
 use Rattle.ghcn_fields.specs.Dates.{read_date}
 use Rattle.ghcn_fields.specs.Numbers.{natural, signed_by}
 use Rattle.ghcn_fields.proofs.DateTexts.{read_date-law}
 use Rattle.ghcn_files.specs.Ids.{is_id}
-use Rattle.rank_query.specs.Asked.{Asked}
-use Rattle.rank_papers.specs.Values.{measure_of_score, unit_text, value_of}
-use Rattle.rank_papers.specs.Report.{Named, text_line, query_line}
+use Rattle.rank_query.specs.Meaning.Asked.{Asked}
+use Rattle.rank_papers.specs.Meaning.Values.{measure_of_score, unit_text, value_of}
+use Rattle.rank_papers.specs.Meaning.Report.{text_line, query_line}
+use Rattle.rank_papers.specs.Report.{Named}
 use Rattle.rank_papers.specs.Lines.{query_in}
 use Rattle.rank_papers.specs.ReportLines.{Reported, IsReported, IsRow, is_name, row_line, score_in, row_with, first_word, row_in_columns, row_in, report_end, row_behind, rows_in, with_rows, behind_report_title, reported_lines}
 use Rattle.rank_papers.proofs.LineValues.{exactly-some, in_i64-some, option-ok, cond-ok, query_in-is}

@@ -13,17 +13,20 @@ use Rattle.ghcn_fields.specs.Floor.{IsScore}
 use Rattle.ghcn_fields.specs.Sorting.{placed, sorted_by}
 use Rattle.ghcn_files.specs.declared.station.Station.{Station}
 use Rattle.ghcn_files.specs.declared.station.StationId.{StationId}
-use Rattle.ghcn_files.specs.Ids.{is_id, same_id}
+use Rattle.ghcn_files.specs.Meaning.Ids.{same_id}
+use Rattle.ghcn_files.specs.Ids.{is_id}
 use Rattle.ghcn_files.proofs.IdLaws.{same_id-is}
-use Rattle.ghcn_files.specs.Listed.{is_station_of}
+use Rattle.ghcn_files.specs.Meaning.Listed.{is_station_of}
 use Rattle.ghcn_files.specs.StationLines.{is_station}
-use Rattle.ghcn_series.specs.Series.{Usable, Contents, IsSeries, series_of, is_series_of}
+use Rattle.ghcn_series.specs.Meaning.Series.{Usable}
+use Rattle.ghcn_series.specs.Series.{Contents, IsSeries, series_of, is_series_of}
 use Rattle.ghcn_series.specs.Held.{IsContents}
 use Rattle.ghcn_series.specs.DailyFaults.{is_listed}
-use Rattle.rank_query.specs.Asked.{Asked, IsAsked, score_element}
+use Rattle.rank_query.specs.Meaning.Asked.{Asked, IsAsked, score_element}
 use Rattle.rank_query.specs.Admits.{admits_station}
 use Rattle.rank_scores.specs.declared.candidate.Candidate.{Candidate}
-use Rattle.rank_scores.specs.Candidates.{admitted, candidates}
+use Rattle.rank_scores.specs.Meaning.Candidates.{admitted}
+use Rattle.rank_scores.specs.Candidates.{candidates}
 use Rattle.rank_scores.specs.Order.{of_rank, rank_in, kth_score}
 use Rattle.rank_scores.specs.Morsels.{admitted_series, morsels, id_comes_first, all_candidates, best_of_query}
 use Rattle.rank_scores.specs.Morsels.{kth_of_query}

@@ -10,12 +10,13 @@ use Rattle.ghcn_fields.specs.Floor.{IsScore}
 use Rattle.ghcn_files.specs.declared.station.Station.{Station}
 use Rattle.ghcn_files.specs.declared.station.StationId.{StationId}
 use Rattle.ghcn_files.specs.Ids.{is_id}
-use Rattle.ghcn_files.specs.Listed.{is_station_of}
+use Rattle.ghcn_files.specs.Meaning.Listed.{is_station_of}
 use Rattle.ghcn_files.specs.StationLines.{is_station}
 use Rattle.ghcn_files.proofs.Ordered.{each-mapped}
-use Rattle.ghcn_series.specs.Series.{Usable, Contents, IsSeries}
+use Rattle.ghcn_series.specs.Meaning.Series.{Usable}
+use Rattle.ghcn_series.specs.Series.{Contents, IsSeries}
 use Rattle.ghcn_series.specs.Held.{IsContents}
-use Rattle.rank_query.specs.Asked.{Asked, IsAsked}
+use Rattle.rank_query.specs.Meaning.Asked.{Asked, IsAsked}
 use Rattle.rank_scores.specs.declared.candidate.Candidate.{Candidate}
 use Rattle.rank_scores.specs.Candidates.{candidates}
 use Rattle.rank_scores.specs.Order.{of_rank, best}
@@ -24,7 +25,8 @@ use Rattle.rank_scores.specs.QueryCandidates.{AreOfListed}
 use Rattle.rank_scores.proofs.QueryCandidates.{best-holds}
 use Rattle.rank_sched.proofs.Lists.{each-append}
 use Rattle.rank_sched.proofs.PlanMade.{kept-length}
-use Rattle.rank_papers.specs.Report.{Named, named, trimmed, with_stations, report_text, IsReport}
+use Rattle.rank_papers.specs.Meaning.Report.{trimmed, report_text}
+use Rattle.rank_papers.specs.Report.{Named, named, with_stations, IsReport}
 use Rattle.rank_papers.specs.ReportLines.{Reported, IsReported, IsReportOf, IsRow, name_of, SaysRightReport}
 use Rattle.rank_papers.specs.Laws.{RightReportsSayRight}
 use Rattle.rank_papers.proofs.CandidateDays.{IsOfDays, candidates_of_days}

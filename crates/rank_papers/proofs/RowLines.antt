@@ -5,12 +5,14 @@ use Rattle.std.specs.List.{list_all, join_with_byte, take_while}
 use Rattle.std.proofs.lemmas.Bool.{and_parts}
 use Rattle.std.proofs.lemmas.Bool.Decides.{nat_tests}
 use Rattle.std.proofs.lemmas.List.Sums.{take_while-cons}
-use Rattle.ghcn_fields.specs.Dates.{date_text, read_date}
+use Rattle.ghcn_fields.specs.Meaning.Dates.{date_text}
+use Rattle.ghcn_fields.specs.Dates.{read_date}
 use Rattle.ghcn_fields.proofs.DateTexts.{read_date-law}
-use Rattle.ghcn_files.specs.Ids.{is_visible}
-use Rattle.rank_query.specs.Asked.{Asked}
-use Rattle.rank_papers.specs.Values.{measure_of_score, unit_text, value_text, value_of}
-use Rattle.rank_papers.specs.Report.{field_unless_empty, Named, text_line}
+use Rattle.ghcn_files.specs.Meaning.Ids.{is_visible}
+use Rattle.rank_query.specs.Meaning.Asked.{Asked}
+use Rattle.rank_papers.specs.Meaning.Values.{measure_of_score, unit_text, value_text, value_of}
+use Rattle.rank_papers.specs.Meaning.Report.{field_unless_empty, text_line}
+use Rattle.rank_papers.specs.Report.{Named}
 use Rattle.rank_papers.specs.ReportLines.{IsRow, is_name, row_line, score_in, row_with, first_word, row_in_columns, row_in, row_behind}
 use Rattle.rank_papers.proofs.LineValues.{exactly-from}
 use Rattle.rank_papers.proofs.ReadLines.{id_long}

@@ -5,20 +5,22 @@ use Rattle.std.proofs.lemmas.Bool.{and_parts}
 use Rattle.ghcn_files.specs.declared.element.Element.{Element}
 use Rattle.ghcn_files.specs.declared.station.Station.{Station}
 use Rattle.ghcn_files.specs.declared.station.StationId.{StationId}
-use Rattle.ghcn_files.specs.Ids.{same_id}
+use Rattle.ghcn_files.specs.Meaning.Ids.{same_id}
 use Rattle.ghcn_files.proofs.IdLaws.{same_id-is, same_id-laws}
-use Rattle.ghcn_files.specs.Listed.{is_station_of}
+use Rattle.ghcn_files.specs.Meaning.Listed.{is_station_of}
 use Rattle.ghcn_files.specs.Elements.{same_element}
 use Rattle.ghcn_series.specs.DailyFaults.{is_listed}
 use Rattle.ghcn_series.specs.Says.{data_of}
-use Rattle.ghcn_series.specs.Series.{Usable, Contents, is_series_of, series_of}
+use Rattle.ghcn_series.specs.Meaning.Series.{Usable}
+use Rattle.ghcn_series.specs.Series.{Contents, is_series_of, series_of}
 use Rattle.ghcn_series.proofs.AllSeries.{same_element-is}
 use Rattle.ghcn_series.proofs.Members.{In, contains-in, in-contains, found_in, kept_in, in_kept, made_in, in_made, in_any}
 use Rattle.ghcn_series.proofs.SaidLines.{held-said}
 use Rattle.ghcn_series.proofs.SaidSeries.{series_said}
 use Rattle.rank_query.specs.Admits.{admits_station}
-use Rattle.rank_query.specs.Asked.{Asked, score_element}
-use Rattle.rank_papers.specs.Right.{IsAdmittedSeries, IsRightReport}
+use Rattle.rank_query.specs.Meaning.Asked.{Asked, score_element}
+use Rattle.rank_papers.specs.Meaning.Right.{IsAdmittedSeries}
+use Rattle.rank_papers.specs.Right.{IsRightReport}
 use Rattle.rank_papers.specs.RightLaws.{IsHeldSeries, ReportsAreSaid, CertificatesAreSaid}
 use Rattle.rank_papers.proofs.FoundPapers.{report-moved, certificate-moved, turned}
 

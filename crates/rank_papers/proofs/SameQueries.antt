@@ -6,12 +6,12 @@ use Rattle.std.specs.Option.{option_eq}
 use Rattle.std.specs.Ordering.{int_eq}
 use Rattle.std.specs.Cmp.Lexicographic.{bytes_decides}
 use Rattle.std.proofs.lemmas.Bool.Decides.{Decides-int_eq}
-use Rattle.rank_query.specs.Asked.{Asked, IsAsked}
-use Rattle.rank_query.specs.QueryTexts.{query_text}
-use Rattle.rank_papers.specs.Report.{text_line}
+use Rattle.rank_query.specs.Meaning.Asked.{Asked, IsAsked}
+use Rattle.rank_query.specs.Meaning.QueryTexts.{query_text}
+use Rattle.rank_papers.specs.Meaning.Report.{text_line}
 use Rattle.rank_papers.specs.Papers.{same_query}
-use Rattle.rank_papers.specs.Certificate.{Certified, title_line, certificate_text, kth_line, counted, entry_line}
-use Rattle.rank_papers.specs.Certificate.{end_line}
+use Rattle.rank_papers.specs.Meaning.Certificate.{title_line, kth_line, entry_line, end_line}
+use Rattle.rank_papers.specs.Certificate.{Certified, certificate_text, counted}
 use Rattle.rank_papers.specs.CertificateLines.{read_certificate}
 use Rattle.rank_papers.specs.Laws.{CertificatesAreRead}
 

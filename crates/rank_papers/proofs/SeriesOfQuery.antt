@@ -8,15 +8,16 @@ use Rattle.std.specs.declared.cmp.Ordering.TheVariants.{Less}
 use Rattle.std.proofs.lemmas.Bool.Decides.{nat_tests}
 use Rattle.ghcn_files.proofs.IdOrder.{id_cmp, comes_first, strictly, strictly_ranks}
 use Rattle.ghcn_files.proofs.Ordered.{Descend, descend-weaker, less, one_rising, sorted-permutation}
-use Rattle.ghcn_series.specs.Series.{Usable, Contents}
+use Rattle.ghcn_series.specs.Meaning.Series.{Usable}
+use Rattle.ghcn_series.specs.Series.{Contents}
 use Rattle.ghcn_series.specs.Held.{IsContents}
 use Rattle.ghcn_series.proofs.Members.{In, contains-in, in-contains, of_one, for_each, kept_in, in_kept, in_permuted}
-use Rattle.rank_query.specs.Asked.{Asked}
-use Rattle.rank_scores.specs.Candidates.{admitted}
+use Rattle.rank_query.specs.Meaning.Asked.{Asked}
+use Rattle.rank_scores.specs.Meaning.Candidates.{admitted}
 use Rattle.rank_scores.specs.Morsels.{admitted_series, morsels, has_admitted}
 use Rattle.rank_scores.proofs.QueryCandidates.{morsels_rise}
 use Rattle.rank_pool.proofs.Orders.{sorted-all}
-use Rattle.rank_papers.specs.Right.{AreSeriesOf}
+use Rattle.rank_papers.specs.Meaning.Right.{AreSeriesOf}
 use Rattle.rank_papers.specs.RightLaws.{IsHeldSeries}
 use Rattle.rank_papers.proofs.BestOfQuery.{sorted-descends, descends-sorted}
 

@@ -4,13 +4,14 @@ use Rattle.std.proofs.Common.{length, take, drop, Some, refl, sym, ap, ◌∙◌
 use Rattle.std.specs.Prelude.{◌&&◌, ◌==◌, slice_range}
 use Rattle.std.specs.Cmp.Lexicographic.{bytes_decides}
 use Rattle.std.proofs.lemmas.Bool.Decides.{nat_tests}
-use Rattle.ghcn_fields.specs.Bytes.{same_bytes}
-use Rattle.ghcn_fields.specs.Dates.{date_text}
-use Rattle.rank_query.specs.Asked.{Asked}
+use Rattle.ghcn_fields.specs.Meaning.Bytes.{same_bytes}
+use Rattle.ghcn_fields.specs.Meaning.Dates.{date_text}
+use Rattle.rank_query.specs.Meaning.Asked.{Asked}
 use Rattle.rank_papers.specs.declared.measure.Measure.{Measure}
 use Rattle.rank_papers.specs.declared.measure.Measure.TheVariants.{Degrees, Millimetres, WholeMillimetres, Days}
-use Rattle.rank_papers.specs.Values.{measure_of_score, unit_text, value_text, value_of}
-use Rattle.rank_papers.specs.Report.{field_unless_empty, Named, text_line}
+use Rattle.rank_papers.specs.Meaning.Values.{measure_of_score, unit_text, value_text, value_of}
+use Rattle.rank_papers.specs.Meaning.Report.{field_unless_empty, text_line}
+use Rattle.rank_papers.specs.Report.{Named}
 use Rattle.rank_papers.specs.ReportLines.{row_line, row_in_columns}
 use Rattle.rank_papers.specs.Spelled.{has_blank, has_text, has_front, ends_by_name, has_back}
 use Rattle.rank_papers.proofs.ReportFields.{IsCutOut, cut_out}

@@ -13,18 +13,19 @@ use Rattle.std.proofs.lemmas.Int.{ints}
 use Rattle.std.proofs.lemmas.Int.Digits.{digits_value_push}
 use Rattle.std.proofs.lemmas.List.Elements.{filter-append}
 use Rattle.std.proofs.lemmas.List.Folds.{list_all-append}
-use Rattle.ghcn_fields.specs.Numbers.{natural, signed_by, with_sign}
-use Rattle.ghcn_fields.specs.NumberTexts.{tenths_of}
+use Rattle.ghcn_fields.specs.Meaning.Numbers.{with_sign}
+use Rattle.ghcn_fields.specs.Numbers.{natural, signed_by}
+use Rattle.ghcn_fields.specs.Meaning.NumberTexts.{tenths_of}
 use Rattle.ghcn_fields.proofs.Digits.{natural-from}
-use Rattle.ghcn_files.specs.Ids.{is_visible}
+use Rattle.ghcn_files.specs.Meaning.Ids.{is_visible}
 use Rattle.rank_query.specs.declared.score.Score.{Score}
 use Rattle.rank_query.specs.declared.score.Score.TheVariants.{Highest, Lowest, Sum, Dry, Wet, Hot, Cold}
-use Rattle.rank_query.specs.Asked.{Asked}
-use Rattle.rank_query.specs.Spelling.{IsNumeralOf}
+use Rattle.rank_query.specs.Meaning.Asked.{Asked}
+use Rattle.rank_query.specs.Meaning.Spelling.{IsNumeralOf}
 use Rattle.rank_query.proofs.PrintedWords.{decimal_numeral}
 use Rattle.rank_papers.specs.declared.measure.Measure.{Measure}
 use Rattle.rank_papers.specs.declared.measure.Measure.TheVariants.{Degrees, Millimetres, WholeMillimetres, Days}
-use Rattle.rank_papers.specs.Values.{measure_of_score, value_text, value_of}
+use Rattle.rank_papers.specs.Meaning.Values.{measure_of_score, value_text, value_of}
 use Rattle.rank_papers.specs.Lines.{in_i64}
 use Rattle.rank_papers.specs.ReportLines.{score_in}
 use Rattle.rank_papers.proofs.NumberTexts.{unsigned}

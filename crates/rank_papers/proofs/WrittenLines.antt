@@ -9,9 +9,9 @@ use Rattle.std.proofs.lemmas.List.Sums.{AllPass-from_list_all}
 use Rattle.std.proofs.lemmas.Str.{IsUtf8-from_ascii}
 use Rattle.std.proofs.lemmas.Str.Ascii.{IsAscii-from_all}
 use Rattle.std.specs.Fmt.{signed_decimal}
-use Rattle.ghcn_files.specs.Ids.{is_visible}
-use Rattle.ghcn_files.specs.StationLines.{is_printable}
-use Rattle.rank_papers.specs.Report.{text_line}
+use Rattle.ghcn_files.specs.Meaning.Ids.{is_visible}
+use Rattle.ghcn_files.specs.Meaning.StationLines.{is_printable}
+use Rattle.rank_papers.specs.Meaning.Report.{text_line}
 use Rattle.rank_papers.specs.Lines.{paper_lines, before_lines, onto_first}
 
 -- ---- a line of bytes that can be printed

@@ -1,20 +1,21 @@
 -- The text of a certificate, and when it is right.
-use Rattle.std.specs.Prelude.{◌≡◌, ◌⊎◌, ◌≤◌, ℕ, ◌-◌, ◌==◌, Bool, true, ◌&&◌, not, if◌then◌else◌, List, [], ◌∷◌, ◌++◌}
-use Rattle.std.specs.Prelude.{length, map, codes, Option, ℤ, FitsSigned, IfSome, IsTrue, slice_get}
+use Rattle.std.specs.Prelude.{◌≡◌, ◌⊎◌, ◌≤◌, ℕ, ◌-◌, ◌==◌, true, if◌then◌else◌, List, [], ◌∷◌, ◌++◌, length, map}
+use Rattle.std.specs.Prelude.{Option, ℤ, FitsSigned, IfSome, IsTrue, slice_get}
 use Rattle.std.specs.List.{flat_map, count_by, AllByRecursion, AllZip}
-use Rattle.std.specs.Option.{option_map, option_map_or}
+use Rattle.std.specs.Option.{option_map}
 use Rattle.std.specs.Int.{w64}
-use Rattle.std.specs.Fmt.{decimal}
-use Rattle.std.specs.Fmt.{signed_decimal}
-use Rattle.ghcn_files.specs.Ids.{is_id, same_id}
-use Rattle.ghcn_series.specs.Series.{Usable, Contents}
-use Rattle.rank_query.specs.Asked.{Asked, IsAsked}
+use Rattle.ghcn_files.specs.Meaning.Ids.{same_id}
+use Rattle.ghcn_files.specs.Ids.{is_id}
+use Rattle.ghcn_series.specs.Meaning.Series.{Usable}
+use Rattle.ghcn_series.specs.Series.{Contents}
+use Rattle.rank_query.specs.Meaning.Asked.{Asked, IsAsked}
 use Rattle.rank_scores.specs.declared.candidate.Candidate.{Candidate}
 use Rattle.rank_scores.specs.Order.{bound_is_below}
 use Rattle.rank_scores.specs.Morsels.{morsels, best_of_query, kth_of_query, IsAbove}
 use Rattle.rank_sched.specs.declared.line.Line.{Line}
 use Rattle.rank_papers.specs.declared.counted.Counted.{Counted}
-use Rattle.rank_papers.specs.Report.{text_line, query_line}
+use Rattle.rank_papers.specs.Meaning.Report.{query_line}
+use Rattle.rank_papers.specs.Meaning.Certificate.{title_line, kth_line, entry_line, end_line}
 
 -- ---- the text
 
@@ -32,36 +33,11 @@ pub record Certified : Type 0 where
   pub entries : List Entry
   pub counts : List ℕ
 
--- the first line of a certificate, which names the version of its format, 1 or 2
-abbrev pub title_line : ℕ → List ℕ
-title_line version =
-    text_line ((if version == 1 then codes "extremes certificate 1" else codes "extremes certificate 2") ∷ [])
-
--- the line of a k-th score, or of none
-abbrev pub kth_line : Option ℤ → List ℕ
-kth_line kth = text_line (codes "kth" ∷ option_map_or signed_decimal kth (codes "none") ∷ [])
-
 -- entries with their counts, 0 if there are no more of these
 abbrev pub counted : List Entry → List ℕ → List Counted
 counted [] counts = []
 counted (e ∷ es) [] = record { entry = e; count = 0 } ∷ counted es []
 counted (e ∷ es) (n ∷ counts) = record { entry = e; count = n } ∷ counted es counts
-
--- the line of an entry ends by a count: only in version 2, and only if the series wasn't skipped
-abbrev pub has_count : ℕ → Line → Bool
-has_count version e = version == 2 && not e.skipped
-
--- the line of an entry, with its count after a blank if it has one
-abbrev pub entry_line : ℕ → Counted → List ℕ
-entry_line version l = text_line (
-    (if l.entry.skipped then codes "skip" else codes "scan")
-    ∷ l.entry.id.0
-    ∷ (signed_decimal l.entry.bound ++ (if has_count version l.entry then 32 ∷ decimal l.count else []))
-    ∷ [])
-
--- the last line of a certificate with that many entries
-abbrev pub end_line : ℕ → List ℕ
-end_line n = text_line (codes "end" ∷ decimal n ∷ [])
 
 -- the text of a certificate
 abbrev pub certificate_text : Certified → List ℕ

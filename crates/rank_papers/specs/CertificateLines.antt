@@ -1,16 +1,17 @@
 -- Reading a certificate line by line: what its text says, or the number of its first bad line.
 use Rattle.std.specs.Prelude.{◌≡◌, ⊤, ℕ, ◌+◌, ◌-◌, ◌==◌, Bool, if◌then◌else◌, List, [], ◌∷◌, length, take, drop, map, codes, slice_range, Option, None, Some, Result, Ok, Err, ℤ}
 use Rattle.std.specs.Option.{option_map, option_map_or}
-use Rattle.ghcn_fields.specs.Bytes.{same_bytes}
+use Rattle.ghcn_fields.specs.Meaning.Bytes.{same_bytes}
 use Rattle.ghcn_fields.specs.Numbers.{natural, up_to}
 use Rattle.ghcn_files.specs.Ids.{is_id}
-use Rattle.rank_query.specs.Asked.{Asked}
+use Rattle.rank_query.specs.Meaning.Asked.{Asked}
 use Rattle.rank_papers.specs.declared.fault.PaperFault.{PaperFault}
 use Rattle.rank_papers.specs.declared.fault.PaperFault.TheVariants.{BadReport, BadCertificate, Memory}
 use Rattle.rank_papers.specs.declared.paper.Certificate.{Certificate}
 use Rattle.rank_papers.specs.declared.counted.Counted.{Counted}
 use Rattle.rank_papers.specs.ReportLines.{first_word}
-use Rattle.rank_papers.specs.Certificate.{Entry, Certified, title_line, kth_line, has_count, entry_line, end_line}
+use Rattle.rank_papers.specs.Meaning.Certificate.{title_line, kth_line, has_count, entry_line, end_line}
+use Rattle.rank_papers.specs.Certificate.{Entry, Certified}
 use Rattle.rank_papers.specs.Lines.{paper_lines, ends_by, up_to_end, exactly, number_in, query_in}
 
 -- a k-th score or none, by its word

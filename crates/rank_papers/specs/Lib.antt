@@ -1,4 +1,4 @@
-pub mod Values
+pub mod Meaning
 pub mod Report
 pub mod Certificate
 pub mod StationRows

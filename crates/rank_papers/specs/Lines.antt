@@ -1,13 +1,13 @@
 -- The lines of a report or a certificate with their line feeds, and the values that are read of a line.
 use Rattle.std.specs.Prelude.{◌≡◌, ◌<◌, ℕ, suc, ◌+◌, ◌-◌, ◌==◌, Bool, ◌&&◌, if◌then◌else◌, List, [], ◌∷◌, length, slice_range, Option, None, Some, Result, Ok, Err, ℤ, pos, neg_ℤ, int_le, ◌^◌}
 use Rattle.std.specs.List.{list_all}
-use Rattle.ghcn_fields.specs.Bytes.{same_bytes}
+use Rattle.ghcn_fields.specs.Meaning.Bytes.{same_bytes}
 use Rattle.ghcn_fields.specs.Numbers.{natural, signed_by}
 use Rattle.std.specs.Fmt.{signed_decimal}
-use Rattle.ghcn_files.specs.StationLines.{is_printable}
-use Rattle.rank_query.specs.Asked.{Asked}
+use Rattle.ghcn_files.specs.Meaning.StationLines.{is_printable}
+use Rattle.rank_query.specs.Meaning.Asked.{Asked}
 use Rattle.rank_query.specs.Reading.{read_query}
-use Rattle.rank_papers.specs.Report.{query_line}
+use Rattle.rank_papers.specs.Meaning.Report.{query_line}
 
 -- ---- lines
 

@@ -1,66 +1,24 @@
--- The right report of a query.
-use Rattle.std.specs.Prelude.{◌≡◌, ℕ, ◌-◌, ◌==◌, nat_lt, if◌then◌else◌, List, [], ◌∷◌, ◌++◌, length, take, map, codes, Option, Some}
-use Rattle.std.specs.List.{join_with_byte, flat_map, enumerate_from, find, filter_map, suffix_len, AllByRecursion}
+-- The rows of a report with the names of stations, and the right report of data.
+use Rattle.std.specs.Prelude.{ℕ, List, ◌∷◌, map, Option}
+use Rattle.std.specs.List.{find, filter_map}
 use Rattle.std.specs.Option.{option_map}
-use Rattle.std.specs.Fmt.{decimal}
-use Rattle.ghcn_fields.specs.Dates.{date_text}
 use Rattle.ghcn_files.specs.declared.station.Station.{Station}
-use Rattle.ghcn_files.specs.Listed.{is_station_of}
+use Rattle.ghcn_files.specs.Meaning.Listed.{is_station_of}
 use Rattle.ghcn_series.specs.Series.{Contents}
-use Rattle.rank_query.specs.Asked.{Asked}
-use Rattle.rank_query.specs.QueryTexts.{query_text}
+use Rattle.rank_query.specs.Meaning.Asked.{Asked}
 use Rattle.rank_scores.specs.declared.candidate.Candidate.{Candidate}
 use Rattle.rank_scores.specs.Morsels.{best_of_query}
-use Rattle.rank_papers.specs.Values.{measure_of_score, value_of, value_text, unit_text}
+use Rattle.rank_papers.specs.Meaning.Report.{trimmed, report_text, IsReportOfBest}
 
 -- ---- lines
-
--- fields with one blank between them, and a line feed
-abbrev pub text_line : List (List ℕ) → List ℕ
-text_line fields = join_with_byte 32 fields ++ 10 ∷ []
 
 -- a blank and a field
 abbrev pub after_blank : List ℕ → List ℕ
 after_blank field = 32 ∷ field
 
--- bytes without the blanks at their end
-abbrev pub trimmed : List ℕ → List ℕ
-trimmed bytes = take (length bytes - suffix_len (λ b. b == 32) bytes) bytes
-
--- one field, or none if it is empty
-abbrev pub field_unless_empty : List ℕ → List (List ℕ)
-field_unless_empty [] = []
-field_unless_empty (b ∷ bytes) = (b ∷ bytes) ∷ []
-
 -- a row as it is printed: a candidate, and a name, which may be empty
 abbrev pub Named : Type 0
 Named = Candidate × List ℕ
-
--- the fields of a row: its rank, from 1, its candidate, with the value of the score and the unit, and a name
-abbrev pub row_fields : Asked → ℕ × (Candidate × List ℕ) → List (List ℕ)
-row_fields q row =
-    let candidate = row.1.0 in
-    let measure = measure_of_score q.score in
-    decimal row.0 ∷ candidate.id.0 ∷ date_text candidate.first ∷ date_text candidate.last
-    ∷ value_text measure (value_of q.score candidate.score) ∷ unit_text measure ∷ field_unless_empty row.1.1
-
--- the fields of the last line: how many rows there are, and `all` if there are fewer than k
-abbrev pub end_fields : ℕ → ℕ → List (List ℕ)
-end_fields k n = codes "end" ∷ decimal n ∷ (if nat_lt n k then codes "all" ∷ [] else [])
-
--- ---- the text
-
--- the line of a query
-abbrev pub query_line : Asked → List ℕ
-query_line q = text_line (codes "query" ∷ query_text q ∷ [])
-
--- the text of a report with these rows, ranked from 1
-abbrev pub report_text : Asked → List (Candidate × List ℕ) → List ℕ
-report_text q rows =
-    text_line (codes "extremes report 1" ∷ [])
-    ++ query_line q
-    ++ flat_map (λ row. text_line (row_fields q row)) (enumerate_from 1 rows)
-    ++ text_line (end_fields q.k (length rows))
 
 -- ---- whose rows are right
 
@@ -75,14 +33,6 @@ with_station stations c = option_map (λ station. (c, station)) (find (is_statio
 -- candidates with their listed stations
 abbrev pub with_stations : List Station → List Candidate → List (Candidate × Station)
 with_stations stations cs = filter_map (with_station stations) cs
-
--- the report of a query with these best candidates: a row for each, with its listed station
-pub record IsReportOfBest (q : Asked) (stations : List Station) (candidates : List Candidate) (bytes : List ℕ)
-    : Type 0 where
-  pub rows : List (Candidate × Station)
-  pub best : map (λ row. row.0) rows ≡ candidates
-  pub listed : AllByRecursion (λ row. find (is_station_of row.0.id) stations ≡ Some row.1) rows
-  pub text : bytes ≡ report_text q (map (λ row. (row.0, trimmed row.1.name)) rows)
 
 -- the right report of a query and data: that of the best candidates
 abbrev pub IsReport : Asked → Contents → List ℕ → Type 0

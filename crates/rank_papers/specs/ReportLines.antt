@@ -4,24 +4,25 @@ use Rattle.std.specs.List.{list_all, take_while, find, AllByRecursion}
 use Rattle.std.specs.Option.{option_map, option_map_or}
 use Rattle.std.specs.Int.{w64}
 use Rattle.std.specs.Fmt.{decimal}
-use Rattle.ghcn_fields.specs.Bytes.{same_bytes}
-use Rattle.ghcn_fields.specs.Days.{is_day}
+use Rattle.ghcn_fields.specs.Meaning.Bytes.{same_bytes}
+use Rattle.ghcn_fields.specs.Meaning.Days.{is_day}
 use Rattle.ghcn_fields.specs.Dates.{read_date}
 use Rattle.ghcn_fields.specs.Numbers.{natural, signed_by}
 use Rattle.ghcn_files.specs.declared.station.Station.{Station}
 use Rattle.ghcn_files.specs.declared.station.StationId.{StationId}
 use Rattle.ghcn_files.specs.Ids.{is_id}
-use Rattle.ghcn_files.specs.Listed.{is_station_of}
-use Rattle.ghcn_files.specs.StationLines.{is_printable}
+use Rattle.ghcn_files.specs.Meaning.Listed.{is_station_of}
+use Rattle.ghcn_files.specs.Meaning.StationLines.{is_printable}
 use Rattle.ghcn_series.specs.Series.{Contents}
-use Rattle.rank_query.specs.Asked.{Asked, IsAsked}
+use Rattle.rank_query.specs.Meaning.Asked.{Asked, IsAsked}
 use Rattle.rank_scores.specs.Morsels.{best_of_query}
 use Rattle.rank_papers.specs.declared.fault.PaperFault.{PaperFault}
 use Rattle.rank_papers.specs.declared.fault.PaperFault.TheVariants.{BadReport, BadCertificate, Memory}
 use Rattle.rank_papers.specs.declared.paper.Report.{Report}
 use Rattle.rank_papers.specs.declared.paper.Row.{Row}
-use Rattle.rank_papers.specs.Values.{measure_of_score, unit_text, value_of}
-use Rattle.rank_papers.specs.Report.{Named, trimmed, text_line, row_fields, end_fields, report_text}
+use Rattle.rank_papers.specs.Meaning.Values.{measure_of_score, unit_text, value_of}
+use Rattle.rank_papers.specs.Meaning.Report.{trimmed, text_line, row_fields, end_fields, report_text}
+use Rattle.rank_papers.specs.Report.{Named}
 use Rattle.rank_papers.specs.Lines.{paper_lines, ends_by, up_to_end, exactly, in_i64, query_in}
 
 -- ---- what a report can say

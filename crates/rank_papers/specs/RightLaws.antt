@@ -3,16 +3,18 @@
 use Rattle.std.specs.Prelude.{◌≡◌, ◌↔◌, ℕ, List, Ok}
 use Rattle.std.specs.List.{Contains}
 use Rattle.ghcn_files.specs.declared.station.Station.{Station}
-use Rattle.ghcn_series.specs.Series.{Usable, Contents}
+use Rattle.ghcn_series.specs.Meaning.Series.{Usable}
+use Rattle.ghcn_series.specs.Series.{Contents}
 use Rattle.ghcn_series.specs.Says.{data_of}
 use Rattle.ghcn_series.specs.Held.{IsContents}
-use Rattle.rank_query.specs.Asked.{Asked, IsAsked}
+use Rattle.rank_query.specs.Meaning.Asked.{Asked, IsAsked}
 use Rattle.rank_scores.specs.declared.candidate.Candidate.{Candidate}
 use Rattle.rank_scores.specs.Morsels.{admitted_series, best_of_query}
 use Rattle.rank_scores.specs.OneElement.{data_for}
 use Rattle.rank_papers.specs.Report.{IsReport}
 use Rattle.rank_papers.specs.Certificate.{IsCertificate}
-use Rattle.rank_papers.specs.Right.{IsAdmittedSeries, AreBest, IsRightReport, IsRightCertificate}
+use Rattle.rank_papers.specs.Meaning.Right.{IsAdmittedSeries, AreBest}
+use Rattle.rank_papers.specs.Right.{IsRightReport, IsRightCertificate}
 
 -- s is one of the series of a query that data hold
 abbrev pub IsHeldSeries : Asked → Contents → Usable → Type 0

@@ -1,7 +1,7 @@
 -- Whether a line is spelled as the row that was cut out of it.
 use Rattle.std.specs.Prelude.{ℕ, ◌+◌, Bool, false, ◌&&◌, ◌==◌, List, [], ◌∷◌, length, drop, slice_get, slice_range}
 use Rattle.std.specs.Option.{option_map_or}
-use Rattle.ghcn_fields.specs.Bytes.{same_bytes}
+use Rattle.ghcn_fields.specs.Meaning.Bytes.{same_bytes}
 
 -- a blank is at a place of a line
 abbrev pub has_blank : List ℕ → ℕ → Bool

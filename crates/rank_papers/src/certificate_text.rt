@@ -17,6 +17,7 @@ ghost use Rattle.std.specs.Int.{w64};
 ghost use Rattle.std.specs.List.{flat_map};
 ghost use Rattle.std.specs.Fmt.{signed_decimal};
 ghost use Rattle.rank_sched.specs.Answers.{IsAnswerOfPlan};
+ghost use Rattle.rank_papers.specs.Meaning.Certificate.{end_line, entry_line, kth_line, title_line};
 ghost use Rattle.rank_papers.specs.Certificate as certificate;
 ghost use Rattle.rank_papers.specs.PlanPapers.{IsCertificateOfPlan};
 
@@ -67,7 +68,7 @@ pub fn certificate_of_best(
 
 /// The first line of a version.
 pub(crate) fn title(version: u64) -> &'static [u8]
-    ensures { result.now ≡ certificate.title_line version }
+    ensures { result.now ≡ title_line version }
 {
     if version == 1 {
         b"extremes certificate 1\n"
@@ -87,7 +88,7 @@ fn kth_score(k: u64, best: &[Candidate]) -> Option<i64>
 
 /// Adds the line of a k-th score, or of none.
 pub(crate) fn push_kth(paper: &mut Vec<u8>, kth: Option<i64>) -> Result<(), Memory>
-    ensures { OnOk result (paper.new.items ≡ paper.old.items ++ certificate.kth_line kth) }
+    ensures { OnOk result (paper.new.items ≡ paper.old.items ++ kth_line kth) }
 {
     paper.extend_from_slice(b"kth ")?;
     match kth {
@@ -102,7 +103,7 @@ pub(crate) fn push_kth(paper: &mut Vec<u8>, kth: Option<i64>) -> Result<(), Memo
 fn push_lines(paper: &mut Vec<u8>, lines: &[Line], counts: &[u64]) -> Result<(), Memory>
     requires { length counts.now ≡ length lines.now }
     ensures text { OnOk result (paper.new.items ≡ paper.old.items
-        ++ flat_map (certificate.entry_line 2) (certificate.counted lines.now counts.now)) }
+        ++ flat_map (entry_line 2) (certificate.counted lines.now counts.now)) }
     ensures fits { OnOk result (certificate.AreInRange lines.now) }
 {
     for place in 0..lines.len() {
@@ -117,7 +118,7 @@ fn push_lines(paper: &mut Vec<u8>, lines: &[Line], counts: &[u64]) -> Result<(),
 
 /// Adds the line of a series, with its count if the version has one.
 pub(crate) fn push_line(paper: &mut Vec<u8>, version: u64, line: &Counted) -> Result<(), Memory>
-    ensures text { OnOk result (paper.new.items ≡ paper.old.items ++ certificate.entry_line version line.now) }
+    ensures text { OnOk result (paper.new.items ≡ paper.old.items ++ entry_line version line.now) }
     ensures fits { OnOk result (FitsSigned w64 line.now.entry.bound) }
 {
     paper.extend_from_slice(if line.entry.skipped { b"skip" } else { b"scan" })?;
@@ -156,7 +157,7 @@ fn push_count(paper: &mut Vec<u8>, has: bool, count: u64) -> Result<(), Memory>
 
 /// Adds the last line, of that many lines of series.
 pub(crate) fn push_end(paper: &mut Vec<u8>, lines: u64) -> Result<(), Memory>
-    ensures { OnOk result (paper.new.items ≡ paper.old.items ++ certificate.end_line lines) }
+    ensures { OnOk result (paper.new.items ≡ paper.old.items ++ end_line lines) }
 {
     paper.extend_from_slice(b"end ")?;
     push_number(paper, lines)?;

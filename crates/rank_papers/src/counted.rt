@@ -1,7 +1,7 @@
 //! A line of a certificate with its count: how many rows of the report belong to its station.
 
 ghost use Rattle.std.specs.Prelude.{◌≡◌};
-ghost use Rattle.rank_papers.specs.Certificate as certificate;
+ghost use Rattle.rank_papers.specs.Meaning.Certificate as certificate;
 
 use rank_sched::Line;
 

@@ -3,10 +3,11 @@
 ghost use Rattle.std.specs.Prelude.{◌≡◌, ◌≤◌, ◌-◌, ◌^◌, length, slice_range, Some, pos, neg_ℤ};
 ghost use Rattle.std.specs.List.{list_all};
 ghost use Rattle.std.specs.Option.{option_map};
+ghost use Rattle.ghcn_fields.specs.Meaning.Numbers.{with_sign};
 ghost use Rattle.ghcn_fields.specs.Numbers as numbers;
 ghost use Rattle.std.specs.Fmt.{signed_decimal};
-ghost use Rattle.ghcn_fields.specs.Bytes.{same_bytes};
-ghost use Rattle.ghcn_files.specs.StationLines.{is_printable};
+ghost use Rattle.ghcn_fields.specs.Meaning.Bytes.{same_bytes};
+ghost use Rattle.ghcn_files.specs.Meaning.StationLines.{is_printable};
 ghost use Rattle.rank_papers.specs.Lines as lines;
 
 use itoa::Buffer;
@@ -72,7 +73,7 @@ pub(crate) fn number(field: &[u8]) -> Option<i64>
 /// The number of a sign and a magnitude, if it is inside 64 bits.
 pub(crate) fn signed(is_negative: bool, magnitude: u64) -> Option<i64>
     requires { magnitude ≤ 2 ^ 63 }
-    ensures { result ≡ lines.in_i64 (Some (numbers.with_sign is_negative magnitude)) }
+    ensures { result ≡ lines.in_i64 (Some (with_sign is_negative magnitude)) }
 {
     if is_negative {
         Some(negative(magnitude))

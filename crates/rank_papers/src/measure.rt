@@ -1,7 +1,7 @@
 //! How the values of an element or a score are printed.
 
 ghost use Rattle.std.specs.Prelude.{◌≡◌};
-ghost use Rattle.rank_papers.specs.Values as values;
+ghost use Rattle.rank_papers.specs.Meaning.Values as values;
 
 use ghcn_files::Element;
 use rank_query::Score;

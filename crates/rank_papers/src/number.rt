@@ -2,8 +2,8 @@
 
 ghost use Rattle.std.specs.Prelude.{◌≡◌, ◌++◌, OnOk, decimal, int_lt, pos};
 ghost use Rattle.std.specs.Fmt.{signed_decimal};
-ghost use Rattle.ghcn_fields.specs.NumberTexts.{tenths_of};
-ghost use Rattle.rank_papers.specs.Values as values;
+ghost use Rattle.ghcn_fields.specs.Meaning.NumberTexts.{tenths_of};
+ghost use Rattle.rank_papers.specs.Meaning.Values as values;
 
 use crate::measure::{Measure, measure_of};
 use ghcn_fields::Memory;

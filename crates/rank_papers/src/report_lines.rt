@@ -10,11 +10,12 @@
 ghost use Rattle.std.specs.Prelude.{◌≡◌, ◌≤◌, ◌<◌, ◌^◌, ◌++◌, ◌∷◌, ◌==◌, [], length, map, filter, not};
 ghost use Rattle.std.specs.Prelude.{nat_lt, if◌then◌else◌, Some, None, Ok, IfOk, IfErr, OnOk};
 ghost use Rattle.std.specs.Option.{option_map};
-ghost use Rattle.ghcn_fields.specs.Numbers.{natural, signed_by, with_sign};
+ghost use Rattle.ghcn_fields.specs.Meaning.Numbers.{with_sign};
+ghost use Rattle.ghcn_fields.specs.Numbers.{natural, signed_by};
 ghost use Rattle.ghcn_files.specs.Ids.{is_id};
 ghost use Rattle.rank_papers.specs.Lines as lines;
+ghost use Rattle.rank_papers.specs.Meaning.Values.{value_of};
 ghost use Rattle.rank_papers.specs.ReportLines as report;
-ghost use Rattle.rank_papers.specs.Values.{value_of};
 
 use crate::lines::{are_printable, columns, field_from, first_line, magnitude, signed};
 use crate::measure::measure_of;

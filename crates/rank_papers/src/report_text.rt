@@ -11,8 +11,9 @@ ghost use Rattle.std.specs.Prelude.{◌≡◌, ◌++◌, codes, map, OnOk, IfOk}
 ghost use Rattle.std.specs.List.{enumerate_from, flat_map};
 ghost use Rattle.rank_scores.specs.QueryCandidates.{AreOfListed};
 ghost use Rattle.rank_sched.specs.Answers.{IsAnswerOfPlan};
+ghost use Rattle.rank_papers.specs.Meaning.Report as report;
 ghost use Rattle.rank_papers.specs.PlanPapers.{IsReportOfPlan};
-ghost use Rattle.rank_papers.specs.Report as report;
+ghost use Rattle.rank_papers.specs.Report.{rows_of_best, text_of_best};
 ghost use Rattle.rank_papers.specs.ReportLines.{named_in};
 
 use crate::Row;
@@ -41,7 +42,7 @@ pub fn report_of_best(
     best: &[Candidate],
 ) -> Result<Vec<u8>, Memory>
     requires { AreOfListed stations.now best.now }
-    ensures text { IfOk result (λ paper. paper.items ≡ report.text_of_best query.now stations.now best.now) }
+    ensures text { IfOk result (λ paper. paper.items ≡ text_of_best query.now stations.now best.now) }
     ensures right { IfOk result (λ paper. report.IsReportOfBest query.now stations.now best.now paper.items) }
 {
     let mut paper = begun(alloc, query)?;
@@ -90,7 +91,7 @@ fn push_rows(
     requires { AreOfListed stations.now best.now }
     ensures { OnOk result (paper.new.items ≡ paper.old.items
         ++ flat_map (λ row. report.text_line (report.row_fields query.now row))
-        (enumerate_from 1 (report.rows_of_best stations.now best.now))) }
+        (enumerate_from 1 (rows_of_best stations.now best.now))) }
 {
     for (place, candidate) in best.iter().enumerate() {
         let Some(station) = stations.get(&candidate.id) else {

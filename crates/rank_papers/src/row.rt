@@ -2,8 +2,9 @@
 
 ghost use Rattle.std.specs.Prelude.{◌≡◌, [], ◌∷◌, ◌++◌, OnOk};
 ghost use Rattle.std.specs.List.{flat_map};
-ghost use Rattle.rank_papers.specs.Values as values;
-ghost use Rattle.rank_papers.specs.Report as report;
+ghost use Rattle.rank_papers.specs.Meaning.Values as values;
+ghost use Rattle.rank_papers.specs.Report.{after_blank};
+ghost use Rattle.rank_papers.specs.Meaning.Report as report;
 
 use crate::measure::unit_of;
 use crate::number::{push_number, push_value};
@@ -49,7 +50,7 @@ pub(crate) fn push_named(
 
 /// Adds a blank and a field.
 pub(crate) fn push_field(paper: &mut Vec<u8>, field: &[u8]) -> Result<(), Memory>
-    ensures { OnOk result (paper.new.items ≡ paper.old.items ++ report.after_blank field.now) }
+    ensures { OnOk result (paper.new.items ≡ paper.old.items ++ after_blank field.now) }
 {
     paper.push(b' ')?;
     paper.extend_from_slice(field)?;
@@ -59,7 +60,7 @@ pub(crate) fn push_field(paper: &mut Vec<u8>, field: &[u8]) -> Result<(), Memory
 /// Adds a blank and the value of a score, and a blank and its unit.
 fn push_value_and_unit(paper: &mut Vec<u8>, score: Score, number: i64) -> Result<(), Memory>
     ensures { OnOk result (paper.new.items ≡ paper.old.items
-        ++ flat_map report.after_blank (values.value_text (values.measure_of_score score) (values.value_of score number)
+        ++ flat_map after_blank (values.value_text (values.measure_of_score score) (values.value_of score number)
         ∷ values.unit_text (values.measure_of_score score) ∷ [])) }
 {
     paper.push(b' ')?;
@@ -70,7 +71,7 @@ fn push_value_and_unit(paper: &mut Vec<u8>, score: Score, number: i64) -> Result
 /// Adds a blank and a name, if that isn't empty.
 fn push_name(paper: &mut Vec<u8>, name: &[u8]) -> Result<(), Memory>
     ensures { OnOk result (paper.new.items ≡ paper.old.items
-        ++ flat_map report.after_blank (report.field_unless_empty name.now)) }
+        ++ flat_map after_blank (report.field_unless_empty name.now)) }
 {
     match name {
         [] => Ok(()),

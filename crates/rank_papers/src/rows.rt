@@ -1,7 +1,7 @@
 //! The rows of a report: their candidates, and the k-th score.
 
 ghost use Rattle.std.specs.Prelude.{◌≡◌, IfOk};
-ghost use Rattle.rank_query.specs.Asked.{IsAsked};
+ghost use Rattle.rank_query.specs.Meaning.Asked.{IsAsked};
 ghost use Rattle.rank_papers.specs.Certificate.{kth_of_best};
 ghost use Rattle.rank_papers.specs.Papers as papers;
 

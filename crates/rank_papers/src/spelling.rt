@@ -2,7 +2,7 @@
 //! aren't compared: the rank in front of them, the blanks, and what comes after them are.
 
 ghost use Rattle.std.specs.Prelude.{◌≡◌, ℕ, ◌≤◌, ◌<◌, ◌+◌, ◌^◌, Some, length, decimal, IfOk};
-ghost use Rattle.ghcn_fields.specs.Bytes.{same_bytes};
+ghost use Rattle.ghcn_fields.specs.Meaning.Bytes.{same_bytes};
 ghost use Rattle.rank_papers.specs.ReportLines as report;
 ghost use Rattle.rank_papers.specs.Spelled as spelled;
 

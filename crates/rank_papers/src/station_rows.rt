@@ -3,7 +3,7 @@
 ghost use Rattle.std.specs.Prelude.{◌≡◌, IfOk, map};
 ghost use Rattle.std.specs.List.{count_by};
 ghost use Rattle.std.specs.List.Sorted.{IsPermutation};
-ghost use Rattle.ghcn_files.specs.Ids.{same_id};
+ghost use Rattle.ghcn_files.specs.Meaning.Ids.{same_id};
 ghost use Rattle.rank_papers.specs.Certificate as certificate;
 ghost use Rattle.rank_papers.specs.StationRows as counts;
 

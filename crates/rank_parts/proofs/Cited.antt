@@ -26,16 +26,16 @@ pub use Rattle.std.specs.Ordering.{nat_cmp}
 pub use Rattle.std.specs.Prelude.{int_le, int_lt, nat_le, nat_lt, slice_get, ◌&&◌, ◌==◌, ◌↔◌}
 pub use Rattle.std.specs.Result.{is_ok}
 pub use Rattle.std.specs.declared.cmp.Ordering.TheVariants.{Equal, Greater, Less}
-pub use Rattle.ghcn_fields.specs.Bytes.{same_bytes}
 pub use Rattle.ghcn_fields.specs.Faults.{first_failing}
+pub use Rattle.ghcn_fields.specs.Meaning.Bytes.{same_bytes}
 pub use Rattle.ghcn_fields.specs.Sorting.{sorted_by}
 pub use Rattle.ghcn_files.proofs.IdLaws.{same_id-is, same_id-laws}
 pub use Rattle.ghcn_files.proofs.IdOrder.{strictly_ranks}
 pub use Rattle.ghcn_files.proofs.KeptElements.{is_kept-only}
 pub use Rattle.ghcn_files.proofs.Ordered.{sorted-permutation}
 pub use Rattle.ghcn_files.specs.Elements.{is_kept, only, same_element}
-pub use Rattle.ghcn_files.specs.Ids.{same_id}
-pub use Rattle.ghcn_files.specs.Listed.{is_station_of}
+pub use Rattle.ghcn_files.specs.Meaning.Ids.{same_id}
+pub use Rattle.ghcn_files.specs.Meaning.Listed.{is_station_of}
 pub use Rattle.ghcn_files.specs.declared.element.Element.{Element}
 pub use Rattle.ghcn_files.specs.declared.station.Station.{Station}
 pub use Rattle.ghcn_files.specs.declared.station.StationId.{StationId}
@@ -44,10 +44,11 @@ pub use Rattle.ghcn_series.proofs.Members.{In, all_in, any_in, contains-in, for_
 pub use Rattle.ghcn_series.proofs.Members.{in_any, in_kept, in_map, kept_in, map_in, of_one}
 pub use Rattle.ghcn_series.specs.Held.{IsContents}
 pub use Rattle.ghcn_series.specs.Laws.{DataAreRight}
+pub use Rattle.ghcn_series.specs.Meaning.Series.{Usable}
 pub use Rattle.ghcn_series.specs.Says.{data_of}
-pub use Rattle.ghcn_series.specs.Series.{Contents, Usable, is_series_of, series_of}
+pub use Rattle.ghcn_series.specs.Series.{Contents, is_series_of, series_of}
 pub use Rattle.rank_query.specs.Admits.{admits_station}
-pub use Rattle.rank_query.specs.Asked.{Asked, IsAsked, score_element}
+pub use Rattle.rank_query.specs.Meaning.Asked.{Asked, IsAsked, score_element}
 pub use Rattle.rank_scores.proofs.QueryCandidates.{morsels_rise}
 pub use Rattle.rank_scores.proofs.QueryMorsels.{by_station}
 pub use Rattle.rank_scores.proofs.Ranks.{Descends}
@@ -68,8 +69,9 @@ pub use Rattle.rank_papers.specs.Certificate.{kth_of_best}
 pub use Rattle.rank_papers.specs.CertificateLines.{certified_in, read_certificate}
 pub use Rattle.rank_papers.specs.Laws.{CertificatesAreRead, ReportsAreRead, RightCertificatesSayRight}
 pub use Rattle.rank_papers.specs.Laws.{RightReportsSayRight}
+pub use Rattle.rank_papers.specs.Meaning.Report.{trimmed}
 pub use Rattle.rank_papers.specs.Papers.{AreInOrder, candidates_of, of_rows, read_papers}
-pub use Rattle.rank_papers.specs.Report.{IsReport, Named, trimmed}
+pub use Rattle.rank_papers.specs.Report.{IsReport, Named}
 pub use Rattle.rank_papers.specs.ReportLines.{IsReportOf, IsReported, Reported, SaysRightReport, name_of, named_in}
 pub use Rattle.rank_papers.specs.ReportLines.{read_report, reported_in}
 pub use Rattle.rank_papers.specs.declared.fault.Paper.{Paper}

@@ -3,12 +3,14 @@ use Rattle.std.proofs.Common.{◌≡◌, ℕ, List, [], ◌∷◌, ◌++◌, ref
 use Rattle.std.specs.Prelude.{codes, pos}
 use Rattle.std.specs.Fmt.{digits}
 use Rattle.jiff_core.specs.Calendar.{days_from_civil, day_count, days_of_years, days_of_months}
-use Rattle.ghcn_fields.specs.Dates.{year_and_rest, month_and_day}
+use Rattle.ghcn_fields.specs.Meaning.Dates.{year_and_rest, month_and_day}
 use Rattle.ghcn_files.specs.declared.element.Element.TheVariants.{Tmax}
 use Rattle.ghcn_files.specs.StationLines.{station_of}
-use Rattle.ghcn_series.specs.Series.{DayValue, Usable, Contents}
+use Rattle.ghcn_series.specs.Meaning.Series.{DayValue, Usable}
+use Rattle.ghcn_series.specs.Series.{Contents}
 use Rattle.rank_query.specs.declared.score.Score.TheVariants.{Highest}
-use Rattle.rank_query.specs.Asked.{Asked, top}
+use Rattle.rank_query.specs.Meaning.Asked.{Asked}
+use Rattle.rank_query.specs.Asked.{top}
 use Rattle.rank_query.specs.Words.{says}
 use Rattle.rank_query.specs.Readers.{keyword}
 use Rattle.rank_query.specs.WordValues.{number, element}

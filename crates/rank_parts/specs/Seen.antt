@@ -1,7 +1,7 @@
 -- What the head has shown of rows and lines, for the tests that go through the lines.
 use Rattle.std.specs.Prelude.{◌≡◌, ◌≤◌, List, [], length}
 use Rattle.std.specs.List.{AllByRecursion}
-use Rattle.rank_query.specs.Asked.{Asked}
+use Rattle.rank_query.specs.Meaning.Asked.{Asked}
 use Rattle.rank_papers.specs.Report.{Named}
 use Rattle.rank_papers.specs.Certificate.{Entry, count_of}
 use Rattle.rank_papers.specs.Papers.{of_rows, AreInOrder}

@@ -4,7 +4,7 @@ ghost use Rattle.std.specs.Prelude.{◌≡◌, Some, map, IfOk};
 ghost use Rattle.std.specs.Option.{option_copied};
 ghost use Rattle.rank_papers.specs.Certificate.{count_of};
 ghost use Rattle.rank_papers.specs.ReportLines.{named_in};
-ghost use Rattle.rank_query.specs.Asked.{IsAsked};
+ghost use Rattle.rank_query.specs.Meaning.Asked.{IsAsked};
 ghost use Rattle.rank_papers.specs.Papers.{of_rows};
 ghost use Rattle.rank_parts.specs.InPieces.{worst_of};
 ghost use Rattle.rank_parts.specs.Parts as parts;

@@ -1,7 +1,7 @@
 -- A text is read as the query that it denotes, and as no other.
 use Rattle.rank_query.proofs.Cited.{cases_Bool, inl, inr, ◌≡◌, ℕ, ◌≤◌, List, length, Ok, arith, nat_lt, nat_tests}
 use Rattle.rank_query.proofs.Cited.{Asked, read_query}
-use Rattle.rank_query.specs.Asks.{Asks}
+use Rattle.rank_query.specs.Meaning.Asks.{Asks}
 use Rattle.rank_query.proofs.Spellings.{read_spells, spelling_read}
 use Rattle.rank_query.proofs.ReadAsked.{read_asked}
 

@@ -23,36 +23,41 @@ pub use Rattle.std.specs.Cmp.Lexicographic.{bytes_decides}
 pub use Rattle.std.specs.List.{AllByRecursion, AllZip, after_first, before_first, enumerate_from, join_with_byte}
 pub use Rattle.std.specs.List.{list_all, onto_first, position_or_len, repeat, slice_split}
 pub use Rattle.std.specs.Str.Parse.{AllDigits, digits_value}
-pub use Rattle.ghcn_fields.specs.Bytes.{same_bytes}
-pub use Rattle.ghcn_fields.specs.Dates.{civil, date_text, read_date}
-unfoldable pub use Rattle.ghcn_fields.specs.Dates.{month_and_day, year_and_rest}
-pub use Rattle.ghcn_fields.specs.Days.{day_number, is_day, is_within}
-pub use Rattle.ghcn_fields.specs.Fields.{Spells, sign_text}
-pub use Rattle.ghcn_fields.specs.NumberTexts.{four_places, four_places_of, last_digits, tenths}
+pub use Rattle.ghcn_fields.specs.Dates.{read_date}
+pub use Rattle.ghcn_fields.specs.Days.{day_number}
+pub use Rattle.ghcn_fields.specs.Meaning.Bytes.{same_bytes}
+pub use Rattle.ghcn_fields.specs.Meaning.Dates.{civil, date_text}
+unfoldable pub use Rattle.ghcn_fields.specs.Meaning.Dates.{month_and_day, year_and_rest}
+pub use Rattle.ghcn_fields.specs.Meaning.Days.{is_day, is_within}
+pub use Rattle.ghcn_fields.specs.Meaning.Fields.{Spells, sign_text}
+pub use Rattle.ghcn_fields.specs.Meaning.NumberTexts.{four_places, four_places_of, last_digits, tenths}
+pub use Rattle.ghcn_fields.specs.Meaning.Numbers.{with_sign}
 pub use Rattle.ghcn_fields.specs.Numbers.{after_blanks, decimal_number, joined, natural, scaled_field, signed_by}
-pub use Rattle.ghcn_fields.specs.Numbers.{with_sign}
 pub use Rattle.ghcn_fields.specs.declared.field.Field.{Field}
 pub use Rattle.ghcn_fields.specs.declared.field.Field.TheVariants.{Bad, Blank, Number}
-pub use Rattle.ghcn_files.specs.Elements.{code_of, element_of, elements, may_be_negative}
-pub use Rattle.ghcn_files.specs.Ids.{is_visible}
-pub use Rattle.ghcn_files.specs.StationLines.{is_number_within, is_printable, number_of}
+pub use Rattle.ghcn_files.specs.Elements.{element_of}
+pub use Rattle.ghcn_files.specs.Meaning.Elements.{code_of, elements, may_be_negative}
+pub use Rattle.ghcn_files.specs.Meaning.Ids.{is_visible}
+pub use Rattle.ghcn_files.specs.Meaning.StationLines.{is_printable}
+pub use Rattle.ghcn_files.specs.StationLines.{is_number_within, number_of}
 pub use Rattle.ghcn_files.specs.declared.element.Element.{Element}
 pub use Rattle.ghcn_files.specs.declared.element.Element.TheVariants.{Prcp, Snow, Snwd, Tmax, Tmin}
 pub use Rattle.jiff_core.specs.Calendar.{days_in_month}
 unfoldable pub use Rattle.jiff_core.specs.Calendar.{day_count, days_from_civil, days_of_months, days_of_years}
 pub use Rattle.memchr.specs.Find.{IsFirstByte, is_byte}
-pub use Rattle.rank_query.specs.Asked.{Asked, IsAsked, is_code, is_fall, is_heat, is_period}
-pub use Rattle.rank_query.specs.Asked.{is_day_of_2000, is_region, is_score, is_season}
 pub use Rattle.rank_query.specs.FaultKinds.{IsFaultAmong, edge, has_form, is_behind_box, is_behind_first_day}
 pub use Rattle.rank_query.specs.FaultKinds.{is_date_word}
 pub use Rattle.rank_query.specs.FaultKinds.{is_dates_word}
 pub use Rattle.rank_query.specs.FaultKinds.{is_decimal, is_number, other, place_behind}
 pub use Rattle.rank_query.specs.FaultPlaces.{BeginQuery, EndsTooEarly, IsFirstWrong, IsFirstWrongAt, SpellNone}
 pub use Rattle.rank_query.specs.FaultPlaces.{StandsAmong, StandsIn}
-pub use Rattle.rank_query.specs.QueryTexts.{Count, Edge, Exactly, QueryWord, Tenths, TwoMonths, dates_text}
-pub use Rattle.rank_query.specs.QueryTexts.{per_words, period_words}
-pub use Rattle.rank_query.specs.QueryTexts.{query_text, query_words, region_words, score_words, season_words}
-pub use Rattle.rank_query.specs.QueryTexts.{word_text}
+pub use Rattle.rank_query.specs.Meaning.Asked.{Asked, IsAsked, is_code, is_fall, is_heat, is_period, is_day_of_2000}
+pub use Rattle.rank_query.specs.Meaning.Asked.{is_region, is_score, is_season}
+pub use Rattle.rank_query.specs.Meaning.QueryTexts.{Count, Edge, Exactly, QueryWord, Tenths, TwoMonths, dates_text}
+pub use Rattle.rank_query.specs.Meaning.QueryTexts.{per_words, period_words, query_text, query_words, region_words}
+pub use Rattle.rank_query.specs.Meaning.QueryTexts.{score_words, season_words, word_text}
+pub use Rattle.rank_query.specs.Meaning.Spelling.{IsNumeralOf, SpellsWord}
+pub use Rattle.rank_query.specs.Meaning.Words.{words_of}
 pub use Rattle.rank_query.specs.Readers.{Read, by_word, made_into, one_word, or_fault, ◌>>=◌}
 unfoldable pub use Rattle.rank_query.specs.Readers.{keyword}
 pub use Rattle.rank_query.specs.Reading.{all_year_at, always_at, between_at, cold_at, country_at, dates_at, dry_at}
@@ -61,11 +66,11 @@ pub use Rattle.rank_query.specs.Reading.{everywhere_at, highest_at, hot_at, lati
 pub use Rattle.rank_query.specs.Reading.{months_at, nothing_more, state_at, station_at, wet_at}
 unfoldable pub use Rattle.rank_query.specs.Reading.{box_at, days_at, no_score_at, per_at, period_at, read_query, read_words}
 unfoldable pub use Rattle.rank_query.specs.Reading.{region_at, score_at, season_at, sum_at}
-pub use Rattle.rank_query.specs.Spelling.{IsNumeralOf, IsSpelling, SpellsQuery, SpellsWord}
+pub use Rattle.rank_query.specs.Spelling.{IsSpelling, SpellsQuery}
 pub use Rattle.rank_query.specs.WordValues.{both, day_of_2000, group_of, is_month, is_point, natural_behind, tenths_in}
 pub use Rattle.rank_query.specs.WordValues.{two_days, two_numbers}
 unfoldable pub use Rattle.rank_query.specs.WordValues.{code, date, dates, degrees, element, group, heat, months, number}
-pub use Rattle.rank_query.specs.Words.{Word, is_separator, numbered_words, words_of}
+pub use Rattle.rank_query.specs.Words.{Word, is_separator, numbered_words}
 unfoldable pub use Rattle.rank_query.specs.Words.{says}
 pub use Rattle.rank_query.specs.declared.fault.QueryFault.{QueryFault}
 pub use Rattle.rank_query.specs.declared.fault.QueryFault.TheVariants.{BadBox, BadDate, EmptyPeriod, OutOfLimits}

@@ -12,7 +12,7 @@ use Rattle.jiff_core.specs.Calendar.{IsCivilDate}
 use Rattle.jiff_core.proofs.SignedLemmas.{signed_arith}
 use Rattle.jiff_core.proofs.CalendarLemmas.{days_from_civil-day_count, day_count-day_of_year, day_count-year_is}
 use Rattle.jiff_core.proofs.CalendarLemmas.{day_of_year_bound}
-use Rattle.ghcn_fields.specs.Dates.{date_bytes}
+use Rattle.ghcn_fields.specs.Meaning.Dates.{date_bytes}
 use Rattle.ghcn_fields.proofs.CivilDates.{civil-date_of}
 use Rattle.ghcn_fields.proofs.DateDigits.{value_of_four}
 use Rattle.ghcn_fields.proofs.DateTexts.{read_date-law}

@@ -2,7 +2,7 @@
 use Rattle.rank_query.proofs.Cited.{◌≡◌, true, false, cond, ◌&&◌, ap, ◌∙◌, arith, ints, ℤ, pos, ◌+ℤ◌, ◌-ℤ◌, ◌≤ℤ◌}
 use Rattle.rank_query.proofs.Cited.{int_le, FitsSigned, w32, rules}
 use Rattle.std.specs.Prelude.{◌||◌, int_lt}
-use Rattle.rank_query.specs.Admits.{is_between_edges}
+use Rattle.rank_query.specs.Meaning.Admits.{is_between_edges}
 
 -- the days from one to another of the same month are few
 pub close_fits : (day end : ℤ) → day ≤ℤ end → end ≤ℤ (day +ℤ pos 30) → FitsSigned w32 (end -ℤ day)

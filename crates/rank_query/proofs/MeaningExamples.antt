@@ -6,7 +6,7 @@ use Rattle.rank_query.proofs.Cited.{Station as ByStation, Year as ByYear, Tmin, 
 use Rattle.rank_query.specs.Asked.{top}
 use Rattle.std.specs.Fmt.{digits}
 use Rattle.ghcn_files.specs.declared.station.Station.{Station}
-use Rattle.rank_query.specs.Admits.{region_holds, admits_day}
+use Rattle.rank_query.specs.Meaning.Admits.{region_holds, admits_day}
 use Rattle.rank_query.proofs.Examples.{asked_in, in_box_of, dry_months, dry_days, dry_from}
 
 -- canonical texts

@@ -2,7 +2,7 @@
 use Rattle.rank_query.proofs.Cited.{◌≡◌, ℕ, ◌+◌, ◌-◌, ◌≤◌, true, ◌&&◌, Some, ap, ◌∙◌, arith, ℤ, pos, ◌+ℤ◌, ◌-ℤ◌, ◌≤ℤ◌}
 use Rattle.rank_query.proofs.Cited.{unsigned_abs, and_parts, nat_tests, ints, cond_some, days_from_civil, days_in_month}
 use Rattle.rank_query.proofs.Cited.{civil, is_within, day_number, sym}
-use Rattle.rank_query.specs.Admits.{in_2000}
+use Rattle.rank_query.specs.Meaning.Admits.{in_2000}
 use Rattle.jiff_core.proofs.SignedLemmas.{signed_arith}
 use Rattle.jiff_core.proofs.CalendarLemmas.{days_from_civil-day_count, day_count-day_of_year}
 use Rattle.ghcn_fields.specs.Days.{is_date}

@@ -10,9 +10,9 @@ use Rattle.rank_query.proofs.Cited.{IsNumeralOf, TwoMonths, SpellsWord, word_tex
 use Rattle.rank_query.proofs.Cited.{AllPass-from_list_all}
 use Rattle.std.proofs.lemmas.List.Sums.{list_all-from_AllPass}
 use Rattle.std.proofs.lemmas.List.Folds.{list_all-append}
-use Rattle.ghcn_fields.specs.Fields.{part_text}
+use Rattle.ghcn_fields.specs.Meaning.Fields.{part_text}
 use Rattle.ghcn_fields.proofs.DateDigits.{digits-last_digits}
-use Rattle.ghcn_fields.specs.NumberTexts.{tenths_of}
+use Rattle.ghcn_fields.specs.Meaning.NumberTexts.{tenths_of}
 use Rattle.rank_query.proofs.OneWords.{stands_in_word, IsOneWord}
 
 -- one word of at most twelve visible bytes

@@ -1,12 +1,12 @@
 -- Where the error of a text is: at the first word with which no query goes on.
 use Rattle.std.specs.Prelude.{◌≡◌, ℕ, ◌+◌, ◌<◌, ◌≤◌, ◌⊎◌, List, [], ◌∷◌, ◌++◌, length, codes, ◌&&◌, ℤ, ◌<ℤ◌, IsTrue}
-use Rattle.ghcn_fields.specs.Days.{is_day}
-use Rattle.ghcn_fields.specs.Dates.{date_text}
+use Rattle.ghcn_fields.specs.Meaning.Days.{is_day}
+use Rattle.ghcn_fields.specs.Meaning.Dates.{date_text}
 use Rattle.rank_query.specs.declared.fault.QueryFault.{QueryFault}
 use Rattle.rank_query.specs.declared.fault.QueryFault.TheVariants.{QueryTooLong, UnexpectedWord, QueryEnds}
 use Rattle.rank_query.specs.declared.fault.QueryFault.TheVariants.{OutOfLimits, BadDate, BadBox, EmptyPeriod}
-use Rattle.rank_query.specs.Asked.{Asked, IsAsked}
-use Rattle.rank_query.specs.Words.{words_of}
+use Rattle.rank_query.specs.Meaning.Asked.{Asked, IsAsked}
+use Rattle.rank_query.specs.Meaning.Words.{words_of}
 use Rattle.rank_query.specs.Spelling.{SpellsQuery}
 
 -- words begin a query: with some words after them they spell one that can be asked

@@ -1,11 +1,11 @@
 -- Laws of queries and their texts: what the definitions of this crate mean together.
 use Rattle.std.specs.Prelude.{◌≡◌, ◌↔◌, ℕ, ◌≤◌, true, List, length, Ok}
 use Rattle.std.specs.List.{list_all}
-use Rattle.ghcn_files.specs.StationLines.{is_printable}
-use Rattle.rank_query.specs.Asked.{Asked, IsAsked}
-use Rattle.rank_query.specs.QueryTexts.{query_text}
+use Rattle.ghcn_files.specs.Meaning.StationLines.{is_printable}
+use Rattle.rank_query.specs.Meaning.Asked.{Asked, IsAsked}
+use Rattle.rank_query.specs.Meaning.QueryTexts.{query_text}
 use Rattle.rank_query.specs.Reading.{read_query}
-use Rattle.rank_query.specs.Asks.{Asks}
+use Rattle.rank_query.specs.Meaning.Asks.{Asks}
 
 -- a text is read as a query if and only if it denotes it
 abbrev pub ReadAsAsked : Type 0

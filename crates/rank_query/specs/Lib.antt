@@ -1,13 +1,12 @@
+pub mod Meaning
 pub mod Asked
 pub mod Admits
-pub mod QueryTexts
 pub mod Printed
 pub mod Words
 pub mod Readers
 pub mod WordValues
 pub mod Reading
 pub mod Spelling
-pub mod Asks
 pub mod FaultPlaces
 pub mod FaultKinds
 pub mod Laws

@@ -1,7 +1,7 @@
 -- Reading a query text from left to right, with the first error that is met.
 use Rattle.std.specs.Prelude.{ℕ, true, nat_lt, if◌then◌else◌, List, [], ◌∷◌, length, codes, Option, None, Some}
 use Rattle.std.specs.Prelude.{Result, Ok, Err, ℤ, pos, neg_ℤ, int_le}
-use Rattle.ghcn_files.specs.Elements.{may_be_negative}
+use Rattle.ghcn_files.specs.Meaning.Elements.{may_be_negative}
 use Rattle.rank_query.specs.declared.score.Score.{Score}
 use Rattle.rank_query.specs.declared.score.Score.TheVariants.{Highest, Lowest, Sum, Dry, Wet, Hot, Cold}
 use Rattle.rank_query.specs.declared.region.Region.{Region}
@@ -12,7 +12,7 @@ use Rattle.rank_query.specs.declared.fault.QueryFault.{QueryFault}
 use Rattle.rank_query.specs.declared.fault.QueryFault.TheVariants.{QueryTooLong, UnexpectedWord, EmptyPeriod}
 use Rattle.rank_query.specs.declared.per.Per.{Per}
 use Rattle.rank_query.specs.declared.per.Per.TheVariants.{Each}
-use Rattle.rank_query.specs.Asked.{Asked, is_fall}
+use Rattle.rank_query.specs.Meaning.Asked.{Asked, is_fall}
 use Rattle.rank_query.specs.Words.{Word, numbered_words}
 use Rattle.rank_query.specs.Readers.{◌>>=◌, Read, next_word, keyword, one_word, made_into, by_word}
 use Rattle.rank_query.specs.WordValues.{number, element, heat, months, dates, degrees, code, date, group}

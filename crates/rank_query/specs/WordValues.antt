@@ -2,9 +2,9 @@
 use Rattle.std.specs.Prelude.{ℕ, Bool, ◌&&◌, ◌==◌, if◌then◌else◌, List, [], ◌∷◌, ◌++◌, Option, None, Some, Result, Ok}
 use Rattle.std.specs.Prelude.{Err, ℤ, codes, take, drop}
 use Rattle.std.specs.List.{before_first, after_first, slice_range}
-use Rattle.ghcn_fields.specs.Bytes.{same_bytes}
+use Rattle.ghcn_fields.specs.Meaning.Bytes.{same_bytes}
 use Rattle.ghcn_fields.specs.Numbers.{natural, decimal_number, signed_by, scaled_field}
-use Rattle.ghcn_fields.specs.Days.{is_within}
+use Rattle.ghcn_fields.specs.Meaning.Days.{is_within}
 use Rattle.ghcn_fields.specs.Dates.{read_date}
 use Rattle.ghcn_files.specs.declared.element.Element.{Element}
 use Rattle.ghcn_files.specs.Elements.{element_of}
@@ -13,7 +13,7 @@ use Rattle.rank_query.specs.declared.fault.QueryFault.{QueryFault}
 use Rattle.rank_query.specs.declared.fault.QueryFault.TheVariants.{UnexpectedWord, OutOfLimits, BadDate, BadBox}
 use Rattle.rank_query.specs.declared.per.Per.{Per}
 use Rattle.rank_query.specs.declared.per.Per.TheVariants.{Station, Year}
-use Rattle.rank_query.specs.Asked.{is_code, is_heat}
+use Rattle.rank_query.specs.Meaning.Asked.{is_code, is_heat}
 use Rattle.rank_query.specs.Words.{Word}
 use Rattle.rank_query.specs.Readers.{◌>>=◌, or_fault}
 

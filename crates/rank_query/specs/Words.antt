@@ -1,12 +1,8 @@
--- The words of a query text.
-use Rattle.std.specs.Prelude.{ℕ, Bool, ◌==◌, not, if◌then◌else◌, List, [], ◌∷◌, length, filter, Option, None, Some}
-use Rattle.std.specs.List.{slice_split, enumerate_from}
-use Rattle.ghcn_fields.specs.Bytes.{blank_byte, same_bytes}
-
--- the words of a text: its longest runs of bytes other than blanks, which are the parts between blanks that aren't
--- empty
-abbrev pub words_of : List ℕ → List (List ℕ)
-words_of text = filter (λ part. not (length part == 0)) (slice_split (λ b. b == blank_byte) text)
+-- The words of a query text with their numbers, and the bytes between them.
+use Rattle.std.specs.Prelude.{ℕ, Bool, ◌==◌, if◌then◌else◌, List, [], ◌∷◌, Option, None, Some}
+use Rattle.std.specs.List.{enumerate_from}
+use Rattle.ghcn_fields.specs.Meaning.Bytes.{blank_byte, same_bytes}
+use Rattle.rank_query.specs.Meaning.Words.{words_of}
 
 -- a byte that separates words
 abbrev pub is_separator : ℕ → Bool

@@ -1,14 +1,14 @@
 //! Reading a query text from left to right, up to the first error.
 
 ghost use Rattle.std.specs.Prelude.{◌≡◌, ◌≤◌, length, Some, IfOk, IfErr, IsTrue};
-ghost use Rattle.rank_query.specs.Asked.{Asked, IsAsked, is_score, is_region, is_season, is_period};
-ghost use Rattle.rank_query.specs.QueryTexts.{query_text};
+ghost use Rattle.rank_query.specs.Meaning.Asked.{Asked, IsAsked, is_score, is_region, is_season, is_period};
+ghost use Rattle.rank_query.specs.Meaning.QueryTexts.{query_text};
 ghost use Rattle.rank_query.specs.Spelling.{IsSpelling};
 ghost use Rattle.rank_query.specs.FaultKinds.{IsFaultAmong};
 ghost use Rattle.rank_query.specs.FaultPlaces.{StandsIn};
 ghost use Rattle.rank_query.specs.Readers.{Gives};
 ghost use Rattle.rank_query.specs.Reading as reading;
-ghost use Rattle.rank_query.specs.Words.{words_of};
+ghost use Rattle.rank_query.specs.Meaning.Words.{words_of};
 
 use crate::values::{
     code, date, dates, degrees, element, fall, group, heat, keyword, months, needed, number,

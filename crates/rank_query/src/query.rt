@@ -1,9 +1,11 @@
 //! A query, and what it admits.
 
 ghost use Rattle.std.specs.Prelude.{◌≡◌, ◌≤◌, nat_le, ℤ, ◌≤ℤ◌, IsTrue};
-ghost use Rattle.ghcn_fields.specs.Days.{is_day};
+ghost use Rattle.ghcn_fields.specs.Meaning.Days.{is_day};
+ghost use Rattle.rank_query.specs.Meaning.Admits as meaning;
 ghost use Rattle.rank_query.specs.Admits as admits;
-ghost use Rattle.rank_query.specs.Asked.{score_element, season_months, season_days, IsAsked};
+ghost use Rattle.rank_query.specs.Meaning.Asked.{score_element, IsAsked};
+ghost use Rattle.rank_query.specs.Asked.{season_months, season_days};
 
 use crate::{Per, Region, Score, Season};
 use ghcn_fields::Day;
@@ -22,7 +24,7 @@ pub struct Query {
 }
 
 impl Model for Query {
-    ghost use Rattle.rank_query.specs.Asked.{Asked, IsAsked};
+    ghost use Rattle.rank_query.specs.Meaning.Asked.{Asked, IsAsked};
 
     ghost Value = { Asked };
 
@@ -143,13 +145,13 @@ impl Query {
     /// Whether the period and the season hold the day. If one isn't given, it holds all days of the
     /// years 1 to 9999.
     pub fn admits_day(&self, day: Day) -> bool
-        ensures { result ≡ admits.admits_day self.now day }
+        ensures { result ≡ meaning.admits_day self.now day }
     {
         self.is_in_period(day) && self.season.holds(day)
     }
 
     fn is_in_period(&self, day: Day) -> bool
-        ensures { result ≡ admits.period_holds self.now.period day }
+        ensures { result ≡ meaning.period_holds self.now.period day }
     {
         let number = day.number();
         match self.period {
@@ -164,7 +166,7 @@ impl Query {
     pub fn admits_from(&self, day: Day) -> (bool, i32)
         ensures on { day ≤ℤ result.1 }
         ensures alike { (d : ℤ) → IsTrue (is_day d) → day ≤ℤ d → d ≤ℤ result.1
-            → admits.admits_day self.now d ≡ result.0 }
+            → meaning.admits_day self.now d ≡ result.0 }
     {
         let (in_period, period_to) = self.period_from(day);
         if !in_period {
@@ -178,7 +180,7 @@ impl Query {
     fn period_from(&self, day: Day) -> (bool, i32)
         ensures on { day ≤ℤ result.1 }
         ensures alike { (d : ℤ) → IsTrue (is_day d) → day ≤ℤ d → d ≤ℤ result.1
-            → admits.period_holds self.now.period d ≡ result.0 }
+            → meaning.period_holds self.now.period d ≡ result.0 }
     {
         match self.period {
             None => (true, i32::MAX),
@@ -192,7 +194,7 @@ impl Query {
     fn season_from(&self, day: Day) -> (bool, i32)
         ensures on { day ≤ℤ result.1 }
         ensures alike { (d : ℤ) → IsTrue (is_day d) → day ≤ℤ d → d ≤ℤ result.1
-            → admits.season_holds self.now.season d ≡ result.0 }
+            → meaning.season_holds self.now.season d ≡ result.0 }
     {
         self.season.holds_from(day)
     }

@@ -1,7 +1,7 @@
 //! Where a query looks.
 
 ghost use Rattle.std.specs.Prelude.{◌≡◌};
-ghost use Rattle.rank_query.specs.Admits.{region_holds};
+ghost use Rattle.rank_query.specs.Meaning.Admits.{region_holds};
 
 use ghcn_files::{Station, StationId};
 

@@ -1,9 +1,9 @@
 //! When in the year a query looks.
 
 ghost use Rattle.std.specs.Prelude.{◌≡◌, IsTrue, ℤ, pos, neg_ℤ, ◌+ℤ◌, ◌-ℤ◌, ◌≤ℤ◌, int_le};
-ghost use Rattle.ghcn_fields.specs.Dates.{civil};
-ghost use Rattle.ghcn_fields.specs.Days.{is_day};
-ghost use Rattle.rank_query.specs.Admits as admits;
+ghost use Rattle.ghcn_fields.specs.Meaning.Dates.{civil};
+ghost use Rattle.ghcn_fields.specs.Meaning.Days.{is_day};
+ghost use Rattle.rank_query.specs.Meaning.Admits as admits;
 
 use ghcn_fields::{Day, days_in_month};
 

@@ -3,11 +3,12 @@
 ghost use Rattle.std.specs.Prelude.{◌≡◌, ◌∷◌, IfOk, IsTrue, Some, string_bytes};
 ghost use Rattle.std.specs.Fmt.{WritesOnOk};
 ghost use Rattle.std.specs.List.{list_all};
-ghost use Rattle.ghcn_fields.specs.NumberTexts.{four_places, four_places_of, tenths};
-ghost use Rattle.ghcn_files.specs.Ids.{is_visible};
-ghost use Rattle.rank_query.specs.Asked.{is_region};
+ghost use Rattle.ghcn_fields.specs.Meaning.NumberTexts.{four_places, four_places_of, tenths};
+ghost use Rattle.ghcn_files.specs.Meaning.Ids.{is_visible};
+ghost use Rattle.rank_query.specs.Meaning.Asked.{is_region};
+ghost use Rattle.rank_query.specs.Meaning.QueryTexts.{query_text, score_words, region_words, season_words};
+ghost use Rattle.rank_query.specs.Meaning.QueryTexts.{period_words, per_words};
 ghost use Rattle.rank_query.specs.Printed.{spaced};
-ghost use Rattle.rank_query.specs.QueryTexts.{query_text, score_words, region_words, season_words, period_words, per_words};
 
 use crate::{Per, Query, Region, Score, Season};
 use ghcn_fields::{Day, Memory, write_date};

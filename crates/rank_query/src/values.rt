@@ -3,9 +3,9 @@
 ghost use Rattle.std.specs.Prelude.{◌≡◌, true, ◌+◌, ◌<◌, ◌^◌, ◌&&◌, int_le, min, IfOk, IfSome, IsTrue, length};
 ghost use Rattle.std.specs.Option.{option_map};
 ghost use Rattle.ghcn_fields.specs.Numbers.{natural, joined, decimal_number, signed_by};
-ghost use Rattle.ghcn_fields.specs.Days.{is_within};
-ghost use Rattle.ghcn_files.specs.Elements.{may_be_negative};
-ghost use Rattle.rank_query.specs.Asked.{is_code, is_fall, is_heat, is_day_of_2000};
+ghost use Rattle.ghcn_fields.specs.Meaning.Days.{is_within};
+ghost use Rattle.ghcn_files.specs.Meaning.Elements.{may_be_negative};
+ghost use Rattle.rank_query.specs.Meaning.Asked.{is_code, is_fall, is_heat, is_day_of_2000};
 ghost use Rattle.rank_query.specs.Readers as readers;
 ghost use Rattle.rank_query.specs.Readers.{Gives, one_word};
 ghost use Rattle.rank_query.specs.WordValues as values;

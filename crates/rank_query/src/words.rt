@@ -21,7 +21,7 @@ pub(crate) struct Words<'a> {
 impl<'a> Model for Words<'a> {
     ghost use Rattle.std.specs.Prelude.{ℕ, List, ◌+◌, ◌<◌, ◌^◌, length};
     ghost use Rattle.std.specs.List.{enumerate_from};
-    ghost use Rattle.rank_query.specs.Words.{words_of};
+    ghost use Rattle.rank_query.specs.Meaning.Words.{words_of};
 
     ghost Value = { List (ℕ × List ℕ) };
 

@@ -41,24 +41,27 @@ pub use Rattle.ghcn_fields.proofs.CountingLaws.{all_below, has_each, length-each
 pub use Rattle.ghcn_fields.proofs.CountingLaws.{times-append, times-none_below, times_below-suc, times_below-yes}
 pub use Rattle.ghcn_fields.proofs.CountingLaws.{total-each_below}
 pub use Rattle.ghcn_fields.specs.Counting.{HasEachBelow, one_if_equal, sum_below, times, times_below}
-pub use Rattle.ghcn_fields.specs.Days.{is_within}
 pub use Rattle.ghcn_fields.specs.Floor.{IsAtLeast, IsFloorOf, IsGuessOrRaised, IsScore}
+pub use Rattle.ghcn_fields.specs.Meaning.Days.{is_within}
 pub use Rattle.ghcn_fields.specs.Sorting.{placed, sorted_by}
 pub use Rattle.ghcn_files.proofs.ById.{found-at_place, none-without_place}
 pub use Rattle.ghcn_files.proofs.IdLaws.{same_id-is, same_id-turned}
 pub use Rattle.ghcn_files.proofs.IdOrder.{one_sort, strictly, strictly_ranks}
 pub use Rattle.ghcn_files.proofs.Ordered.{distinct-map, distinct-mapped, each-map, each-mapped, sorted-permutation}
-pub use Rattle.ghcn_files.specs.Ids.{same_id}
-pub use Rattle.ghcn_files.specs.Listed.{is_station_of, place_of}
+pub use Rattle.ghcn_files.specs.Listed.{place_of}
+pub use Rattle.ghcn_files.specs.Meaning.Ids.{same_id}
+pub use Rattle.ghcn_files.specs.Meaning.Listed.{is_station_of}
 pub use Rattle.ghcn_files.specs.StationLines.{station_of}
 pub use Rattle.ghcn_files.specs.declared.element.Element.TheVariants.{Tmax}
 pub use Rattle.ghcn_files.specs.declared.station.Station.{Station}
 pub use Rattle.ghcn_files.specs.declared.station.StationId.{StationId}
 pub use Rattle.ghcn_series.proofs.ListFacts.{all-filter, from_all}
 pub use Rattle.ghcn_series.specs.Held.{IsContents}
-pub use Rattle.ghcn_series.specs.Series.{Contents, DayValue, IsSeries, Usable, series_of, value_on}
-pub use Rattle.rank_query.specs.Admits.{region_holds}
-pub use Rattle.rank_query.specs.Asked.{Asked, IsAsked, is_score, score_element, top}
+pub use Rattle.ghcn_series.specs.Meaning.Series.{DayValue, Usable, value_on}
+pub use Rattle.ghcn_series.specs.Series.{Contents, IsSeries, series_of}
+pub use Rattle.rank_query.specs.Asked.{top}
+pub use Rattle.rank_query.specs.Meaning.Admits.{region_holds}
+pub use Rattle.rank_query.specs.Meaning.Asked.{Asked, IsAsked, is_score, score_element}
 pub use Rattle.rank_query.specs.declared.region.Region.{Region}
 pub use Rattle.rank_query.specs.declared.region.Region.TheVariants.{Only}
 pub use Rattle.rank_query.specs.declared.score.Score.{Score}
@@ -67,8 +70,9 @@ pub use Rattle.rank_scores.proofs.QueryCandidates.{all_apart, morsels_apart, ser
 pub use Rattle.rank_scores.proofs.QueryMorsels.{asked_alone, morsels_asked}
 pub use Rattle.rank_scores.proofs.Rising.{all-made, each, from_both}
 pub use Rattle.rank_scores.proofs.Totals.{IsSmall, admitted-small}
-pub use Rattle.rank_scores.specs.Candidates.{Shape, Spells, Windows, admitted, begun, candidate, candidates, contenders}
-pub use Rattle.rank_scores.specs.Candidates.{contenders_among, plus, shape, test_of, window_total}
+pub use Rattle.rank_scores.specs.Candidates.{begun, candidate, candidates, contenders, contenders_among, plus, test_of}
+pub use Rattle.rank_scores.specs.Candidates.{window_total}
+pub use Rattle.rank_scores.specs.Meaning.Candidates.{Shape, Spells, Windows, admitted, shape}
 pub use Rattle.rank_scores.specs.Morsels.{IsAskedOf, admitted_series, all_candidates, best_of_query, has_admitted}
 pub use Rattle.rank_scores.specs.Morsels.{morsel_at, morsels, passing}
 pub use Rattle.rank_scores.specs.Order.{AreApart, begin_alike, best, bound_is_below, kth_score}

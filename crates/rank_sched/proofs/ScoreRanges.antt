@@ -6,7 +6,7 @@ use Rattle.rank_sched.proofs.Cited.{Sum, Dry, Wet, Hot, Cold, Asked, IsAsked, is
 use Rattle.rank_sched.proofs.Cited.{Windows, Spells, shape, plus, window_total, test_of, begun, candidate}
 use Rattle.rank_sched.proofs.Cited.{contenders_among, contenders, candidates, admitted, Candidate, IsSmall}
 use Rattle.rank_sched.proofs.Cited.{admitted-small, all-made, each, None, refl, subst}
-use Rattle.rank_scores.specs.Candidates.{Days}
+use Rattle.rank_scores.specs.Meaning.Candidates.{Days}
 use Rattle.rank_scores.specs.declared.spell.Spell.TheVariants as spells
 use Rattle.rank_sched.proofs.Lists.{each-weaker}
 

@@ -6,7 +6,7 @@ use Rattle.ghcn_fields.specs.Counting.{times, HasEachBelow}
 use Rattle.ghcn_fields.specs.Floor.{IsAtLeast}
 use Rattle.ghcn_series.specs.Series.{Contents}
 use Rattle.ghcn_series.specs.Held.{IsContents}
-use Rattle.rank_query.specs.Asked.{Asked, IsAsked}
+use Rattle.rank_query.specs.Meaning.Asked.{Asked, IsAsked}
 use Rattle.rank_scores.specs.declared.candidate.Candidate.{Candidate}
 use Rattle.rank_scores.specs.Order.{bound_is_below}
 use Rattle.rank_scores.specs.Morsels.{best_of_query, kth_of_query}

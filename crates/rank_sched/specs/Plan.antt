@@ -9,9 +9,10 @@ use Rattle.std.specs.Ordering.{int_eq, int_cmp, nat_cmp, on, flip_args, then_cmp
 use Rattle.std.specs.Cmp.Lexicographic.{slice_cmp}
 use Rattle.ghcn_fields.specs.Sorting.{sorted_by}
 use Rattle.ghcn_files.specs.declared.station.Station.{Station}
-use Rattle.ghcn_series.specs.Series.{Usable, Contents}
+use Rattle.ghcn_series.specs.Meaning.Series.{Usable}
+use Rattle.ghcn_series.specs.Series.{Contents}
 use Rattle.ghcn_series.specs.Held.{IsContents}
-use Rattle.rank_query.specs.Asked.{Asked, IsAsked}
+use Rattle.rank_query.specs.Meaning.Asked.{Asked, IsAsked}
 use Rattle.rank_scores.specs.Morsels.{morsel_at, morsels, id_comes_first}
 use Rattle.rank_blocks.specs.Bounds.{bound}
 use Rattle.rank_sched.specs.declared.plan.Morsel as code

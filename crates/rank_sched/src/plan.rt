@@ -5,7 +5,7 @@ ghost use Rattle.rank_pool.specs.Pools.{taken};
 ghost use Rattle.std.specs.List.{filter_map};
 ghost use Rattle.std.specs.Option.{option_map, option_copied, option_to_list};
 ghost use Rattle.ghcn_series.specs.Held.{IsContents};
-ghost use Rattle.rank_query.specs.Asked.{Asked, IsAsked, score_element};
+ghost use Rattle.rank_query.specs.Meaning.Asked.{Asked, IsAsked, score_element};
 ghost use Rattle.rank_sched.specs.Plan as plan;
 ghost use Rattle.rank_sched.specs.Task.{task_of, IsFair};
 

@@ -11,7 +11,7 @@ use Rattle.std.proofs.lemmas.List.Sums.{fold-append}
 use Rattle.ghcn_fields.specs.Days.{block_of}
 use Rattle.ghcn_files.specs.declared.station.StationId.{StationId}
 use Rattle.ghcn_series.specs.Packed.{TakesRun, TakesToLastRun, run_count, runs_after}
-use Rattle.ghcn_series.specs.Series.{DayValue}
+use Rattle.ghcn_series.specs.Meaning.Series.{DayValue}
 use Rattle.rank_scores.specs.declared.candidate.Candidate.{Candidate}
 use Rattle.rank_scores.specs.Spells.{goes_on, offered, offered_of_kind, spell_from, spell_list, first_with, ended_by}
 use Rattle.rank_scores.specs.Spells.{EndAlike}

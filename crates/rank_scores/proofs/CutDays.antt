@@ -14,12 +14,14 @@ use Rattle.ghcn_files.proofs.Among as among
 use Rattle.ghcn_files.proofs.Ordered as ordered
 use Rattle.ghcn_files.specs.declared.station.StationId.{StationId}
 use Rattle.ghcn_files.specs.declared.element.Element.{Element}
-use Rattle.ghcn_series.specs.Series.{DayValue, by_day}
-use Rattle.ghcn_series.specs.Says.{Fact, days_of}
+use Rattle.ghcn_series.specs.Meaning.Series.{DayValue}
+use Rattle.ghcn_series.specs.Series.{by_day}
+use Rattle.ghcn_series.specs.Meaning.Says.{Fact}
+use Rattle.ghcn_series.specs.Says.{days_of}
 use Rattle.ghcn_series.proofs.JoinedFiles.{days_said, days_said-append, joined-left, joined-right}
 use Rattle.ghcn_series.proofs.ListFacts.{all-filter}
-use Rattle.rank_query.specs.Asked.{Asked}
-use Rattle.rank_query.specs.Admits.{admits_day}
+use Rattle.rank_query.specs.Meaning.Asked.{Asked}
+use Rattle.rank_query.specs.Meaning.Admits.{admits_day}
 use Rattle.rank_scores.specs.Stretches.{admitted_among}
 use Rattle.std.proofs.Common.{rules}
 

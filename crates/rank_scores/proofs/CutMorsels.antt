@@ -7,11 +7,12 @@ use Rattle.std.specs.List.Sorted.{IsPermutation}
 use Rattle.ghcn_fields.specs.Sorting.{sorted_by}
 use Rattle.ghcn_files.specs.declared.station.Station.{Station}
 use Rattle.ghcn_files.specs.declared.station.StationId.{StationId}
-use Rattle.ghcn_files.specs.Ids.{same_id}
+use Rattle.ghcn_files.specs.Meaning.Ids.{same_id}
 use Rattle.ghcn_files.proofs.IdOrder.{id_cmp, id_total, same_station-turned, tied_same}
 use Rattle.ghcn_files.proofs.Ordered.{distinct-mapped}
-use Rattle.ghcn_series.specs.Series.{Usable, Contents}
-use Rattle.ghcn_series.specs.Says.{Fact}
+use Rattle.ghcn_series.specs.Meaning.Series.{Usable}
+use Rattle.ghcn_series.specs.Series.{Contents}
+use Rattle.ghcn_series.specs.Meaning.Says.{Fact}
 use Rattle.ghcn_series.specs.JoinedFiles.{facts_in}
 use Rattle.ghcn_series.proofs.FoundSeries.{has_days}
 use Rattle.ghcn_series.proofs.JoinedFiles.{contents_in, facts_of_parts, data-held, all_data-held}
@@ -19,7 +20,7 @@ use Rattle.ghcn_series.proofs.JoinedSeries.{usable_of-left, usable_of-right}
 use Rattle.ghcn_series.proofs.JoinedLists as lists
 use Rattle.ghcn_series.proofs.ListFacts.{distinct_filter}
 use Rattle.ghcn_series.proofs.Places.{same_id-refl}
-use Rattle.rank_query.specs.Asked.{Asked}
+use Rattle.rank_query.specs.Meaning.Asked.{Asked}
 use Rattle.rank_scores.specs.Morsels.{admitted_series, has_admitted, morsels}
 use Rattle.rank_scores.specs.Cut.{series_first, series_ids, Filed, MorselsOfParts}
 use Rattle.rank_scores.proofs.CutSeries.{admitted_stations, given, all_given, admitted_series-given}

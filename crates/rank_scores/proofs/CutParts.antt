@@ -10,14 +10,14 @@ use Rattle.ghcn_files.proofs.IdOrder.{id_cmp, id_total, same_station-turned, tie
 use Rattle.ghcn_files.proofs.Ordered.{sorted-permutation}
 use Rattle.ghcn_files.specs.declared.station.Station.{Station}
 use Rattle.ghcn_files.specs.declared.station.StationId.{StationId}
-use Rattle.ghcn_files.specs.Ids.{same_id}
+use Rattle.ghcn_files.specs.Meaning.Ids.{same_id}
 use Rattle.ghcn_series.specs.Series.{Contents}
-use Rattle.ghcn_series.specs.Says.{Fact}
+use Rattle.ghcn_series.specs.Meaning.Says.{Fact}
 use Rattle.ghcn_series.specs.JoinedFiles.{facts_in, HaveData}
 use Rattle.ghcn_series.proofs.JoinedFiles.{contents_in, facts_of_parts, data-held, all_data-held}
 use Rattle.ghcn_series.proofs.JoinedLists as lists
 use Rattle.ghcn_series.proofs.Places.{same_id-refl}
-use Rattle.rank_query.specs.Asked.{Asked, score_element}
+use Rattle.rank_query.specs.Meaning.Asked.{Asked, score_element}
 use Rattle.rank_scores.specs.declared.candidate.Candidate.{Candidate}
 use Rattle.rank_scores.specs.Morsels.{all_candidates, morsels}
 use Rattle.rank_scores.specs.Cut.{IsSameFor, series_first, IsCut, morsel_ids, CutByFiles}

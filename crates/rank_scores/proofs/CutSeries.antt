@@ -7,20 +7,23 @@ use Rattle.std.proofs.lemmas.Bool.{not-false}
 use Rattle.ghcn_fields.specs.Sorting.{sorted_by}
 use Rattle.ghcn_files.specs.declared.station.Station.{Station}
 use Rattle.ghcn_files.specs.declared.station.StationId.{StationId}
-use Rattle.ghcn_files.specs.Ids.{same_id}
+use Rattle.ghcn_files.specs.Meaning.Ids.{same_id}
 use Rattle.ghcn_files.proofs.Ordered.{distinct-map, distinct-mapped, sorted-map}
-use Rattle.ghcn_series.specs.Series.{DayValue, Usable, series_of}
+use Rattle.ghcn_series.specs.Meaning.Series.{DayValue, Usable}
+use Rattle.ghcn_series.specs.Series.{series_of}
 use Rattle.ghcn_series.specs.DailyFaults.{is_listed}
-use Rattle.ghcn_series.specs.Says.{Fact, days_of, usable_of}
+use Rattle.ghcn_series.specs.Meaning.Says.{Fact}
+use Rattle.ghcn_series.specs.Says.{days_of, usable_of}
 use Rattle.ghcn_series.specs.JoinedFiles.{facts_in}
 use Rattle.ghcn_series.proofs.AllSeries.{all_listed}
 use Rattle.ghcn_series.proofs.FoundSeries.{if_it_has_days, series_of-listed}
 use Rattle.ghcn_series.proofs.JoinedFiles.{contents_in, none_in}
 use Rattle.ghcn_series.proofs.ListFacts.{all-filter}
-use Rattle.rank_query.specs.Asked.{Asked, score_element}
+use Rattle.rank_query.specs.Meaning.Asked.{Asked, score_element}
 use Rattle.rank_query.specs.Admits.{admits_station}
 use Rattle.rank_scores.specs.declared.candidate.Candidate.{Candidate}
-use Rattle.rank_scores.specs.Candidates.{shape, admitted, candidates, contenders_among}
+use Rattle.rank_scores.specs.Meaning.Candidates.{shape, admitted}
+use Rattle.rank_scores.specs.Candidates.{candidates, contenders_among}
 use Rattle.rank_scores.specs.Groups.{leaders}
 use Rattle.rank_scores.specs.Stretches.{admitted_among}
 use Rattle.rank_scores.specs.Morsels.{admitted_series, all_candidates, has_admitted, id_comes_first, morsels}

@@ -13,15 +13,17 @@ use Rattle.std.proofs.lemmas.Option.{cond_some}
 use Rattle.std.proofs.lemmas.Map.Keys.{IsDistinct-from_apart, IsDistinct-from_sorted, apart_from_distinct}
 use Rattle.std.proofs.lemmas.List.Elements.{All-from_recursion, All-contains, Contains-append_right}
 use Rattle.std.proofs.lemmas.List.Elements.{Contains-append_left}
-use Rattle.ghcn_series.specs.Series.{DayValue, value_on, Usable, IsSeries}
+use Rattle.ghcn_series.specs.Meaning.Series.{DayValue, value_on, Usable}
+use Rattle.ghcn_series.specs.Series.{IsSeries}
 use Rattle.rank_query.specs.declared.score.Score.{Score}
 use Rattle.rank_query.specs.declared.score.Score.TheVariants.{Highest, Lowest, Sum, Dry, Wet, Hot, Cold}
-use Rattle.rank_query.specs.Asked.{is_score, Asked, IsAsked}
+use Rattle.rank_query.specs.Meaning.Asked.{is_score, Asked, IsAsked}
 use Rattle.ghcn_files.specs.declared.station.StationId.{StationId}
-use Rattle.rank_scores.specs.Runs.{run_from, run_len, begins_run, calendar_len, IsRun}
-use Rattle.rank_scores.specs.Candidates.{Shape, Days, Windows, Spells, shape, IsContender}
-use Rattle.rank_scores.specs.Candidates.{begun, plus, window_total, is_such, candidate, candidates, contenders}
-use Rattle.rank_scores.specs.Candidates.{admitted, IsContenderOf, AreTheContenders}
+use Rattle.rank_scores.specs.Meaning.Runs.{IsRun}
+use Rattle.rank_scores.specs.Runs.{run_from, run_len, begins_run, calendar_len}
+use Rattle.rank_scores.specs.Meaning.Candidates.{Shape, Days, Windows, Spells, shape, IsContender, is_such, admitted}
+use Rattle.rank_scores.specs.Meaning.Candidates.{IsContenderOf}
+use Rattle.rank_scores.specs.Candidates.{begun, plus, window_total, candidate, candidates, contenders, AreTheContenders}
 use Rattle.rank_scores.specs.Candidates.{AreTheCandidates, RiseByFirstDay}
 use Rattle.rank_scores.proofs.Totals.{days-total, total-days}
 use Rattle.rank_scores.proofs.Rising.{Rise, admitted-rise, values_stand, firsts_rise, from_each, all-made}
@@ -40,8 +42,9 @@ use Rattle.ghcn_files.proofs.Ordered.{each-mapped}
 use Rattle.ghcn_series.proofs.Members.{for_each, contains-in, in-contains, any_in, in_any, kept_in, in_kept}
 use Rattle.rank_query.specs.declared.per.Per.{Per}
 use Rattle.rank_query.specs.declared.per.Per.TheVariants.{Each}
-use Rattle.rank_scores.specs.Groups.{are_rivals, is_outdone, leaders}
-use Rattle.rank_scores.specs.Order.{precedes}
+use Rattle.rank_scores.specs.Meaning.Groups.{are_rivals}
+use Rattle.rank_scores.specs.Groups.{is_outdone, leaders}
+use Rattle.rank_scores.specs.Meaning.Order.{precedes}
 use Rattle.rank_scores.proofs.Leaders.{any-none, filter-all, led_by, leaders_apart}
 use Rattle.rank_scores.proofs.LeadingFolds.{rivals-turned, rivals-joined, precedes-on, precedes-unlike}
 use Rattle.rank_scores.proofs.LeadingFolds.{precedes-decided}

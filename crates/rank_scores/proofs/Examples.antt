@@ -5,16 +5,19 @@ use Rattle.jiff_core.specs.Calendar.{days_from_civil, day_count, days_of_years, 
 use Rattle.ghcn_files.specs.declared.station.StationId.{StationId}
 use Rattle.ghcn_files.specs.declared.element.Element.{Element}
 use Rattle.ghcn_files.specs.declared.element.Element.TheVariants.{Tmax, Tmin, Prcp, Snow}
-use Rattle.ghcn_fields.specs.Dates.{year_and_rest, month_and_day}
-use Rattle.ghcn_series.specs.Series.{DayValue, Usable, Contents}
+use Rattle.ghcn_fields.specs.Meaning.Dates.{year_and_rest, month_and_day}
+use Rattle.ghcn_series.specs.Meaning.Series.{DayValue, Usable}
+use Rattle.ghcn_series.specs.Series.{Contents}
 use Rattle.rank_query.specs.declared.score.Score.{Score}
 use Rattle.rank_query.specs.declared.score.Score.TheVariants.{Highest, Lowest, Sum, Dry, Wet, Hot, Cold}
 use Rattle.rank_query.specs.declared.season.Season.TheVariants.{Months, Dates}
-use Rattle.rank_query.specs.Asked.{Asked, top}
+use Rattle.rank_query.specs.Meaning.Asked.{Asked}
+use Rattle.rank_query.specs.Asked.{top}
 use Rattle.rank_scores.specs.Runs.{run_from}
 use Rattle.rank_scores.specs.declared.candidate.Candidate.{Candidate}
 use Rattle.rank_scores.specs.Candidates.{candidates}
-use Rattle.rank_scores.specs.Order.{best, kth_score, precedes}
+use Rattle.rank_scores.specs.Meaning.Order.{precedes}
+use Rattle.rank_scores.specs.Order.{best, kth_score}
 use Rattle.rank_scores.specs.OneElement.{data_for}
 use Rattle.rank_scores.specs.Spells.{first_with, ended_by}
 

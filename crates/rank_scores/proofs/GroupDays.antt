@@ -7,12 +7,12 @@ use Rattle.jiff_core.specs.Calendar.{days_from_civil, IsCivilDate}
 use Rattle.jiff_core.proofs.SignedLemmas.{signed_arith}
 use Rattle.jiff_core.proofs.CalendarLemmas.{days_from_civil-day_count, day_count-lt_year, day_count-next_year}
 use Rattle.jiff_core.proofs.CalendarLemmas.{day_count-last_of_year}
-use Rattle.ghcn_fields.specs.Dates.{civil}
-use Rattle.ghcn_fields.specs.Days.{is_day, last_day}
+use Rattle.ghcn_fields.specs.Meaning.Dates.{civil}
+use Rattle.ghcn_fields.specs.Meaning.Days.{is_day, last_day}
 use Rattle.ghcn_fields.proofs.CivilDates.{civil-date_of}
 use Rattle.rank_query.specs.declared.per.Per.{Per}
 use Rattle.rank_query.specs.declared.per.Per.TheVariants.{Each, Station, Year}
-use Rattle.rank_scores.specs.Groups.{same_group}
+use Rattle.rank_scores.specs.Meaning.Groups.{same_group}
 use Rattle.rank_scores.specs.Leading.{group_end, last_of_year}
 
 -- the year of a day

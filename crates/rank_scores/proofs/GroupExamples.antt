@@ -2,18 +2,19 @@
 use Rattle.std.proofs.Common.{◌≡◌, true, false, [], ◌∷◌, ◌++◌, List, refl, None, Some}
 use Rattle.std.specs.Prelude.{pos, neg_ℤ}
 use Rattle.ghcn_files.specs.declared.element.Element.TheVariants.{Tmax, Tmin, Prcp}
-use Rattle.ghcn_fields.specs.Dates.{year_and_rest, month_and_day}
+use Rattle.ghcn_fields.specs.Meaning.Dates.{year_and_rest, month_and_day}
 use Rattle.jiff_core.specs.Calendar.{days_from_civil, day_count, days_of_years, days_of_months}
-use Rattle.ghcn_series.specs.Series.{Usable}
+use Rattle.ghcn_series.specs.Meaning.Series.{Usable}
 use Rattle.rank_query.specs.declared.per.Per.{Per}
 use Rattle.rank_query.specs.declared.per.Per.TheVariants.{Each, Station, Year}
 use Rattle.rank_query.specs.declared.score.Score.TheVariants.{Highest, Wet, Cold}
 use Rattle.rank_query.specs.declared.season.Season.TheVariants.{Months}
-use Rattle.rank_query.specs.Asked.{Asked, top}
+use Rattle.rank_query.specs.Meaning.Asked.{Asked}
+use Rattle.rank_query.specs.Asked.{top}
 use Rattle.rank_scores.specs.Runs.{run_from}
 use Rattle.rank_scores.specs.declared.candidate.Candidate.{Candidate}
 use Rattle.rank_scores.specs.Candidates.{candidates}
-use Rattle.rank_scores.specs.Groups.{same_group, are_rivals}
+use Rattle.rank_scores.specs.Meaning.Groups.{same_group, are_rivals}
 use Rattle.rank_scores.specs.Leading.{group_end}
 use Rattle.rank_scores.specs.Order.{best, kth_score}
 use Rattle.rank_scores.proofs.Examples.{id_a, id_b, id_c, series, found}

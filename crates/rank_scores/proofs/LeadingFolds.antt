@@ -8,16 +8,18 @@ use Rattle.std.specs.declared.cmp.Ordering.TheVariants.{Less, Equal, Greater}
 use Rattle.std.proofs.lemmas.Bool.{cases_Bool, and_parts, and_from}
 use Rattle.std.proofs.lemmas.Int.{ints}
 use Rattle.ghcn_files.specs.declared.station.StationId.{StationId}
-use Rattle.ghcn_files.specs.Ids.{same_id}
+use Rattle.ghcn_files.specs.Meaning.Ids.{same_id}
 use Rattle.ghcn_files.proofs.Ordered.{less}
 use Rattle.ghcn_files.proofs.IdLaws.{same_id-laws, same_id-turned, same_id-is}
-use Rattle.ghcn_fields.specs.Days.{is_day}
+use Rattle.ghcn_fields.specs.Meaning.Days.{is_day}
 use Rattle.rank_query.specs.declared.per.Per.{Per}
 use Rattle.rank_scores.specs.declared.candidate.Candidate.{Candidate}
 use Rattle.rank_scores.specs.declared.leading.Leading.{Leading}
 use Rattle.rank_scores.specs.declared.leading.Open.{Open}
-use Rattle.rank_scores.specs.Order.{precedes, rank_cmp, begin_alike}
-use Rattle.rank_scores.specs.Groups.{same_group, are_rivals, leaders}
+use Rattle.rank_scores.specs.Meaning.Order.{precedes, rank_cmp}
+use Rattle.rank_scores.specs.Order.{begin_alike}
+use Rattle.rank_scores.specs.Meaning.Groups.{same_group, are_rivals}
+use Rattle.rank_scores.specs.Groups.{leaders}
 use Rattle.rank_scores.specs.Leading.{Held, better, group_end, held_with, leading_with, let_go, opened}
 use Rattle.rank_scores.proofs.Rising.{from_each, from_both}
 use Rattle.rank_scores.proofs.Ranks.{rank_cmp_total, asym}

@@ -5,14 +5,16 @@ use Rattle.std.specs.List.Sorted.{IsStrictlySortedBy}
 use Rattle.std.specs.Ordering.{int_cmp}
 use Rattle.std.specs.declared.cmp.Ordering.TheVariants.{Less}
 use Rattle.std.proofs.lemmas.Int.{ints}
-use Rattle.ghcn_fields.specs.Days.{is_day}
+use Rattle.ghcn_fields.specs.Meaning.Days.{is_day}
 use Rattle.ghcn_files.proofs.Ordered.{each-mapped}
-use Rattle.ghcn_series.specs.Series.{Usable, IsSeries}
+use Rattle.ghcn_series.specs.Meaning.Series.{Usable}
+use Rattle.ghcn_series.specs.Series.{IsSeries}
 use Rattle.rank_query.specs.declared.per.Per.{Per}
-use Rattle.rank_query.specs.Asked.{Asked}
+use Rattle.rank_query.specs.Meaning.Asked.{Asked}
 use Rattle.rank_scores.specs.declared.candidate.Candidate.{Candidate}
 use Rattle.rank_scores.specs.declared.leading.Open.{Open}
-use Rattle.rank_scores.specs.Candidates.{admitted, begun, candidates, contenders, shape, RiseByFirstDay}
+use Rattle.rank_scores.specs.Meaning.Candidates.{admitted, shape}
+use Rattle.rank_scores.specs.Candidates.{begun, candidates, contenders, RiseByFirstDay}
 use Rattle.rank_scores.specs.Leading.{held_with, let_go}
 use Rattle.rank_scores.proofs.Exactly.{begun_on, made, contenders_rise}
 use Rattle.rank_scores.proofs.LeadingFolds.{Later, leaders_taken}

@@ -13,7 +13,8 @@ use Rattle.std.proofs.lemmas.List.Sorted.{ranks_by, sorted_far}
 use Rattle.std.proofs.lemmas.Map.Keys.{IsDistinct-IsPermutation, apart_from_distinct}
 use Rattle.std.proofs.lemmas.Map.Text.{is_eq-slice_cmp}
 use Rattle.rank_scores.specs.declared.candidate.Candidate.{Candidate}
-use Rattle.rank_scores.specs.Order.{precedes, rank_cmp, full_cmp, begin_alike, AreApart}
+use Rattle.rank_scores.specs.Meaning.Order.{precedes, rank_cmp}
+use Rattle.rank_scores.specs.Order.{full_cmp, begin_alike, AreApart}
 use Rattle.rank_scores.proofs.Ranks.{rank_cmp_total, Descends}
 use Rattle.std.proofs.lemmas.Int.{ints}
 use Rattle.std.proofs.Common.{rules}

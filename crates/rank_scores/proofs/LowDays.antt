@@ -10,8 +10,9 @@ use Rattle.rank_scores.specs.declared.candidate.Candidate.{Candidate}
 use Rattle.std.proofs.lemmas.Bool.{cases_Bool}
 use Rattle.std.proofs.lemmas.Int.{ints}
 use Rattle.ghcn_files.specs.declared.station.StationId.{StationId}
-use Rattle.ghcn_series.specs.Series.{DayValue}
-use Rattle.rank_scores.specs.Candidates.{Days, candidate, contenders_among}
+use Rattle.ghcn_series.specs.Meaning.Series.{DayValue}
+use Rattle.rank_scores.specs.Meaning.Candidates.{Days}
+use Rattle.rank_scores.specs.Candidates.{candidate, contenders_among}
 use Rattle.rank_scores.specs.Extremes.{score_by}
 use Rattle.rank_scores.specs.declared.extreme.Extreme.TheVariants.{Highest, Lowest}
 use Rattle.rank_scores.proofs.Rising.{from_each}

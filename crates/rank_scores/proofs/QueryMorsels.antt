@@ -5,10 +5,11 @@ use Rattle.std.specs.Prelude.{◌==◌}
 use Rattle.std.specs.List.{find, filter_map, flat_map, AllByRecursion}
 use Rattle.std.proofs.lemmas.Grind.{common_steps}
 use Rattle.ghcn_files.specs.declared.station.Station.{Station}
-use Rattle.ghcn_series.specs.Series.{Usable, Contents, IsSeries, DayValue, series_of, is_series_of}
+use Rattle.ghcn_series.specs.Meaning.Series.{Usable, DayValue}
+use Rattle.ghcn_series.specs.Series.{Contents, IsSeries, series_of, is_series_of}
 use Rattle.ghcn_series.specs.Held.{IsContents}
 use Rattle.ghcn_series.proofs.Members.{found_in}
-use Rattle.rank_query.specs.Asked.{Asked, score_element}
+use Rattle.rank_query.specs.Meaning.Asked.{Asked, score_element}
 use Rattle.rank_scores.specs.declared.candidate.Candidate.{Candidate}
 use Rattle.rank_scores.specs.Candidates.{candidates}
 use Rattle.rank_scores.specs.Morsels.{admitted_series, has_admitted, morsel_at, IsAskedOf}

@@ -17,7 +17,8 @@ use Rattle.std.proofs.lemmas.List.MinMax.{ranks_by}
 use Rattle.std.proofs.lemmas.Map.Keys.{any_passes_from_place}
 use Rattle.ghcn_files.proofs.Ordered.{Descend}
 use Rattle.rank_scores.specs.declared.candidate.Candidate.{Candidate}
-use Rattle.rank_scores.specs.Order.{precedes, rank_cmp, rank_in, of_rank, best}
+use Rattle.rank_scores.specs.Meaning.Order.{precedes, rank_cmp}
+use Rattle.rank_scores.specs.Order.{rank_in, of_rank, best}
 use Rattle.rank_scores.proofs.Rising.{from_each}
 use Rattle.std.proofs.lemmas.Int.{ints}
 use Rattle.std.proofs.Common.{rules}

@@ -12,11 +12,12 @@ use Rattle.std.proofs.lemmas.Int.{ints}
 pub use Rattle.ghcn_files.proofs.Ordered.{each-map}
 pub use Rattle.ghcn_files.proofs.Among.{each-weaker as from_each}
 pub use Rattle.ghcn_series.proofs.ListFacts.{all-filter}
-use Rattle.ghcn_series.specs.Series.{DayValue, Usable, IsSeries, value_on, is_by_day}
-use Rattle.rank_query.specs.Asked.{Asked}
-use Rattle.rank_query.specs.Admits.{admits_day}
+use Rattle.ghcn_series.specs.Meaning.Series.{DayValue, Usable, value_on}
+use Rattle.ghcn_series.specs.Series.{IsSeries, is_by_day}
+use Rattle.rank_query.specs.Meaning.Asked.{Asked}
+use Rattle.rank_query.specs.Meaning.Admits.{admits_day}
 use Rattle.rank_scores.specs.declared.candidate.Candidate.{Candidate}
-use Rattle.rank_scores.specs.Candidates.{admitted}
+use Rattle.rank_scores.specs.Meaning.Candidates.{admitted}
 
 -- each day is earlier than all after it
 abbrev pub Rise : List DayValue → Type 0

@@ -6,11 +6,11 @@ use Rattle.std.specs.Option.{option_map_or}
 use Rattle.std.proofs.lemmas.Bool.{cases_Bool, cases_order, and_parts, false_from_ne_true, true_from_ne_false}
 use Rattle.std.proofs.lemmas.List.Elements.{recursion_from_All, filter_passes}
 use Rattle.std.proofs.lemmas.Int.{ints}
-use Rattle.ghcn_fields.specs.Days.{first_day, last_day, is_day}
-use Rattle.ghcn_series.specs.Series.{DayValue, value_on}
-use Rattle.rank_query.specs.Asked.{Asked}
+use Rattle.ghcn_fields.specs.Meaning.Days.{first_day, last_day, is_day}
+use Rattle.ghcn_series.specs.Meaning.Series.{DayValue, value_on}
+use Rattle.rank_query.specs.Meaning.Asked.{Asked}
 use Rattle.rank_scores.specs.Runs.{run_from, calendar_len}
-use Rattle.rank_scores.specs.Candidates.{is_such}
+use Rattle.rank_scores.specs.Meaning.Candidates.{is_such}
 use Rattle.rank_scores.specs.Stretches.{admitted_among}
 use Rattle.rank_scores.proofs.Rising.{from_each, value_on-other}
 use Rattle.std.proofs.Common.{rules}

@@ -10,14 +10,16 @@ use Rattle.std.proofs.lemmas.Bool.{and_parts, and_left, and_right, not_from_true
 use Rattle.std.proofs.lemmas.Bool.{cases_lt, cases_Bool}
 use Rattle.std.proofs.lemmas.Bool.Decides.{Decides-int_eq}
 use Rattle.std.proofs.lemmas.Int.{ints, by_lt_z}
-use Rattle.ghcn_fields.specs.Days.{first_day, is_day}
+use Rattle.ghcn_fields.specs.Meaning.Days.{first_day, is_day}
 use Rattle.ghcn_files.specs.declared.station.StationId.{StationId}
 use Rattle.ghcn_series.specs.Packed.{AreInARow}
-use Rattle.ghcn_series.specs.Series.{DayValue, Usable, IsSeries}
-use Rattle.rank_query.specs.Asked.{Asked}
+use Rattle.ghcn_series.specs.Meaning.Series.{DayValue, Usable}
+use Rattle.ghcn_series.specs.Series.{IsSeries}
+use Rattle.rank_query.specs.Meaning.Asked.{Asked}
 use Rattle.rank_scores.specs.declared.candidate.Candidate.{Candidate}
 use Rattle.rank_scores.specs.Runs.{begins_run}
-use Rattle.rank_scores.specs.Candidates.{Spells, begun, candidate, contenders_among, admitted, is_such}
+use Rattle.rank_scores.specs.Meaning.Candidates.{Spells, admitted, is_such}
+use Rattle.rank_scores.specs.Candidates.{begun, candidate, contenders_among}
 use Rattle.rank_scores.specs.Spells.{goes_on, offered, offered_of_kind, spell_from, spell_list}
 use Rattle.rank_scores.proofs.Rising.{Rise, admitted-rise, from_each, value_on-other, value_on-here, value_on-later}
 use Rattle.rank_scores.proofs.Rising.{value_on-before, all-filter}

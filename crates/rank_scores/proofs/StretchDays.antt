@@ -6,10 +6,11 @@ use Rattle.std.specs.Option.{option_map}
 use Rattle.std.specs.List.{AllByRecursion, list_all}
 use Rattle.std.proofs.lemmas.Bool.{and_parts}
 use Rattle.std.proofs.lemmas.Int.{ints}
-use Rattle.ghcn_fields.specs.Days.{is_day, first_day}
-use Rattle.ghcn_series.specs.Series.{DayValue, Usable, IsSeries, is_by_day, is_value}
-use Rattle.rank_query.specs.Asked.{Asked}
-use Rattle.rank_query.specs.Admits.{admits_day}
+use Rattle.ghcn_fields.specs.Meaning.Days.{is_day, first_day}
+use Rattle.ghcn_series.specs.Meaning.Series.{DayValue, Usable}
+use Rattle.ghcn_series.specs.Series.{IsSeries, is_by_day, is_value}
+use Rattle.rank_query.specs.Meaning.Asked.{Asked}
+use Rattle.rank_query.specs.Meaning.Admits.{admits_day}
 use Rattle.rank_scores.specs.declared.admitted.Stretch.{Stretch}
 use Rattle.rank_scores.specs.Stretches.{admitted_among}
 use Rattle.rank_scores.specs.Stretches.{IsStretch}

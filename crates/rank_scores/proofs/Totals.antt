@@ -9,11 +9,13 @@ use Rattle.std.proofs.lemmas.Bool.{cases_Bool, and_parts}
 use Rattle.std.proofs.lemmas.Bool.Decides.{Decides-int_eq}
 use Rattle.std.proofs.lemmas.Int.{ints}
 use Rattle.std.proofs.lemmas.List.Elements.{recursion_from_All, filter_passes}
-use Rattle.ghcn_fields.specs.Days.{is_day}
+use Rattle.ghcn_fields.specs.Meaning.Days.{is_day}
 use Rattle.ghcn_files.specs.declared.element.Element.{Element}
-use Rattle.ghcn_series.specs.Series.{DayValue, Usable, IsSeries, is_value}
-use Rattle.rank_query.specs.Asked.{Asked}
-use Rattle.rank_scores.specs.Candidates.{plus, window_total, admitted, days_within, sum_of_values}
+use Rattle.ghcn_series.specs.Meaning.Series.{DayValue, Usable}
+use Rattle.ghcn_series.specs.Series.{IsSeries, is_value}
+use Rattle.rank_query.specs.Meaning.Asked.{Asked}
+use Rattle.rank_scores.specs.Meaning.Candidates.{admitted, days_within, sum_of_values}
+use Rattle.rank_scores.specs.Candidates.{plus, window_total}
 use Rattle.rank_scores.proofs.Rising.{Rise, rise-filter, all-filter, from_each, from_both, find-filter}
 use Rattle.rank_scores.proofs.Rising.{value_on-other, value_on-later}
 use Rattle.std.proofs.Common.{rules}

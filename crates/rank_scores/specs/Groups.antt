@@ -1,23 +1,10 @@
--- Groups of contenders: of each group only the best is a candidate.
-use Rattle.std.specs.Prelude.{Bool, true, false, not, ◌&&◌, ◌==◌, List, filter, ℤ}
+-- The contenders that no rival precedes.
+use Rattle.std.specs.Prelude.{Bool, not, ◌&&◌, List, filter}
 use Rattle.std.specs.List.{list_any}
-use Rattle.ghcn_fields.specs.Dates.{civil}
-use Rattle.ghcn_files.specs.Ids.{same_id}
 use Rattle.rank_query.specs.declared.per.Per.{Per}
-use Rattle.rank_query.specs.declared.per.Per.TheVariants.{Each, Station, Year}
 use Rattle.rank_scores.specs.declared.candidate.Candidate.{Candidate}
-use Rattle.rank_scores.specs.Order.{precedes}
-
--- two contenders of one station that begin on these two days belong to one group: never if there are no groups, always
--- by station, and by year if the two days are in one year
-abbrev pub same_group : Per → ℤ → ℤ → Bool
-same_group Each a b = false
-same_group Station a b = true
-same_group Year a b = (civil a).0 == (civil b).0
-
--- two contenders are rivals: they belong to one station and to one group, so at most one of them is a candidate
-abbrev pub are_rivals : Per → Candidate → Candidate → Bool
-are_rivals per a b = same_group per a.first b.first && same_id a.id b.id
+use Rattle.rank_scores.specs.Meaning.Order.{precedes}
+use Rattle.rank_scores.specs.Meaning.Groups.{are_rivals}
 
 -- a rival precedes the contender
 abbrev pub is_outdone : Per → List Candidate → Candidate → Bool

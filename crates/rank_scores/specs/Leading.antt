@@ -1,14 +1,14 @@
 -- What a scan holds of the group that is open: its best contender.
 use Rattle.std.specs.Prelude.{ℤ, pos, int_le, if◌then◌else◌, Option, None, Some}
-use Rattle.ghcn_fields.specs.Dates.{civil}
-use Rattle.ghcn_fields.specs.Days.{last_day}
+use Rattle.ghcn_fields.specs.Meaning.Dates.{civil}
+use Rattle.ghcn_fields.specs.Meaning.Days.{last_day}
 use Rattle.jiff_core.specs.Calendar.{days_from_civil}
 use Rattle.rank_query.specs.declared.per.Per.{Per}
 use Rattle.rank_query.specs.declared.per.Per.TheVariants.{Each, Station, Year}
 use Rattle.rank_scores.specs.declared.candidate.Candidate.{Candidate}
 use Rattle.rank_scores.specs.declared.leading.Leading.{Leading}
 use Rattle.rank_scores.specs.declared.leading.Open.{Open}
-use Rattle.rank_scores.specs.Order.{precedes}
+use Rattle.rank_scores.specs.Meaning.Order.{precedes}
 
 -- 31 December of the year of a day
 abbrev pub last_of_year : ℤ → ℤ

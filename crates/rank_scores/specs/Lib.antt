@@ -1,3 +1,4 @@
+pub mod Meaning
 pub mod Runs
 pub mod Groups
 pub mod Leading

@@ -4,7 +4,7 @@ use Rattle.ghcn_files.specs.declared.element.Keep.{Keep}
 use Rattle.ghcn_files.specs.Elements.{is_kept, only}
 use Rattle.ghcn_series.specs.Series.{Contents}
 use Rattle.ghcn_series.specs.Kept.{kept}
-use Rattle.rank_query.specs.Asked.{Asked, score_element}
+use Rattle.rank_query.specs.Meaning.Asked.{Asked, score_element}
 use Rattle.rank_scores.specs.Morsels.{admitted_series, all_candidates, morsels, best_of_query, kth_of_query}
 
 -- what a query needs of these data: of all series, those of its element

@@ -1,23 +1,14 @@
--- The order of candidates, and the best of some.
+-- The best of some candidates by their ranks, an order without ties, and bounds.
 use Rattle.std.specs.Prelude.{ℕ, zero, suc, Bool, false, ◌&&◌, ◌==◌, List, Option, None, Some, ℤ, int_lt}
 use Rattle.std.specs.List.{count_by, find, filter_map, range_with_len, IsDistinct}
 use Rattle.std.specs.Option.{option_map}
 use Rattle.std.specs.declared.cmp.Ordering.{Ordering}
-use Rattle.std.specs.Ordering.{is_lt, nat_cmp, int_cmp, int_eq, on, flip_args, then_cmp}
-use Rattle.std.specs.Cmp.Lexicographic.{slice_cmp}
-use Rattle.ghcn_files.specs.Ids.{same_id}
+use Rattle.std.specs.Ordering.{int_cmp, int_eq, on, then_cmp}
+use Rattle.ghcn_files.specs.Meaning.Ids.{same_id}
 use Rattle.rank_scores.specs.declared.candidate.Candidate.{Candidate}
+use Rattle.rank_scores.specs.Meaning.Order.{rank_cmp, precedes}
 
--- the order of candidates: by greater score, then by smaller ID, then by earlier first day
-abbrev pub rank_cmp : Candidate → Candidate → Ordering
-rank_cmp = then_cmp (on (λ c. c.score) (flip_args int_cmp))
-    (then_cmp (on (λ c. c.id.0) (slice_cmp nat_cmp)) (on (λ c. c.first) int_cmp))
-
--- a comes before b in this order
-abbrev pub precedes : Candidate → Candidate → Bool
-precedes a b = is_lt (rank_cmp a b)
-
--- the same order, and if two candidates tie in it, the earlier last day comes first
+-- the order of candidates, and if two tie in it, the earlier last day comes first
 abbrev pub full_cmp : Candidate → Candidate → Ordering
 full_cmp = then_cmp rank_cmp (on (λ c. c.last) int_cmp)
 

@@ -1,13 +1,15 @@
 -- What is true of the candidates of every series, as statements for the contract of a public function.
 use Rattle.std.specs.Prelude.{◌≡◌, ◌↔◌, true, ◌⊎◌, ℤ}
 use Rattle.std.specs.List.{Contains, IsDistinct}
-use Rattle.ghcn_series.specs.Series.{Usable, IsSeries}
+use Rattle.ghcn_series.specs.Meaning.Series.{Usable}
+use Rattle.ghcn_series.specs.Series.{IsSeries}
 use Rattle.rank_query.specs.declared.per.Per.TheVariants.{Each}
-use Rattle.rank_query.specs.Asked.{Asked, IsAsked}
+use Rattle.rank_query.specs.Meaning.Asked.{Asked, IsAsked}
 use Rattle.rank_scores.specs.declared.candidate.Candidate.{Candidate}
 use Rattle.rank_scores.specs.Candidates.{contenders, candidates, AreTheContenders, AreTheCandidates, RiseByFirstDay}
-use Rattle.rank_scores.specs.Groups.{are_rivals}
-use Rattle.rank_scores.specs.Order.{precedes, AreApart}
+use Rattle.rank_scores.specs.Meaning.Groups.{are_rivals}
+use Rattle.rank_scores.specs.Meaning.Order.{precedes}
+use Rattle.rank_scores.specs.Order.{AreApart}
 use Rattle.rank_scores.specs.Morsels.{IsAbove, NoneIsAbove}
 
 -- the contenders that are listed are those with the property, and no others

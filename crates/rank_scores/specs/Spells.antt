@@ -4,8 +4,8 @@ use Rattle.std.specs.Prelude.{◌≡◌, ◌++◌}
 use Rattle.std.specs.List.{fold}
 use Rattle.std.specs.Ordering.{int_eq}
 use Rattle.ghcn_files.specs.declared.station.StationId.{StationId}
-use Rattle.ghcn_series.specs.Series.{DayValue}
-use Rattle.rank_query.specs.Asked.{is_heat}
+use Rattle.ghcn_series.specs.Meaning.Series.{DayValue}
+use Rattle.rank_query.specs.Meaning.Asked.{is_heat}
 use Rattle.rank_scores.specs.declared.candidate.Candidate.{Candidate}
 use Rattle.rank_scores.specs.declared.spell.Run.{Run}
 use Rattle.rank_scores.specs.declared.spell.Spell.{Spell}

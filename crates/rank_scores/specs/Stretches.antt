@@ -1,10 +1,11 @@
 -- Days that are admitted alike, as one after another comes.
 use Rattle.std.specs.Prelude.{◌≡◌, List, filter, ◌≤ℤ◌, IsTrue}
 use Rattle.std.specs.List.{AllByRecursion}
-use Rattle.ghcn_fields.specs.Days.{is_day}
-use Rattle.ghcn_series.specs.Series.{DayValue, is_by_day}
-use Rattle.rank_query.specs.Asked.{Asked}
-use Rattle.rank_query.specs.Admits.{admits_day}
+use Rattle.ghcn_fields.specs.Meaning.Days.{is_day}
+use Rattle.ghcn_series.specs.Meaning.Series.{DayValue}
+use Rattle.ghcn_series.specs.Series.{is_by_day}
+use Rattle.rank_query.specs.Meaning.Asked.{Asked}
+use Rattle.rank_query.specs.Meaning.Admits.{admits_day}
 use Rattle.rank_scores.specs.declared.admitted.Stretch.{Stretch}
 
 -- those of some days that a query admits

@@ -2,10 +2,11 @@
 
 ghost use Rattle.std.specs.Prelude.{◌≡◌, ◌↔◌, ◌<◌, IsTrue, List, [], ◌∷◌, ◌++◌, length, ℤ, pos, ◌+ℤ◌, ◌≤ℤ◌};
 ghost use Rattle.std.specs.Prelude.{IfSome, IfNone};
-ghost use Rattle.ghcn_fields.specs.Days.{is_day};
-ghost use Rattle.ghcn_series.specs.Series.{DayValue, IsSeries};
-ghost use Rattle.rank_query.specs.Admits.{admits_day};
-ghost use Rattle.rank_scores.specs.Candidates as meaning;
+ghost use Rattle.ghcn_fields.specs.Meaning.Days.{is_day};
+ghost use Rattle.ghcn_series.specs.Meaning.Series.{DayValue};
+ghost use Rattle.ghcn_series.specs.Series.{IsSeries};
+ghost use Rattle.rank_query.specs.Meaning.Admits.{admits_day};
+ghost use Rattle.rank_scores.specs.Meaning.Candidates as meaning;
 ghost use Rattle.rank_scores.specs.Morsels.{has_admitted};
 ghost use Rattle.rank_scores.specs.Stretches.{admitted_among, IsStretch};
 
@@ -26,7 +27,7 @@ pub(crate) struct Admitted<'s, 'q> {
 
 impl<'s, 'q> Model for Admitted<'s, 'q> {
     ghost use Rattle.std.specs.Prelude.{List};
-    ghost use Rattle.ghcn_series.specs.Series.{DayValue};
+    ghost use Rattle.ghcn_series.specs.Meaning.Series.{DayValue};
     ghost use Rattle.rank_scores.specs.Stretches.{admitted_among, IsStretch};
 
     ghost Value = { List DayValue };

@@ -6,6 +6,7 @@ ghost use Rattle.std.specs.Cmp.{partial_order_from_own_ties, partial_order_from_
 ghost use Rattle.std.specs.Cmp.Rules.{comparing};
 ghost use Rattle.std.specs.Cmp.Lexicographic.{slice_cmp};
 ghost use Rattle.std.specs.Ordering.{as_partial_cmp, nat_cmp, int_cmp, on, then_cmp};
+ghost use Rattle.rank_scores.specs.Meaning.Order as meaning;
 ghost use Rattle.rank_scores.specs.Order as order;
 
 use ghcn_fields::Day;
@@ -60,7 +61,7 @@ impl PartialOrd for Candidate {
 /// Whether `a` comes before `b`: by greater score, then smaller ID, then earlier first day.
 #[inline]
 pub fn precedes(a: &Candidate, b: &Candidate) -> bool
-    ensures { result ≡ order.precedes a.now b.now }
+    ensures { result ≡ meaning.precedes a.now b.now }
 {
     rank_cmp(a, b).is_lt()
 }
@@ -79,7 +80,7 @@ pub fn bound_is_below(score: Option<i64>, bound: i64) -> bool
 /// The order by score, ID and first day, which is what ranks candidates of one query.
 #[inline]
 fn rank_cmp(a: &Candidate, b: &Candidate) -> Ordering
-    ensures { result ≡ order.rank_cmp a.now b.now }
+    ensures { result ≡ meaning.rank_cmp a.now b.now }
 {
     // Most pairs differ in score, and then no byte of an ID is read.
     if a.score != b.score {

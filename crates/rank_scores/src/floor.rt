@@ -3,7 +3,8 @@
 ghost use Rattle.std.specs.Prelude.{◌≡◌, true, false};
 ghost use Rattle.std.specs.List.{fold};
 ghost use Rattle.ghcn_files.specs.declared.station.StationId.{StationId};
-ghost use Rattle.rank_scores.specs.Candidates as meaning;
+ghost use Rattle.rank_scores.specs.Candidates.{contenders_among};
+ghost use Rattle.rank_scores.specs.Meaning.Candidates as meaning;
 ghost use Rattle.rank_scores.specs.Extremes.{score_by};
 
 use crate::Sink;
@@ -35,7 +36,7 @@ pub trait FloorSink: Sink {
 #[inline(always)]
 pub(crate) fn is_passed_over<S: FloorSink>(part: &BlockDays, extreme: Extreme, sink: &mut S) -> bool
     ensures passed { (id : StationId) → result ≡ true →
-        sink.new ≡ fold S.taken sink.old (meaning.contenders_among id (meaning.Days (score_by extreme)) part.now) }
+        sink.new ≡ fold S.taken sink.old (contenders_among id (meaning.Days (score_by extreme)) part.now) }
     ensures kept { result ≡ false → sink.new ≡ sink.old }
 {
     let Some(floor) = sink.floor() else {

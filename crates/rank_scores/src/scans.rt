@@ -3,9 +3,10 @@
 ghost use Rattle.std.specs.Prelude.{◌≡◌};
 ghost use Rattle.std.specs.List.{fold};
 ghost use Rattle.ghcn_series.specs.Series.{IsSeries};
-ghost use Rattle.rank_scores.specs.Candidates as meaning;
+ghost use Rattle.rank_scores.specs.Candidates.{candidates, contenders, contenders_among};
 ghost use Rattle.rank_scores.specs.Extremes.{score_by};
 ghost use Rattle.rank_scores.specs.Leading.{held_with};
+ghost use Rattle.rank_scores.specs.Meaning.Candidates as meaning;
 
 use crate::admitted::Admitted;
 use crate::extreme::Extreme;
@@ -22,7 +23,7 @@ use rank_query::{Per, Query, Score};
 ///
 /// The station is taken as admitted, and the series as one of the query's element.
 pub fn scan<S: Sink>(series: &Series, query: &Query, sink: &mut S)
-    ensures { sink.new ≡ fold S.taken sink.old (meaning.candidates query.now series.now) }
+    ensures { sink.new ≡ fold S.taken sink.old (candidates query.now series.now) }
 {
     match query.per() {
         Per::Each => scan_contenders(series, query, sink),
@@ -37,7 +38,7 @@ pub fn scan<S: Sink>(series: &Series, query: &Query, sink: &mut S)
 /// given the number of those that lie within a part, except for the first and the last one. Windows are all offered. If
 /// the best of groups are asked for, not each of these is a candidate, and all candidates are offered.
 pub fn scan_to_floor<S: FloorSink>(series: &Series, query: &Query, sink: &mut S)
-    ensures { sink.new ≡ fold S.taken sink.old (meaning.candidates query.now series.now) }
+    ensures { sink.new ≡ fold S.taken sink.old (candidates query.now series.now) }
 {
     match query.per() {
         Per::Each => scan_contenders_to_floor(series, query, sink),
@@ -47,7 +48,7 @@ pub fn scan_to_floor<S: FloorSink>(series: &Series, query: &Query, sink: &mut S)
 
 /// Offers each contender of the series once, by increasing first day.
 fn scan_contenders<S: Sink>(series: &Series, query: &Query, sink: &mut S)
-    ensures offered { sink.new ≡ fold S.taken sink.old (meaning.contenders query.now series.now) }
+    ensures offered { sink.new ≡ fold S.taken sink.old (contenders query.now series.now) }
     ensures series { IsSeries series.now }
 {
     let id = series.id();
@@ -65,7 +66,7 @@ fn scan_contenders<S: Sink>(series: &Series, query: &Query, sink: &mut S)
 /// Offers each contender of the series, except for days of parts of which none reaches the sink's floor, and for spells
 /// within a part that are too short for it: of these the sink is given the number alone.
 fn scan_contenders_to_floor<S: FloorSink>(series: &Series, query: &Query, sink: &mut S)
-    ensures { sink.new ≡ fold S.taken sink.old (meaning.contenders query.now series.now) }
+    ensures { sink.new ≡ fold S.taken sink.old (contenders query.now series.now) }
 {
     let id = series.id();
     match query.score() {
@@ -82,7 +83,7 @@ fn scan_contenders_to_floor<S: FloorSink>(series: &Series, query: &Query, sink: 
 /// Offers the best contender of each group.
 #[inline(never)]
 fn scan_groups<S: Sink>(series: &Series, query: &Query, sink: &mut S)
-    ensures { sink.new ≡ fold S.taken sink.old (meaning.candidates query.now series.now) }
+    ensures { sink.new ≡ fold S.taken sink.old (candidates query.now series.now) }
 {
     let mut leading = Leading::of(query.per(), sink);
     scan_to_leading(series, query, &mut leading);
@@ -100,7 +101,7 @@ fn scan_groups<S: Sink>(series: &Series, query: &Query, sink: &mut S)
 fn scan_to_leading<S: Sink>(series: &Series, query: &Query, leading: &mut Leading<S>)
     ensures same_sink { leading.new.sink.ghost_name ≡ leading.old.sink.ghost_name }
     ensures held { (leading.new.group, leading.new.sink.now) ≡ fold (held_with leading.old.per S.taken)
-        (leading.old.group, leading.old.sink.now) (meaning.contenders query.now series.now) }
+        (leading.old.group, leading.old.sink.now) (contenders query.now series.now) }
     ensures series { IsSeries series.now }
 {
     scan_contenders(series, query, leading);
@@ -109,7 +110,7 @@ fn scan_to_leading<S: Sink>(series: &Series, query: &Query, leading: &mut Leadin
 /// Offers each admitted day, by the number that ranks it.
 fn scan_days<S: Sink>(id: StationId, series: &Series, query: &Query, extreme: Extreme, sink: &mut S)
     ensures { sink.new ≡ fold S.taken sink.old
-        (meaning.contenders_among id (meaning.Days (score_by extreme)) (meaning.admitted query.now series.now)) }
+        (contenders_among id (meaning.Days (score_by extreme)) (meaning.admitted query.now series.now)) }
 {
     let mut admitted = Admitted::of(series, query);
     while let Some(part) = admitted.next_part() {
@@ -127,7 +128,7 @@ fn scan_blocks<S: FloorSink>(
     sink: &mut S,
 )
     ensures { sink.new ≡ fold S.taken sink.old
-        (meaning.contenders_among id (meaning.Days (score_by extreme)) (meaning.admitted query.now series.now)) }
+        (contenders_among id (meaning.Days (score_by extreme)) (meaning.admitted query.now series.now)) }
 {
     let mut admitted = Admitted::of(series, query);
     while let Some(part) = admitted.next_part() {
@@ -141,7 +142,7 @@ fn scan_blocks<S: FloorSink>(
 #[inline(always)]
 fn offer_days<S: Sink>(id: StationId, part: BlockDays, extreme: Extreme, sink: &mut S)
     ensures { sink.new ≡ fold S.taken sink.old
-        (meaning.contenders_among id (meaning.Days (score_by extreme)) part.entry) }
+        (contenders_among id (meaning.Days (score_by extreme)) part.entry) }
 {
     for (day, value) in part {
         sink.offer(Candidate {

@@ -6,8 +6,8 @@ ghost use Rattle.std.specs.Option.{option_map_or};
 ghost use Rattle.ghcn_files.specs.declared.station.StationId.{StationId};
 ghost use Rattle.rank_scores.specs.Spells.{can_be_asked};
 ghost use Rattle.rank_scores.specs.Spells as spells;
-ghost use Rattle.rank_scores.specs.Candidates.{test_of};
-ghost use Rattle.rank_scores.specs.Candidates as meaning;
+ghost use Rattle.rank_scores.specs.Candidates.{test_of, contenders_among};
+ghost use Rattle.rank_scores.specs.Meaning.Candidates as meaning;
 
 use crate::admitted::{Admitted, comes_next};
 use crate::floor::FloorSink;
@@ -80,7 +80,7 @@ pub(crate) fn scan_spells<S: Sink>(
 )
     requires { IsTrue (can_be_asked spell) }
     ensures { sink.new ≡ fold S.taken sink.old
-        (meaning.contenders_among id (meaning.Spells (test_of spell)) (meaning.admitted query.now series.now)) }
+        (contenders_among id (meaning.Spells (test_of spell)) (meaning.admitted query.now series.now)) }
 {
     let mut run = Run::none();
     let mut admitted = Admitted::of(series, query);
@@ -103,7 +103,7 @@ pub(crate) fn scan_spells_to_floor<S: FloorSink>(
 )
     requires { IsTrue (can_be_asked spell) }
     ensures { sink.new ≡ fold S.taken sink.old
-        (meaning.contenders_among id (meaning.Spells (test_of spell)) (meaning.admitted query.now series.now)) }
+        (contenders_among id (meaning.Spells (test_of spell)) (meaning.admitted query.now series.now)) }
 {
     let mut run = Run::none();
     let mut admitted = Admitted::of(series, query);

@@ -4,8 +4,9 @@ ghost use Rattle.std.specs.Prelude.{◌≡◌, ◌<◌, ◌≤◌, ◌+◌, ◌%
 ghost use Rattle.std.specs.Int.{w64};
 ghost use Rattle.std.specs.List.{fold};
 ghost use Rattle.std.specs.Ordering.{int_eq};
-ghost use Rattle.ghcn_fields.specs.Days.{is_day};
-ghost use Rattle.rank_scores.specs.Candidates as meaning;
+ghost use Rattle.ghcn_fields.specs.Meaning.Days.{is_day};
+ghost use Rattle.rank_scores.specs.Candidates.{contenders_among};
+ghost use Rattle.rank_scores.specs.Meaning.Candidates as meaning;
 ghost use Rattle.rank_scores.specs.Windows.{begun_anew_unless, with_value, first_value, without_first, next_place};
 
 use crate::admitted::Admitted;
@@ -100,7 +101,7 @@ pub(crate) fn scan_windows<S: Sink>(
     requires some { 0 < n }
     requires few { n ≤ 366 }
     ensures { sink.new ≡ fold S.taken sink.old
-        (meaning.contenders_among id (meaning.Windows n) (meaning.admitted query.now series.now)) }
+        (contenders_among id (meaning.Windows n) (meaning.admitted query.now series.now)) }
 {
     let mut window = Window::empty();
     let mut ring = [0; PLACES];

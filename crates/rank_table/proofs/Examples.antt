@@ -3,7 +3,7 @@ use Rattle.std.proofs.Common.{◌≡◌, ℕ, List, [], ◌∷◌, ◌++◌, ref
 use Rattle.std.specs.Prelude.{codes, pos, neg_ℤ}
 use Rattle.std.specs.Fmt.{digits}
 use Rattle.jiff_core.specs.Calendar.{days_from_civil, day_count, days_of_years, days_of_months}
-use Rattle.ghcn_fields.specs.Dates.{year_and_rest, month_and_day}
+use Rattle.ghcn_fields.specs.Meaning.Dates.{year_and_rest, month_and_day}
 use Rattle.ghcn_files.specs.declared.element.Element.TheVariants.{Tmax}
 use Rattle.rank_query.specs.declared.score.Score.TheVariants.{Highest}
 use Rattle.rank_query.specs.Asked.{top}

@@ -3,7 +3,8 @@ use Rattle.std.proofs.Common.{◌≡◌, ℕ, suc, ◌+◌, List, [], ◌∷◌,
 use Rattle.std.specs.List.{AllByRecursion, AllZip, enumerate_from, flat_map}
 use Rattle.std.proofs.lemmas.Grind.{flat_map-append}
 use Rattle.rank_papers.specs.Lines.{paper_lines}
-use Rattle.rank_papers.specs.Report.{Named, query_line}
+use Rattle.rank_papers.specs.Meaning.Report.{query_line}
+use Rattle.rank_papers.specs.Report.{Named}
 use Rattle.rank_papers.specs.ReportLines.{Reported, row_line}
 use Rattle.rank_papers.proofs.ReportValues.{lines_of, title, written}
 use Rattle.rank_table.specs.Laws.{IsThere, RowsAreThere}

@@ -4,8 +4,9 @@ use Rattle.std.proofs.Common.{append_assoc, length-append, arith}
 use Rattle.std.specs.Prelude.{nat_eq}
 use Rattle.std.specs.List.{enumerate_from, flat_map, join_with_byte}
 use Rattle.std.proofs.lemmas.Bool.Decides.{nat_tests}
-use Rattle.rank_query.specs.Asked.{Asked}
-use Rattle.rank_papers.specs.Report.{Named, end_fields, query_line, report_text, row_fields, text_line}
+use Rattle.rank_query.specs.Meaning.Asked.{Asked}
+use Rattle.rank_papers.specs.Meaning.Report.{end_fields, query_line, report_text, row_fields, text_line}
+use Rattle.rank_papers.specs.Report.{Named}
 use Rattle.rank_papers.specs.ReportLines.{Reported, IsReported, report_end, reported_lines, row_line}
 use Rattle.rank_papers.proofs.OneKind.{lines_by}
 use Rattle.rank_papers.proofs.ReportTexts.{lines-written, row_starts, starts_by_digit, text_read}

@@ -8,7 +8,7 @@ use Rattle.csv.specs.declared.writer.Writer.{Writer}
 use Rattle.ghcn_files.specs.declared.station.Station.{Station}
 use Rattle.ghcn_files.proofs.LineLaws.{enumerate_from-append}
 use Rattle.rank_query.specs.declared.score.Score.{Score}
-use Rattle.rank_query.specs.QueryTexts.{query_text}
+use Rattle.rank_query.specs.Meaning.QueryTexts.{query_text}
 use Rattle.rank_papers.specs.declared.paper.Row.{Row}
 use Rattle.rank_papers.specs.Report.{Named}
 use Rattle.rank_papers.specs.ReportLines.{named_in}

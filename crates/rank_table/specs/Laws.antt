@@ -5,9 +5,9 @@ use Rattle.csv.specs.Reading.{AreRecords, default_config, strip_bom}
 use Rattle.csv.specs.declared.parser.State.TheVariants as states
 use Rattle.ghcn_files.specs.declared.station.Station.{Station}
 use Rattle.ghcn_files.specs.declared.station.StationId.{StationId}
-use Rattle.ghcn_files.specs.Listed.{is_station_of}
-use Rattle.rank_query.specs.QueryTexts.{query_text}
-use Rattle.rank_papers.specs.Report.{text_line, field_unless_empty}
+use Rattle.ghcn_files.specs.Meaning.Listed.{is_station_of}
+use Rattle.rank_query.specs.Meaning.QueryTexts.{query_text}
+use Rattle.rank_papers.specs.Meaning.Report.{text_line, field_unless_empty}
 use Rattle.rank_papers.specs.Lines.{paper_lines}
 use Rattle.rank_papers.specs.ReportLines.{row_line}
 use Rattle.rank_table.specs.declared.fault.TableFault.{TableFault}

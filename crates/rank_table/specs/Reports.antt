@@ -2,7 +2,7 @@
 use Rattle.std.specs.Prelude.{◌≡◌, ⊤, ◌<◌, ℕ, suc, ◌+◌, List, [], ◌∷◌, ◌++◌, length, map}
 use Rattle.std.specs.List.{flat_map, AllByRecursion, AllZip}
 use Rattle.std.proofs.Common.{Bor}
-use Rattle.rank_papers.specs.Report.{report_text}
+use Rattle.rank_papers.specs.Meaning.Report.{report_text}
 use Rattle.rank_papers.specs.ReportLines.{Reported, IsReported, reported_in}
 use Rattle.rank_papers.specs.Places.{IsFirstBadLine}
 use Rattle.rank_table.specs.declared.fault.TableFault.{TableFault}

@@ -4,15 +4,15 @@ use Rattle.std.specs.List.{enumerate_from, flat_map, find}
 use Rattle.std.specs.Option.{option_map, option_map_or}
 use Rattle.std.specs.Fmt.{decimal}
 use Rattle.csv.specs.Writing.{default_writer, row_text}
-use Rattle.ghcn_fields.specs.Dates.{date_text}
-use Rattle.ghcn_fields.specs.NumberTexts.{four_places, tenths}
+use Rattle.ghcn_fields.specs.Meaning.Dates.{date_text}
+use Rattle.ghcn_fields.specs.Meaning.NumberTexts.{four_places, tenths}
 use Rattle.ghcn_files.specs.declared.station.Station.{Station}
 use Rattle.ghcn_files.specs.declared.station.StationId.{StationId}
-use Rattle.ghcn_files.specs.Listed.{is_station_of}
+use Rattle.ghcn_files.specs.Meaning.Listed.{is_station_of}
 use Rattle.rank_query.specs.declared.score.Score.{Score}
-use Rattle.rank_query.specs.Asked.{Asked}
-use Rattle.rank_query.specs.QueryTexts.{query_text}
-use Rattle.rank_papers.specs.Values.{measure_of_score, value_of, value_text, unit_text}
+use Rattle.rank_query.specs.Meaning.Asked.{Asked}
+use Rattle.rank_query.specs.Meaning.QueryTexts.{query_text}
+use Rattle.rank_papers.specs.Meaning.Values.{measure_of_score, value_of, value_text, unit_text}
 use Rattle.rank_papers.specs.Report.{Named}
 use Rattle.rank_table.specs.declared.fault.TableFault.{TableFault}
 use Rattle.rank_table.specs.declared.fault.TableFault.TheVariants.{NotListed}

@@ -1,8 +1,8 @@
 //! Numbers as the fields of a record have them.
 
 ghost use Rattle.std.specs.Prelude.{◌≡◌, ◌+◌, ◌%◌, ◌++◌, IfOk, OnOk};
-ghost use Rattle.ghcn_fields.specs.NumberTexts.{four_places, four_places_of, tenths};
-ghost use Rattle.rank_papers.specs.Values as values;
+ghost use Rattle.ghcn_fields.specs.Meaning.NumberTexts.{four_places, four_places_of, tenths};
+ghost use Rattle.rank_papers.specs.Meaning.Values as values;
 ghost use Rattle.rank_table.specs.Tables as tables;
 
 use ghcn_fields::Memory;

@@ -1,6 +1,6 @@
 use Rattle.std.proofs.Common.{rules, ap, ◌∙◌, subst}
 use Rattle.std.proofs.lemmas.Result.{IfOk-weaker}
-use Rattle.rank_query.specs.Asked.{IsAsked}
+use Rattle.rank_query.specs.Meaning.Asked.{IsAsked}
 use Rattle.rank_sched.specs.Plan.{Planned}
 use Rattle.rank_input.proofs.Guesses.{guess_is_score}
 use Rattle.extremes.proofs.Answering.{right_papers}

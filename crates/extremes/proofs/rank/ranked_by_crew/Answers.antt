@@ -1,5 +1,5 @@
 use Rattle.std.proofs.Common.{ap, ◌∙◌, subst}
-use Rattle.rank_query.specs.Asked.{IsAsked}
+use Rattle.rank_query.specs.Meaning.Asked.{IsAsked}
 use Rattle.rank_sched.specs.Plan.{Planned}
 use Rattle.rank_input.proofs.Crews.{some_workers, few_workers}
 use Rattle.rank_input.proofs.Guesses.{guess_is_score}

@@ -2,7 +2,7 @@ use Rattle.std.proofs.Common.{ℕ, List, false, length, inl, inr, refl, ap, ◌�
 use Rattle.std.specs.Prelude.{string_bytes}
 use Rattle.std.specs.List.{AllByRecursion}
 use Rattle.std.proofs.lemmas.Slice.Zip.{AllZip-long}
-use Rattle.rank_query.specs.Asks.{Asks}
+use Rattle.rank_query.specs.Meaning.Asks.{Asks}
 use Rattle.extremes.specs.EachRuns.{folder_of}
 use Rattle.extremes.specs.PapersFolder.{IsFoundFirst, new_paths}
 use Rattle.extremes.proofs.run_each.rank_each_apart.Goals as goal

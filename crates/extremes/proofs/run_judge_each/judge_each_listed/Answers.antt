@@ -1,7 +1,7 @@
 use Rattle.std.proofs.Common.{ℕ, List, inl, inr, refl, ap, ◌∙◌, sym, subst}
 use Rattle.std.specs.List.{AllZip}
-use Rattle.rank_query.specs.Asked.{Asked}
-use Rattle.rank_query.specs.Asks.{Asks}
+use Rattle.rank_query.specs.Meaning.Asked.{Asked}
+use Rattle.rank_query.specs.Meaning.Asks.{Asks}
 use Rattle.rank_input.specs.Named.{list_path}
 use Rattle.rank_input.specs.Queries.{query_lines}
 use Rattle.extremes.specs.EachPrinted.{list_lines}

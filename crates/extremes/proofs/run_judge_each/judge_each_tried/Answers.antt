@@ -1,6 +1,6 @@
 use Rattle.std.proofs.Common.{ℕ, List, length, inl, inr, refl, ◌∙◌, subst}
 use Rattle.std.specs.Prelude.{string_bytes}
-use Rattle.rank_query.specs.Asks.{Asks}
+use Rattle.rank_query.specs.Meaning.Asks.{Asks}
 use Rattle.rank_input.specs.Feeding.{AreOpened}
 use Rattle.extremes.specs.FaultTexts.{fault_line}
 use Rattle.extremes.specs.JudgeEach.{StopsJudging}

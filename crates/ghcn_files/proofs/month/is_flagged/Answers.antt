@@ -1,7 +1,7 @@
 use Rattle.std.proofs.Common.{◌+◌, ◌*◌, ◌∷◌, [], sym, ap, ◌∙◌, arith, List, ℕ}
 use Rattle.std.specs.Prelude.{not}
 use Rattle.std.proofs.lemmas.List.{get_or_past}
-use Rattle.ghcn_fields.specs.Bytes.{is_blank}
+use Rattle.ghcn_fields.specs.Meaning.Bytes.{is_blank}
 use Rattle.ghcn_files.proofs.ColumnSlices.{one_column}
 use Rattle.ghcn_files.proofs.month.is_flagged.Goals as goal
 

@@ -3,7 +3,7 @@ use Rattle.std.specs.Prelude.{bit_or}
 use Rattle.std.specs.Simd.Lanes.{zip2}
 use Rattle.std.proofs.lemmas.Simd.{length-zip2}
 use Rattle.ghcn_fields.specs.FieldForms.{are_clear}
-use Rattle.ghcn_fields.specs.Lines.{columns}
+use Rattle.ghcn_fields.specs.Meaning.Lines.{columns}
 use Rattle.ghcn_fields.specs.Numbers.{int_field, is_bad}
 use Rattle.ghcn_files.proofs.Readings.{all_tests, no_test, passes-fine, two-fine, neither, tests_from}
 use Rattle.ghcn_files.proofs.Readings.{both_clear, unless_true, is_so}

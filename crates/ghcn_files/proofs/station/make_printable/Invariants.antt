@@ -1,5 +1,5 @@
 use Rattle.std.proofs.Common.{◌≡◌, length, take, drop, map}
-use Rattle.ghcn_files.specs.StationLines.{printable}
+use Rattle.ghcn_files.specs.Meaning.StationLines.{printable}
 use Rattle.ghcn_files.proofs.station.make_printable.Given as goal
 
 -- the bytes so far are printable, and the others as they were

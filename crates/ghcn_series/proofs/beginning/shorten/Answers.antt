@@ -1,7 +1,7 @@
 use Rattle.std.proofs.Common.{arith, ◌≡◌, ◌+◌, ◌-◌, ◌++◌, [], ◌∷◌, length, take, drop, get_or, sym, ap, subst₂, ◌∙◌}
 use Rattle.std.specs.Prelude.{◌==◌, ◌&&◌, Bool}
 use Rattle.std.proofs.lemmas.List.{take_more, take_all, length-drop}
-use Rattle.ghcn_fields.specs.Bytes.{is_blank}
+use Rattle.ghcn_fields.specs.Meaning.Bytes.{is_blank}
 use Rattle.ghcn_series.specs.Alike.{BeginAlike}
 use Rattle.ghcn_series.proofs.AlikeBeginnings.{begin-kept}
 use Rattle.ghcn_series.proofs.beginning.shorten.Goals as goal

@@ -1,6 +1,6 @@
 use Rattle.std.proofs.Common.{sym, ap, ◌∙◌}
 use Rattle.std.proofs.lemmas.Result.{err_from_is_err_and}
-use Rattle.ghcn_fields.specs.Bytes.{is_blank}
+use Rattle.ghcn_fields.specs.Meaning.Bytes.{is_blank}
 use Rattle.ghcn_series.proofs.AlikeReads.{blank-read, text-read, text-refused}
 use Rattle.ghcn_series.proofs.cutter.read_line.Goals as goal
 

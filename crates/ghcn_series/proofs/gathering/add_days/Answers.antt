@@ -3,7 +3,7 @@ use Rattle.std.specs.Option.{option_or}
 use Rattle.std.proofs.lemmas.Int.{to_z-of_z}
 use Rattle.std.proofs.lemmas.Result.{on_ok_weaker}
 use Rattle.ghcn_files.specs.declared.row.MonthRow.{MonthRow}
-use Rattle.ghcn_series.specs.Series.{DayValue, value_on}
+use Rattle.ghcn_series.specs.Meaning.Series.{DayValue, value_on}
 use Rattle.ghcn_series.specs.Parts.{AreJoined, row_days, days_held}
 use Rattle.ghcn_series.proofs.MonthRows.{row-at}
 use Rattle.ghcn_series.proofs.gathering.add_days.Goals as goal

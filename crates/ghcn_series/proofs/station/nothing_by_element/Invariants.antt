@@ -1,6 +1,6 @@
 use Rattle.std.proofs.Common.{◌≡◌, map, take}
 use Rattle.std.specs.List.{AllByRecursion}
-use Rattle.ghcn_files.specs.Elements.{elements}
+use Rattle.ghcn_files.specs.Meaning.Elements.{elements}
 use Rattle.ghcn_series.specs.Parts.{AreEmpty}
 use Rattle.ghcn_series.specs.Steps.{GathersNothing}
 use Rattle.ghcn_series.proofs.station.nothing_by_element.Given as goal

@@ -1,6 +1,6 @@
 use Rattle.std.proofs.Common.{◌≡◌, Some, true, sym, ap, ◌∙◌}
 use Rattle.std.specs.Option.{option_map, option_copied}
-use Rattle.ghcn_files.specs.Ids.{same_id}
+use Rattle.ghcn_files.specs.Meaning.Ids.{same_id}
 use Rattle.rank_check.specs.Survey.{top}
 use Rattle.rank_check.proofs.Failing.{no_bound, not_below, not_counted, none_fails_there, counted_there}
 use Rattle.rank_check.proofs.lines.line_fault.Goals as goal

@@ -1,6 +1,6 @@
 use Rattle.std.proofs.Common.{◌≡◌, take, map, None}
 use Rattle.ghcn_series.specs.Series.{Contents}
-use Rattle.rank_query.specs.Asked.{Asked}
+use Rattle.rank_query.specs.Meaning.Asked.{Asked}
 use Rattle.rank_papers.specs.ReportLines.{named_in}
 use Rattle.rank_papers.specs.Papers.{candidates_of}
 use Rattle.rank_check.specs.Survey.{AreFindings}

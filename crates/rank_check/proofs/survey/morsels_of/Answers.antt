@@ -3,7 +3,7 @@ use Rattle.std.proofs.Common.{arith, append-nil, option_to_list}
 use Rattle.std.specs.List.{filter_map}
 use Rattle.std.specs.Option.{option_copied}
 use Rattle.std.proofs.lemmas.List.{map-append}
-use Rattle.ghcn_series.specs.Series.{Usable}
+use Rattle.ghcn_series.specs.Meaning.Series.{Usable}
 use Rattle.rank_scores.specs.Morsels.{morsel_at}
 use Rattle.rank_scores.proofs.QueryMorsels.{by_station}
 use Rattle.std.proofs.lemmas.List.{take_all}

@@ -1,6 +1,6 @@
 use Rattle.std.proofs.Common.{rules, sym, ◌∙◌, not}
 use Rattle.std.proofs.lemmas.List.Sorted.{IsPartitionPoint-from_clause}
-use Rattle.rank_scores.specs.Order.{precedes}
+use Rattle.rank_scores.specs.Meaning.Order.{precedes}
 use Rattle.rank_check.proofs.Places.{parted, place-found, place-first}
 use Rattle.rank_check.proofs.tally.place_of.Goals as goal
 

@@ -3,7 +3,8 @@ use Rattle.std.proofs.lemmas.Bool.Decides.{nat_tests}
 use Rattle.std.proofs.lemmas.Iterator.Consumers.{YieldsList-from_first, YieldsList-turn, YieldsList-end}
 use Rattle.std.proofs.lemmas.List.{length_push}
 use Rattle.std.proofs.lemmas.Result.{err_from_is_err_and}
-use Rattle.ghcn_fields.specs.Lines.{lines, numbered_lines}
+use Rattle.ghcn_fields.specs.Meaning.Lines.{lines}
+use Rattle.ghcn_fields.specs.Lines.{numbered_lines}
 use Rattle.rank_input.proofs.QueryLists.{line_at, one_more, bad_line, all_asked, blank_alone, blank_asked, blank_bad}
 use Rattle.rank_input.proofs.queries.read_queries.Goals as goal
 use Rattle.rank_input.proofs.queries.read_queries.Goals.{else-is_empty}

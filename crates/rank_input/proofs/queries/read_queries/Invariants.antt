@@ -1,5 +1,5 @@
 use Rattle.std.proofs.Common.{length}
-use Rattle.ghcn_fields.specs.Lines.{lines}
+use Rattle.ghcn_fields.specs.Meaning.Lines.{lines}
 use Rattle.rank_input.proofs.QueryLists.{HaveAsked}
 use Rattle.rank_input.proofs.queries.read_queries.Given as goal
 

@@ -1,6 +1,6 @@
 use Rattle.std.proofs.Common.{rules, ◌≡◌, ◌+◌, ◌<◌, length, arith}
 use Rattle.std.proofs.lemmas.Bool.Decides.{nat_tests}
-use Rattle.rank_papers.specs.Certificate.{end_line}
+use Rattle.rank_papers.specs.Meaning.Certificate.{end_line}
 use Rattle.rank_papers.proofs.LinesRead.{ends_by-more}
 use Rattle.rank_papers.proofs.certificate_lines.read_end.Goals as goal
 

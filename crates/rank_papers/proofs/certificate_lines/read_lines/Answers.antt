@@ -1,6 +1,6 @@
 use Rattle.std.proofs.Common.{rules, ◌≡◌, ◌++◌, ◌∷◌, [], Some, List, ℕ, refl}
 use Rattle.rank_papers.specs.declared.counted.Counted.{Counted}
-use Rattle.rank_papers.specs.Certificate.{end_line}
+use Rattle.rank_papers.specs.Meaning.Certificate.{end_line}
 use Rattle.rank_papers.specs.CertificateLines.{entry_in}
 use Rattle.rank_papers.specs.Lines.{IsFirstLineCut}
 use Rattle.rank_papers.proofs.LinesRead.{HasRead-more}

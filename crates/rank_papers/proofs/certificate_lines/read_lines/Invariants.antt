@@ -1,5 +1,5 @@
 use Rattle.std.proofs.Common.{length}
-use Rattle.rank_papers.specs.Certificate.{end_line}
+use Rattle.rank_papers.specs.Meaning.Certificate.{end_line}
 use Rattle.rank_papers.specs.CertificateLines.{entry_in}
 use Rattle.rank_papers.proofs.LinesRead.{HasRead}
 use Rattle.rank_papers.proofs.certificate_lines.read_lines.Given as goal

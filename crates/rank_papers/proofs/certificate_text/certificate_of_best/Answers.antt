@@ -1,8 +1,9 @@
 use Rattle.std.proofs.Common.{ℕ, List, ◌≡◌, ◌<◌, ◌++◌, ◌∙◌, ap, length, subst, sym, Option, ℤ}
 use Rattle.std.specs.List.{flat_map}
 use Rattle.std.proofs.lemmas.List.{length-map}
-use Rattle.rank_query.specs.Asked.{Asked}
-use Rattle.rank_papers.specs.Certificate.{kth_of_best, kth_line, counted, count_of, entry_line}
+use Rattle.rank_query.specs.Meaning.Asked.{Asked}
+use Rattle.rank_papers.specs.Meaning.Certificate.{kth_line, entry_line}
+use Rattle.rank_papers.specs.Certificate.{kth_of_best, counted, count_of}
 use Rattle.rank_papers.proofs.PlanPapers.{some_asked, certificate-made}
 use Rattle.rank_papers.proofs.certificate_text.certificate_of_best.Goals as goal
 

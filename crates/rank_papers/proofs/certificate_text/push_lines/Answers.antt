@@ -5,7 +5,8 @@ use Rattle.std.proofs.lemmas.Grind.{flat_map-append}
 use Rattle.std.proofs.lemmas.List.{take_more, length-take-le}
 use Rattle.rank_sched.proofs.Lists.{each-append}
 use Rattle.rank_papers.specs.declared.counted.Counted.{Counted}
-use Rattle.rank_papers.specs.Certificate.{Entry, AreInRange, counted, entry_line}
+use Rattle.rank_papers.specs.Meaning.Certificate.{entry_line}
+use Rattle.rank_papers.specs.Certificate.{Entry, AreInRange, counted}
 use Rattle.rank_papers.proofs.Counts.{counted-more}
 use Rattle.rank_papers.proofs.certificate_text.push_lines.Goals as goal
 

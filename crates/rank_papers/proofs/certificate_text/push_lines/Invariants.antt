@@ -1,6 +1,7 @@
 use Rattle.std.proofs.Common.{◌≡◌, ◌++◌, take}
 use Rattle.std.specs.List.{flat_map}
-use Rattle.rank_papers.specs.Certificate.{entry_line, counted, AreInRange}
+use Rattle.rank_papers.specs.Meaning.Certificate.{entry_line}
+use Rattle.rank_papers.specs.Certificate.{counted, AreInRange}
 use Rattle.rank_papers.proofs.certificate_text.push_lines.Given as goal
 
 -- the lines so far are those of the entries so far with their counts, and the bounds of these are in range

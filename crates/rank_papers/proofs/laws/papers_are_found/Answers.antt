@@ -1,6 +1,6 @@
 use Rattle.rank_papers.proofs.BestOfQuery.{best_found, best_are_one}
 use Rattle.rank_papers.proofs.FoundPapers.{reports_found, certificates_found}
-use Rattle.rank_papers.specs.Right.{IsAdmittedSeries}
+use Rattle.rank_papers.specs.Meaning.Right.{IsAdmittedSeries}
 use Rattle.rank_papers.specs.RightLaws.{IsHeldSeries}
 use Rattle.rank_papers.proofs.laws.papers_are_found.Goals as goal
 

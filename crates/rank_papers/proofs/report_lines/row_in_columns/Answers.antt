@@ -2,10 +2,10 @@ use Rattle.std.proofs.Common.{◌≡◌, ◌∙◌, ◌+◌, ◌-◌, List, ℕ,
 use Rattle.std.specs.Prelude.{ℤ, slice_range, IfOk}
 use Rattle.std.specs.Option.{option_map}
 use Rattle.ghcn_fields.specs.Dates.{read_date}
-use Rattle.rank_query.specs.Asked.{Asked}
+use Rattle.rank_query.specs.Meaning.Asked.{Asked}
 use Rattle.rank_papers.specs.declared.paper.Row.{Row}
 use Rattle.rank_papers.specs.Report.{Named}
-use Rattle.rank_papers.specs.Values.{measure_of_score, unit_text}
+use Rattle.rank_papers.specs.Meaning.Values.{measure_of_score, unit_text}
 use Rattle.rank_papers.specs.ReportLines.{score_in, first_word, row_with, named_in}
 use Rattle.rank_papers.proofs.ReportFields.{value_at, row_at-is, row_at-none, score_in-fits, AreParts, row_with-parts}
 use Rattle.rank_papers.proofs.report_lines.row_in_columns.Goals as goal

@@ -1,7 +1,7 @@
 use Rattle.std.proofs.Common.{◌+◌, ◌++◌, ◌∙◌, List, ℕ, ap, sym, subst}
-use Rattle.rank_query.specs.Asked.{Asked}
+use Rattle.rank_query.specs.Meaning.Asked.{Asked}
 use Rattle.rank_papers.specs.declared.paper.Row.{Row}
-use Rattle.rank_papers.specs.Report.{text_line, row_fields}
+use Rattle.rank_papers.specs.Meaning.Report.{text_line, row_fields}
 use Rattle.rank_papers.proofs.GivenRows.{HasGiven, HasGiven-more}
 use Rattle.rank_papers.proofs.report_text.push_named_rows.Goals as goal
 

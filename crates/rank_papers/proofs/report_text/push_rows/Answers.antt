@@ -1,7 +1,7 @@
 use Rattle.std.proofs.Common.{◌≡◌, ◌+◌, List, ℕ, Some, sym, ◌∙◌, ap, subst}
 use Rattle.std.specs.Option.{option_copied}
 use Rattle.std.specs.List.{find}
-use Rattle.ghcn_files.specs.Listed.{is_station_of}
+use Rattle.ghcn_files.specs.Meaning.Listed.{is_station_of}
 use Rattle.rank_papers.proofs.ReportRows.{HasRows, HasRows-more}
 use Rattle.rank_papers.proofs.report_text.push_rows.Goals as goal
 

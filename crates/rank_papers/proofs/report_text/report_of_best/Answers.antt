@@ -1,5 +1,6 @@
 use Rattle.std.proofs.Common.{◌++◌, ◌∙◌, ap, length, ℕ, List}
-use Rattle.rank_papers.specs.Report.{rows_of_best, text_line, end_fields}
+use Rattle.rank_papers.specs.Meaning.Report.{text_line, end_fields}
+use Rattle.rank_papers.specs.Report.{rows_of_best}
 use Rattle.rank_papers.proofs.ReportRows.{length-rows_of_best, report-made, report-right}
 use Rattle.rank_papers.proofs.report_text.report_of_best.Goals as goal
 

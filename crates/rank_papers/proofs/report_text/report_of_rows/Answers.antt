@@ -1,6 +1,6 @@
 use Rattle.std.proofs.Common.{◌++◌, ◌∙◌, ap, length, ℕ, List, map}
 use Rattle.std.proofs.lemmas.List.{length-map}
-use Rattle.rank_papers.specs.Report.{text_line, end_fields}
+use Rattle.rank_papers.specs.Meaning.Report.{text_line, end_fields}
 use Rattle.rank_papers.specs.ReportLines.{named_in}
 use Rattle.rank_papers.proofs.ReportRows.{report-made}
 use Rattle.rank_papers.proofs.report_text.report_of_rows.Goals as goal

@@ -1,8 +1,9 @@
 use Rattle.std.proofs.Common.{List, ℕ, ◌++◌, ℤ, ap, ◌∙◌, decimal, FitsSigned, w64, to_z-of_z, rules}
 use Rattle.std.specs.List.{flat_map}
-use Rattle.ghcn_fields.specs.Dates.{date_text}
+use Rattle.ghcn_fields.specs.Meaning.Dates.{date_text}
 use Rattle.rank_query.specs.declared.score.Score.{Score}
-use Rattle.rank_papers.specs.Report.{field_unless_empty, after_blank}
+use Rattle.rank_papers.specs.Meaning.Report.{field_unless_empty}
+use Rattle.rank_papers.specs.Report.{after_blank}
 use Rattle.rank_papers.proofs.RowText.{value_fields, added, row-pieces}
 use Rattle.rank_papers.proofs.row.push_named.Goals as goal
 

@@ -1,5 +1,5 @@
 use Rattle.std.proofs.Common.{◌≡◌, length}
-use Rattle.rank_papers.specs.Report.{trimmed}
+use Rattle.rank_papers.specs.Meaning.Report.{trimmed}
 use Rattle.rank_papers.proofs.row.trimmed.Given as goal
 
 -- what is left is trimmed to the same text

@@ -2,10 +2,10 @@ use Rattle.std.proofs.Common.{◌≡◌, ◌≤◌, List, ℕ, Bool, true, false
 use Rattle.std.proofs.Common.{FitsSigned, w64, to_z-of_z, rules, refl}
 use Rattle.std.specs.Prelude.{◌&&◌}
 use Rattle.rank_query.specs.declared.score.Score.{Score}
-use Rattle.rank_query.specs.Asked.{Asked}
+use Rattle.rank_query.specs.Meaning.Asked.{Asked}
 use Rattle.rank_papers.specs.Report.{Named}
 use Rattle.rank_papers.specs.ReportLines.{named_in}
-use Rattle.rank_papers.specs.Values.{measure_of_score, unit_text, value_text, value_of}
+use Rattle.rank_papers.specs.Meaning.Values.{measure_of_score, unit_text, value_text, value_of}
 use Rattle.rank_papers.specs.Spelled.{has_front, has_back}
 use Rattle.rank_papers.proofs.ReportFields.{IsCutOut, cut_out}
 use Rattle.rank_papers.proofs.Spelled.{line_spelled, unit_short}

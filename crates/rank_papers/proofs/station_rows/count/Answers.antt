@@ -3,7 +3,7 @@ use Rattle.std.specs.List.{count_by}
 use Rattle.std.specs.Ordering.{is_lt, is_le}
 use Rattle.std.proofs.lemmas.List.Sorted.{IsPartitionPoint-from_clause}
 use Rattle.ghcn_files.specs.declared.station.StationId.{StationId}
-use Rattle.ghcn_files.specs.Ids.{same_id}
+use Rattle.ghcn_files.specs.Meaning.Ids.{same_id}
 use Rattle.rank_papers.proofs.StationRows.{beside, less_first, most_first, counted-between, gap-none}
 use Rattle.rank_papers.proofs.station_rows.count.Goals as goal
 

@@ -1,6 +1,6 @@
 use Rattle.rank_query.proofs.Cited.{◌≡◌, arith, ints, rules, FitsSigned, to_z, of_z, to_z-of_z, w32, ℤ, ◌-ℤ◌, ◌+ℤ◌}
 use Rattle.rank_query.proofs.Cited.{◌≤ℤ◌, refl, sym, subst, ◌∙◌}
-use Rattle.rank_query.specs.Admits.{in_2000}
+use Rattle.rank_query.specs.Meaning.Admits.{in_2000}
 use Rattle.rank_query.proofs.Edges.{close_fits}
 use Rattle.rank_query.proofs.season.between_days_from.Goals as goal
 

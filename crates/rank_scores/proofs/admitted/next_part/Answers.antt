@@ -1,8 +1,8 @@
 use Rattle.std.proofs.Common.{◌≡◌, ◌++◌, List, true, false, sym, ap, ◌∙◌, subst, ◌≤ℤ◌, rules, w32}
 use Rattle.std.proofs.Common.{FitsSigned, to_z-of_z}
 use Rattle.std.specs.List.{AllByRecursion}
-use Rattle.ghcn_series.specs.Series.{DayValue}
-use Rattle.rank_query.specs.Asked.{Asked}
+use Rattle.ghcn_series.specs.Meaning.Series.{DayValue}
+use Rattle.rank_query.specs.Meaning.Asked.{Asked}
 use Rattle.rank_scores.specs.Stretches.{admitted_among}
 use Rattle.rank_scores.specs.Stretches.{IsStretch}
 use Rattle.rank_scores.proofs.StretchDays.{stretch-behind, stretch-part, stretch-on, no-first}

@@ -1,7 +1,8 @@
 use Rattle.std.proofs.Common.{◌∙◌, sym, subst, w64, FitsSigned, rules}
 use Rattle.std.proofs.lemmas.Int.{to_z-of_z}
 use Rattle.rank_scores.specs.Extremes.{score_by}
-use Rattle.rank_scores.specs.Candidates.{Days, contenders_among}
+use Rattle.rank_scores.specs.Meaning.Candidates.{Days}
+use Rattle.rank_scores.specs.Candidates.{contenders_among}
 use Rattle.rank_scores.proofs.LowDays.{as-many, all-low}
 use Rattle.rank_scores.proofs.floor.is_passed_over.Goals as goal
 

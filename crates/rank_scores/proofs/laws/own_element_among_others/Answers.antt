@@ -3,9 +3,10 @@ use Rattle.ghcn_files.specs.declared.element.Element.{Element}
 use Rattle.ghcn_files.specs.declared.element.Keep.{Keep}
 use Rattle.ghcn_files.specs.Elements.{is_kept, only}
 use Rattle.ghcn_files.proofs.KeptElements.{is_kept-only}
-use Rattle.ghcn_series.specs.Series.{Usable, Contents}
+use Rattle.ghcn_series.specs.Meaning.Series.{Usable}
+use Rattle.ghcn_series.specs.Series.{Contents}
 use Rattle.ghcn_series.proofs.AllSeries.{same_element-is}
-use Rattle.rank_query.specs.Asked.{score_element}
+use Rattle.rank_query.specs.Meaning.Asked.{score_element}
 use Rattle.rank_scores.proofs.laws.own_element_among_others.Goals as goal
 
 -- among what is kept, the same pass a test with one more that is kept if it passes

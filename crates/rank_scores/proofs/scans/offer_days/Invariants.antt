@@ -1,6 +1,7 @@
 use Rattle.std.proofs.Common.{◌≡◌}
 use Rattle.std.specs.List.{fold}
-use Rattle.rank_scores.specs.Candidates.{Days, contenders_among}
+use Rattle.rank_scores.specs.Meaning.Candidates.{Days}
+use Rattle.rank_scores.specs.Candidates.{contenders_among}
 use Rattle.rank_scores.specs.Extremes.{score_by}
 use Rattle.rank_scores.proofs.scans.offer_days.Given as goal
 

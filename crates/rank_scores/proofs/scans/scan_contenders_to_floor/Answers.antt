@@ -1,7 +1,8 @@
 use Rattle.std.proofs.Common.{ap, ◌∙◌, rules, FitsSigned, to_z-of_z, w32}
 use Rattle.std.specs.List.{fold}
 use Rattle.rank_query.specs.declared.score.Score.{Score}
-use Rattle.rank_scores.specs.Candidates.{shape, admitted, contenders_among}
+use Rattle.rank_scores.specs.Meaning.Candidates.{shape, admitted}
+use Rattle.rank_scores.specs.Candidates.{contenders_among}
 use Rattle.rank_scores.proofs.scans.scan_contenders_to_floor.Goals as goal
 
 -- single days are ranked by their value

@@ -1,6 +1,7 @@
 use Rattle.std.proofs.Common.{◌≡◌, length}
 use Rattle.std.specs.List.{fold}
-use Rattle.rank_scores.specs.Candidates.{Days, admitted, contenders_among}
+use Rattle.rank_scores.specs.Meaning.Candidates.{Days, admitted}
+use Rattle.rank_scores.specs.Candidates.{contenders_among}
 use Rattle.rank_scores.specs.Extremes.{score_by}
 use Rattle.rank_scores.proofs.scans.scan_days.Given as goal
 

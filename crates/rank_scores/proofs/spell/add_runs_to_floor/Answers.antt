@@ -1,5 +1,5 @@
 use Rattle.std.proofs.Common.{◌≡◌, List, [], ℤ, Option, subst}
-use Rattle.ghcn_series.specs.Series.{DayValue}
+use Rattle.ghcn_series.specs.Meaning.Series.{DayValue}
 use Rattle.rank_scores.specs.Spells.{spell_in, EndAlike}
 use Rattle.rank_scores.proofs.AddedRuns.{alike-on, run-taken, some-day, spell-ended}
 use Rattle.rank_scores.proofs.spell.add_runs_to_floor.Goals.{After-add_run}

@@ -1,7 +1,8 @@
 use Rattle.std.proofs.Common.{◌≡◌, length}
 use Rattle.std.specs.Prelude.{filter}
 use Rattle.std.specs.List.{fold}
-use Rattle.rank_scores.specs.Candidates.{Spells, admitted, contenders_among, test_of}
+use Rattle.rank_scores.specs.Meaning.Candidates.{Spells, admitted}
+use Rattle.rank_scores.specs.Candidates.{contenders_among, test_of}
 use Rattle.rank_scores.specs.Spells.{offered_of_kind, spell_in}
 use Rattle.rank_scores.proofs.spell.scan_spells_to_floor.Given as goal
 

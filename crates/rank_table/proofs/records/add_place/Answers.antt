@@ -1,7 +1,7 @@
 use Rattle.std.proofs.Common.{◌≡◌, ℕ, List, [], ◌∷◌, ◌++◌, ◌∙◌, ap, append_assoc, rules, w32}
 use Rattle.std.proofs.lemmas.Int.{to_z-of_z}
 use Rattle.csv.specs.Records.{fields_of}
-use Rattle.ghcn_fields.specs.NumberTexts.{four_places}
+use Rattle.ghcn_fields.specs.Meaning.NumberTexts.{four_places}
 use Rattle.rank_table.specs.Tables.{Fields}
 use Rattle.rank_table.proofs.records.add_place.Goals as goal
 

@@ -1,5 +1,6 @@
 use Rattle.std.proofs.Common.{ℕ, sym, ap, ◌∙◌, rules}
-use Rattle.ghcn_fields.specs.Days.{is_day, day_number}
+use Rattle.ghcn_fields.specs.Meaning.Days.{is_day}
+use Rattle.ghcn_fields.specs.Days.{day_number}
 use Rattle.ghcn_fields.proofs.CivilDates.{civil-date, day-low}
 use Rattle.ghcn_fields.proofs.WholeDays.{day_number-civil}
 use Rattle.ghcn_fields.proofs.day.Day.civil.Goals as goal

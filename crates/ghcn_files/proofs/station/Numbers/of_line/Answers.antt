@@ -1,6 +1,6 @@
 use Rattle.std.proofs.Common.{◌≡◌, ℤ, pos, neg_ℤ, ℕ, List, ◌∷◌, Option, true, false, refl, sym, ap, ◌∙◌, rules}
 use Rattle.std.proofs.Common.{FitsSigned, to_z-of_z, w32}
-use Rattle.ghcn_fields.specs.Lines.{columns}
+use Rattle.ghcn_fields.specs.Meaning.Lines.{columns}
 use Rattle.ghcn_fields.specs.Numbers.{scaled_field}
 use Rattle.ghcn_files.specs.StationLines.{is_bad, number_within, unless_missing, latitude, longitude}
 use Rattle.ghcn_files.proofs.Months.{test_held, test_failed}

@@ -1,6 +1,6 @@
 use Rattle.std.proofs.Common.{◌≡◌, refl, ◌<◌, ◌++◌, List, sym, length}
 use Rattle.std.proofs.lemmas.Bool.{false≢true}
-use Rattle.ghcn_series.specs.Series.{DayValue}
+use Rattle.ghcn_series.specs.Meaning.Series.{DayValue}
 use Rattle.ghcn_series.proofs.PartDays.{begun-next, first-of_parts, some-day}
 use Rattle.ghcn_series.proofs.days.Days.first.Goals as goal
 use Rattle.ghcn_series.proofs.days.Days.first.Goals.{then-is_empty+in_ok-self-inside, else-is_empty}

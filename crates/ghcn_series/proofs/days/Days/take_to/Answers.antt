@@ -1,7 +1,7 @@
 use Rattle.std.proofs.Common.{◌≡◌, refl, ◌<◌, ◌++◌, List, sym, subst, length, rules, w32}
 use Rattle.std.proofs.lemmas.Bool.{false≢true}
 use Rattle.std.proofs.lemmas.Int.{to_z-of_z}
-use Rattle.ghcn_series.specs.Series.{DayValue}
+use Rattle.ghcn_series.specs.Meaning.Series.{DayValue}
 use Rattle.ghcn_series.specs.Packed.{BeginsBy}
 use Rattle.ghcn_series.proofs.PartDays.{begun-next, begins-taken, some-day}
 use Rattle.ghcn_series.proofs.days.Days.take_to.Goals as goal

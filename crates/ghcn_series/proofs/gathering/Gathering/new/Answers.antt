@@ -1,6 +1,6 @@
 use Rattle.std.proofs.Common.{◌≡◌, Bool, true, false, List, [], refl, ap, ◌∙◌}
 use Rattle.std.specs.List.{IsDistinct}
-use Rattle.ghcn_series.specs.Series.{DayValue, value_on}
+use Rattle.ghcn_series.specs.Meaning.Series.{DayValue, value_on}
 use Rattle.ghcn_series.specs.SeenMonths.{has_month}
 use Rattle.ghcn_series.specs.Gathered.{kept_days}
 use Rattle.ghcn_series.proofs.gathering.Gathering.new.Goals as goal

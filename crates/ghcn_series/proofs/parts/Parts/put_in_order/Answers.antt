@@ -1,5 +1,5 @@
 use Rattle.std.proofs.Common.{List, refl, ◌∙◌}
-use Rattle.ghcn_series.specs.Series.{DayValue}
+use Rattle.ghcn_series.specs.Meaning.Series.{DayValue}
 use Rattle.ghcn_series.specs.Parts.{days_held}
 use Rattle.ghcn_series.proofs.ApartParts.{apart-distinct}
 use Rattle.ghcn_series.proofs.PartsInOrder.{ordered-rise}

@@ -1,6 +1,7 @@
 use Rattle.std.proofs.Common.{ℕ, List, ap, ◌∙◌}
 use Rattle.std.specs.List.{filter_map}
-use Rattle.ghcn_series.specs.Series.{Usable, Contents}
+use Rattle.ghcn_series.specs.Meaning.Series.{Usable}
+use Rattle.ghcn_series.specs.Series.{Contents}
 use Rattle.ghcn_series.specs.DailyFaults.{month_on}
 use Rattle.ghcn_series.specs.Held.{all_of}
 use Rattle.ghcn_series.proofs.AllSeries.{all_ready, series_are, all_listed, are_by_station}

@@ -1,7 +1,8 @@
 use Rattle.std.proofs.Common.{ap, sym, ◌∙◌, List, ℤ, w32}
 use Rattle.std.proofs.lemmas.Int.{to_z-of_z}
 use Rattle.ghcn_series.specs.Packed.{next_block}
-use Rattle.ghcn_series.specs.Series.{DayValue, Usable, is_by_day}
+use Rattle.ghcn_series.specs.Meaning.Series.{DayValue, Usable}
+use Rattle.ghcn_series.specs.Series.{is_by_day}
 use Rattle.ghcn_series.proofs.NextBlocks.{next-is}
 use Rattle.ghcn_series.proofs.series.Series.next_block.Goals as goal
 

@@ -1,7 +1,8 @@
 use Rattle.std.proofs.Common.{◌≡◌, true, false, sym, ◌∙◌, arith}
 use Rattle.std.proofs.lemmas.Result.{IfOk-weaker}
 use Rattle.std.proofs.lemmas.Slice.Zip.{AllZip-long}
-use Rattle.ghcn_files.specs.Elements.{elements, is_kept}
+use Rattle.ghcn_files.specs.Meaning.Elements.{elements}
+use Rattle.ghcn_files.specs.Elements.{is_kept}
 use Rattle.ghcn_series.proofs.MonthRows.{for-own, for-kept}
 use Rattle.ghcn_series.proofs.StationMonths.{station-more, some_at, element_within}
 use Rattle.ghcn_series.proofs.station.StationGathering.add.Goals as goal

@@ -1,6 +1,6 @@
 use Rattle.std.proofs.Common.{sym, subst, List, arith}
 use Rattle.std.proofs.lemmas.Int.{ints}
-use Rattle.ghcn_series.specs.Series.{DayValue}
+use Rattle.ghcn_series.specs.Meaning.Series.{DayValue}
 use Rattle.rank_scores.specs.Stretches.{IsStretch}
 use Rattle.rank_scores.proofs.StretchDays.{stretch-first}
 use Rattle.rank_scores.proofs.admitted.Admitted.of.Goals as goal

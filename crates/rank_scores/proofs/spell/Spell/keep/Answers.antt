@@ -1,6 +1,6 @@
 use Rattle.std.proofs.Common.{◌≡◌, ◌∙◌, true, arith, pos, neg_ℤ, ◌≤ℤ◌}
 use Rattle.std.proofs.lemmas.Int.{ints}
-use Rattle.rank_query.specs.Asked.{is_heat}
+use Rattle.rank_query.specs.Meaning.Asked.{is_heat}
 use Rattle.rank_scores.proofs.SpellDays.{filter-below_next}
 use Rattle.rank_scores.proofs.spell.Spell.keep.Goals as goal
 

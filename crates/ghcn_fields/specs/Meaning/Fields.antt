@@ -4,8 +4,8 @@ use Rattle.std.specs.Prelude.{replicate, ℤ}
 use Rattle.std.specs.List.{list_all}
 use Rattle.std.specs.Char.{is_ascii_digit}
 use Rattle.std.specs.Str.Parse.{digits_value}
-use Rattle.ghcn_fields.specs.Bytes.{blank_byte}
-use Rattle.ghcn_fields.specs.Numbers.{with_sign}
+use Rattle.ghcn_fields.specs.Meaning.Bytes.{blank_byte}
+use Rattle.ghcn_fields.specs.Meaning.Numbers.{with_sign}
 
 -- a minus, or nothing
 abbrev pub sign_text : Bool → List ℕ

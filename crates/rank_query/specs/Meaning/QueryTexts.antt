@@ -2,9 +2,9 @@
 use Rattle.std.specs.Prelude.{ℕ, List, [], ◌∷◌, ◌++◌, map, drop, codes, Option, None, Some, ℤ}
 use Rattle.std.specs.List.{join_with_byte}
 use Rattle.std.specs.Fmt.{decimal}
-use Rattle.ghcn_fields.specs.NumberTexts.{four_places, tenths}
-use Rattle.ghcn_fields.specs.Dates.{date_text}
-use Rattle.ghcn_files.specs.Elements.{code_of}
+use Rattle.ghcn_fields.specs.Meaning.NumberTexts.{four_places, tenths}
+use Rattle.ghcn_fields.specs.Meaning.Dates.{date_text}
+use Rattle.ghcn_files.specs.Meaning.Elements.{code_of}
 use Rattle.rank_query.specs.declared.score.Score.{Score}
 use Rattle.rank_query.specs.declared.score.Score.TheVariants.{Highest, Lowest, Sum, Dry, Wet, Hot, Cold}
 use Rattle.rank_query.specs.declared.region.Region.{Region}
@@ -13,7 +13,7 @@ use Rattle.rank_query.specs.declared.per.Per.{Per}
 use Rattle.rank_query.specs.declared.per.Per.TheVariants.{Each, Station, Year}
 use Rattle.rank_query.specs.declared.season.Season.{Season}
 use Rattle.rank_query.specs.declared.season.Season.TheVariants.{AllYear, Months, Dates}
-use Rattle.rank_query.specs.Asked.{Asked}
+use Rattle.rank_query.specs.Meaning.Asked.{Asked}
 
 -- a word of a query: these very bytes; or a number, which has several spellings: a count of rows or days, tenths of a
 -- degree, or ten-thousandths of a degree at an edge of a box; or the numbers of a first and a last month

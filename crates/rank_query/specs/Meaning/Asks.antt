@@ -1,10 +1,10 @@
 -- Which query a text denotes, and not how it is read.
 use Rattle.std.specs.Prelude.{ℕ, ◌≤◌, List, length}
 use Rattle.std.specs.List.{AllZip}
-use Rattle.rank_query.specs.Asked.{Asked, IsAsked}
-use Rattle.rank_query.specs.QueryTexts.{query_words}
-use Rattle.rank_query.specs.Spelling.{SpellsWord}
-use Rattle.rank_query.specs.Words.{words_of}
+use Rattle.rank_query.specs.Meaning.Asked.{Asked, IsAsked}
+use Rattle.rank_query.specs.Meaning.QueryTexts.{query_words}
+use Rattle.rank_query.specs.Meaning.Spelling.{SpellsWord}
+use Rattle.rank_query.specs.Meaning.Words.{words_of}
 
 -- a text denotes a query: the query can be asked, the words of the text spell those of the query, one by one, and the text
 -- has at most 256 bytes

@@ -4,16 +4,16 @@ use Rattle.std.specs.Prelude.{Some, ℤ, pos, neg_ℤ}
 use Rattle.std.specs.List.{AllZip, Contains, flat_map, list_any}
 use Rattle.std.specs.List.Sorted.{IsStrictlySortedBy}
 use Rattle.std.specs.Ordering.{int_cmp}
-use Rattle.ghcn_fields.specs.Bytes.{is_blank, same_bytes}
-use Rattle.ghcn_fields.specs.Dates.{civil}
-use Rattle.ghcn_fields.specs.Days.{is_day}
-use Rattle.ghcn_fields.specs.Fields.{HasNumber}
-use Rattle.ghcn_fields.specs.Lines.{columns, lines}
+use Rattle.ghcn_fields.specs.Meaning.Bytes.{is_blank, same_bytes}
+use Rattle.ghcn_fields.specs.Meaning.Dates.{civil}
+use Rattle.ghcn_fields.specs.Meaning.Days.{is_day}
+use Rattle.ghcn_fields.specs.Meaning.Fields.{HasNumber}
+use Rattle.ghcn_fields.specs.Meaning.Lines.{columns, lines}
 use Rattle.ghcn_files.specs.declared.station.Station.{Station}
-use Rattle.ghcn_files.specs.Elements.{code_of, elements, may_be_negative}
-use Rattle.ghcn_files.specs.StationLines.{printable}
-use Rattle.ghcn_series.specs.Says.{Fact}
-use Rattle.ghcn_series.specs.Series.{Usable}
+use Rattle.ghcn_files.specs.Meaning.Elements.{code_of, elements, may_be_negative}
+use Rattle.ghcn_files.specs.Meaning.StationLines.{printable}
+use Rattle.ghcn_series.specs.Meaning.Says.{Fact}
+use Rattle.ghcn_series.specs.Meaning.Series.{Usable}
 
 -- ---- the station list
 

@@ -1,7 +1,7 @@
 -- How the values of scores are printed.
 use Rattle.std.specs.Prelude.{ℕ, List, codes, ℤ, neg_ℤ}
 use Rattle.std.specs.Fmt.{signed_decimal}
-use Rattle.ghcn_fields.specs.NumberTexts.{tenths}
+use Rattle.ghcn_fields.specs.Meaning.NumberTexts.{tenths}
 use Rattle.ghcn_files.specs.declared.element.Element.{Element}
 use Rattle.ghcn_files.specs.declared.element.Element.TheVariants.{Prcp, Snow, Snwd, Tmax, Tmin}
 use Rattle.rank_query.specs.declared.score.Score.{Score}

@@ -1,0 +1,2 @@
+-- The definitions that the clause `ok` of `rank` rests on. docs/MEANING.md shows them in this order.
+pub mod Answer

@@ -1,0 +1,5 @@
+-- The definitions that the clause `ok` of `rank` rests on. docs/MEANING.md shows them in this order.
+pub mod Ids
+pub mod Elements
+pub mod StationLines
+pub mod Listed
