@@ -13,8 +13,8 @@ use Rattle.rank_query.specs.Meaning.Asked.{Asked, IsAsked}
 use Rattle.rank_scores.specs.OneElement.{data_for, MorselsStay}
 use Rattle.rank_sched.specs.Plan.{Planned, planned, measured, is_drawn_first}
 use Rattle.rank_papers.specs.OneElement.{MeasuredStays}
-use Rattle.rank_papers.specs.Report.{IsReport}
-use Rattle.rank_papers.specs.Certificate.{IsCertificate}
+use Rattle.rank_papers.specs.Report.{IsFoundReport}
+use Rattle.rank_papers.specs.Certificate.{IsFoundCertificate}
 use Rattle.rank_papers.specs.RightLaws.{IsRightReportFor, IsRightCertificateFor, ReportsAreFound, CertificatesAreFound}
 use Rattle.rank_papers.specs.RightLaws.{ReportsAreSaid, CertificatesAreSaid, RightReportStays, RightCertificateStays}
 use Rattle.rank_papers.specs.PlanPapers.{IsMeasuredCertificate}
@@ -51,7 +51,7 @@ AreRightTextsFor q c report certificate =
 -- a report and a certificate with what is found are the right ones
 pub right_texts : (q : Asked) (c : Contents) (report certificate : List ℕ) → ReportsAreFound → CertificatesAreFound
     → IsAsked q → IsContents c
-    → (IsReport q c report × IsCertificate q c certificate) ↔ AreRightTextsFor q c report certificate
+    → (IsFoundReport q c report × IsFoundCertificate q c certificate) ↔ AreRightTextsFor q c report certificate
 right_texts q c report certificate reports certificates asked right = (
   λ are. (
     (reports q c report asked right).0 are.0,
@@ -67,7 +67,7 @@ right_texts q c report certificate reports certificates asked right = (
 -- if a report and a certificate with what is found are accepted, the right ones are
 pub accepted_right : (q : Asked) (c : Contents) (report certificate : List ℕ) (v : Verdict) → ReportsAreFound
     → CertificatesAreFound → IsAsked q → IsContents c
-    → (v ≡ Accepted) ↔ (IsReport q c report × IsCertificate q c certificate)
+    → (v ≡ Accepted) ↔ (IsFoundReport q c report × IsFoundCertificate q c certificate)
     → (v ≡ Accepted) ↔ AreRightTextsFor q c report certificate
 accepted_right q c report certificate v reports certificates asked right accepted =
     let are = right_texts q c report certificate reports certificates asked right in

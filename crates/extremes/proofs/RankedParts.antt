@@ -15,9 +15,9 @@ use Rattle.rank_query.proofs.Asks.{asks_read}
 use Rattle.rank_scores.specs.Cut.{Filed}
 use Rattle.rank_scores.specs.Morsels.{best_of_query, kth_of_query}
 use Rattle.rank_papers.specs.Meaning.Report.{query_line, report_text}
-use Rattle.rank_papers.specs.Report.{IsReport}
+use Rattle.rank_papers.specs.Report.{IsFoundReport}
 use Rattle.rank_papers.specs.Meaning.Certificate.{title_line, kth_line, entry_line, end_line}
-use Rattle.rank_papers.specs.Certificate.{IsCertificate, certificate_text, counted, counts_of}
+use Rattle.rank_papers.specs.Certificate.{IsFoundCertificate, certificate_text, counted, counts_of}
 use Rattle.rank_papers.specs.RightLaws.{ReportsAreFound, CertificatesAreFound, ReportsAreSaid, CertificatesAreSaid}
 use Rattle.rank_merge.specs.declared.fault.MergeFault.{MergeFault}
 use Rattle.rank_merge.specs.Laws.{ArePapersOf, all_files, all_texts}
@@ -63,7 +63,7 @@ begins_as_two q (Ok ps) papers e = by (twice (merged_entries ps)) e
         )
 
 -- so a certificate that begins so is of version 2
-of_version_two : (q : Asked) (c : Contents) (bytes other : List ℕ) (h : IsCertificate q c bytes)
+of_version_two : (q : Asked) (c : Contents) (bytes other : List ℕ) (h : IsFoundCertificate q c bytes)
     → bytes ≡ title_line 2 ++ other → h.version ≡ 2
 of_version_two q c bytes other h begins = by h.known
   where
@@ -108,10 +108,10 @@ module _ (are_right : DataAreRight) (reports : ReportsAreFound) (certificates : 
       record {
         dataset = dataset;
         read = holds;
-        report = subst (λ (x : Asked). IsReport x dataset p.1.0) same
-            (subst (IsReport a.asked dataset) (sym (ap (λ (t : List ℕ × List ℕ). t.0) is.texts)) report);
-        certificate = subst (λ (x : Asked). IsCertificate x dataset p.1.1) same
-            (subst (IsCertificate a.asked dataset) (sym (ap (λ (t : List ℕ × List ℕ). t.1) is.texts)) certificate.0);
+        report = subst (λ (x : Asked). IsFoundReport x dataset p.1.0) same
+            (subst (IsFoundReport a.asked dataset) (sym (ap (λ (t : List ℕ × List ℕ). t.0) is.texts)) report);
+        certificate = subst (λ (x : Asked). IsFoundCertificate x dataset p.1.1) same
+            (subst (IsFoundCertificate a.asked dataset) (sym (ap (λ (t : List ℕ × List ℕ). t.1) is.texts)) certificate.0);
       }
 
   -- so are those of all parts
@@ -145,11 +145,11 @@ module _ (are_right : DataAreRight) (reports : ReportsAreFound) (certificates : 
       (all-ranked-right stations is.asked r.list parts r.lists ranked_for) holds in
       let begins = begins_as_two is.asked (parts_from is.asked 1 (all_texts parts)) (merged.report.items, bytes)
       is.merged in
-      let of_two : (h : IsCertificate is.asked dataset bytes) × (h.version ≡ 2) =
+      let of_two : (h : IsFoundCertificate is.asked dataset bytes) × (h.version ≡ 2) =
       (right.1, of_version_two is.asked dataset bytes begins.0 right.1 begins.1) in
-      let found = subst (λ (q : Asked). (h : IsCertificate q dataset bytes) × (h.version ≡ 2)) same of_two in (
+      let found = subst (λ (q : Asked). (h : IsFoundCertificate q dataset bytes) × (h.version ≡ 2)) same of_two in (
         sym (right.0.1 whole.report.items
-            (subst (λ (q : Asked). IsReport q dataset whole.report.items) (sym same) report)),
+            (subst (λ (q : Asked). IsFoundReport q dataset whole.report.items) (sym same) report)),
         (certificates_said 2 answer.asked said files dataset bytes read).0
             ((certificates 2 answer.asked dataset bytes answer.asks.can contents).0 found),
       )

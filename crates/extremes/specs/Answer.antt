@@ -8,7 +8,7 @@ use Rattle.rank_sched.specs.Task.{task_of}
 use Rattle.rank_sched.specs.Hauls.{AreSoundRecords}
 use Rattle.rank_sched.specs.Answers.{best_of_plan, lines_of, AreRecordsAlone}
 use Rattle.rank_papers.specs.Certificate.{certificate_of_best}
-use Rattle.rank_papers.specs.Report.{IsReport}
+use Rattle.rank_papers.specs.Report.{IsFoundReport}
 use Rattle.rank_papers.specs.RightLaws.{IsRightReportFor, IsRightCertificateFor}
 use Rattle.rank_papers.specs.PlanPapers.{IsMeasuredCertificate, IsReportOfPlan, IsCertificateOfPlan}
 use Rattle.extremes.specs.declared.papers.Papers.{Papers}
@@ -24,7 +24,7 @@ pub record AreRightFor (q : Asked) (c : Contents) (papers : Papers) : Type 0 whe
 -- the report and the certificate of a query and data: the right report, a right certificate whose bounds are those of
 -- the series, and how many lines belong to unlisted stations
 pub record ArePapers (q : Asked) (c : Contents) (papers : Papers) : Type 0 where
-  pub report : IsReport q c papers.report.items
+  pub report : IsFoundReport q c papers.report.items
   pub certificate : IsMeasuredCertificate q c papers.certificate.items
   pub unlisted : papers.unlisted ≡ c.unlisted
 

@@ -14,7 +14,7 @@ use Rattle.ghcn_files.specs.declared.fault.StationsFault.TheVariants.{StationLin
 use Rattle.ghcn_files.specs.StationLines.{station_of}
 use Rattle.ghcn_files.specs.Listed.{Numbered, stations_of, station_fault, station_lines, listed, listed_unless}
 use Rattle.ghcn_files.specs.Listed.{is_memory, IsFirstRefusal}
-use Rattle.ghcn_files.specs.KeptStations.{Adds, IsFaultAfter, IsRefusedFor}
+use Rattle.ghcn_files.specs.KeptStations.{AddsStation, IsFaultAfter, IsRefusedFor}
 
 -- the lines that aren't blank
 abbrev pub not_blank : List Numbered → List Numbered
@@ -74,7 +74,7 @@ stations-push (x ∷ xs) l = ap (λ (ss : List Station). station_of x.1 ∷ ss) 
 
 -- past any other line its station is held too
 pub past_line : (all : List Numbered) (k : ℕ) (held more : List Station) (l : Numbered) → k < length all
-    → l ≡ get_or all k l → is_blank l.1 ≡ false → Adds held l more → HasRead all k held → HasRead all (k + 1) more
+    → l ≡ get_or all k l → is_blank l.1 ≡ false → AddsStation held l more → HasRead all k held → HasRead all (k + 1) more
 past_line all k held more l lt is shown adds h =
     let next : not_blank (take (k + 1) all) ≡ not_blank (take k all) ++ l ∷ [] = lines_more all k l lt is
     ∙ ap (λ (zs : List Numbered). not_blank (take k all) ++ zs) (not_blank-line l [] shown) in

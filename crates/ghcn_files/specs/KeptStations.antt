@@ -77,7 +77,7 @@ pub record IsAdded (line : List ℕ) (held : List Station) (keys : List (ℕ × 
   pub key : longer ≡ keys ++ key_with_place (id_of line) (length held) ∷ []
 
 -- a line adds its station: it has no error after any lines that list those held
-pub record Adds (held : List Station) (l : Numbered) (more : List Station) : Type 0 where
+pub record AddsStation (held : List Station) (l : Numbered) (more : List Station) : Type 0 where
   pub right : (earlier : List Numbered) → stations_of earlier ≡ held → station_fault earlier l ≡ None
   pub added : more ≡ held ++ station_of l.1 ∷ []
 

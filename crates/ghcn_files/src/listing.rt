@@ -5,7 +5,7 @@ ghost use Rattle.std.specs.Prelude.{◌≡◌, ◌≤◌, ◌<◌, ◌^◌, ◌+
 ghost use Rattle.std.specs.Prelude.{OnOk, OnErr, IfErr, is_some};
 ghost use Rattle.ghcn_files.specs.StationLines.{id_of, is_station, numbers_of, station_of};
 ghost use Rattle.ghcn_files.specs.Listed.{place_of, listed, is_memory, IsFirstRefusal};
-ghost use Rattle.ghcn_files.specs.KeptStations.{AreKept, Adds, IsRefusedFor};
+ghost use Rattle.ghcn_files.specs.KeptStations.{AddsStation, AreKept, IsRefusedFor};
 ghost use Rattle.ghcn_fields.specs.Refusals.{IsRefusal};
 
 use crate::kept::MOST_STATIONS;
@@ -67,7 +67,7 @@ impl Listing {
 
     /// Adds the station of a line to those of the lines before it, unless it has an error after them.
     fn add(&mut self, number: u64, line: &[u8]) -> Result<(), StationsFault>
-        ensures ok { OnOk result (Adds self.old (number, line.now) self.new) }
+        ensures ok { OnOk result (AddsStation self.old (number, line.now) self.new) }
         ensures err { IfErr result (λ fault. IsRefusedFor fault self.old (number, line.now)) }
     {
         let numbers = match Numbers::of_line(line) {

@@ -24,7 +24,7 @@ use Rattle.ghcn_series.specs.Steps.{ForMonth, IsRowFor, Gathers}
 use Rattle.ghcn_series.specs.Parts.{AreParts, AreNew, AreJoined}
 use Rattle.ghcn_series.specs.Gathered.{month_count, has_number, same_time, usable_days, gathered_days, kept_days}
 use Rattle.ghcn_series.specs.Gathered.{IsGathering}
-use Rattle.ghcn_series.specs.SeenMonths.{has_month, Adds}
+use Rattle.ghcn_series.specs.SeenMonths.{has_month, NotesMonth}
 use Rattle.ghcn_series.proofs.Lookups.{value_on-append}
 use Rattle.ghcn_series.proofs.ApartParts.{new-behind}
 use Rattle.ghcn_series.proofs.DistinctDays.{distinct_days}
@@ -71,7 +71,7 @@ month-new g m before right is fresh d some =
 
 -- one month more is gathered, with its days if they are kept
 gathered_with : (kept : Bool) (old new : Gathering) (m : Month) (before : List Month) → IsMonth m
-    → IsGathering kept old before → has_month old.seen (month_count m) ≡ false → Adds old.seen new.seen (month_count m)
+    → IsGathering kept old before → has_month old.seen (month_count m) ≡ false → NotesMonth old.seen new.seen (month_count m)
     → AreParts new.parts
     → ((d : ℤ) → value_on (gathered_days new) d ≡ value_on (kept_days kept (before ++ m ∷ [])) d)
     → IsGathering kept new (before ++ m ∷ [])
@@ -86,7 +86,7 @@ gathered_with kept old new m before right is fresh adds parts values = record {
 -- one month more is gathered with its days
 pub gathering-more : (old new : Gathering) (m : Month) (before : List Month) → IsMonth m → IsGathering true old before
     → has_month old.seen (month_count m) ≡ false
-    → Adds old.seen new.seen (month_count m)
+    → NotesMonth old.seen new.seen (month_count m)
     → AreParts new.parts → AreJoined (gathered_days old) (usable_days m) (gathered_days new)
     → IsGathering true new (before ++ m ∷ [])
 gathering-more old new m before right is fresh adds parts joined =
@@ -107,7 +107,7 @@ number_for m row (inr of) = number_is false m row (12 * row.year + row.month) of
 -- a month is noted, unless one of its time was
 pub noted : (row : MonthRow) (old new : Gathering) (result : Result Bool Memory)
     → IfOk result (λ is_new. is_new ≡ not (has_month old.seen (12 * row.year + row.month)))
-    → OnOk result (Adds old.seen new.seen (12 * row.year + row.month)) → new.parts ≡ old.parts
+    → OnOk result (NotesMonth old.seen new.seen (12 * row.year + row.month)) → new.parts ≡ old.parts
     → IfOk result (λ added. ForMonth false row (λ m. Gathers false old new m added))
 noted row old new (Err memory) told adds same = tt
 noted row old new (Ok added) told adds same = λ m right of.

@@ -41,7 +41,7 @@ impl Months {
     #[inline(always)]
     pub(crate) fn add(&mut self, alloc: Global, month: u32) -> Result<bool, Memory>
         ensures is_new { IfOk result (λ is_new. is_new ≡ not (seen.has_month self.old month)) }
-        ensures added { OnOk result (seen.Adds self.old self.new month) }
+        ensures added { OnOk result (seen.NotesMonth self.old self.new month) }
     {
         match self.all {
             None if is_after(&self.rising, month) => {
@@ -57,7 +57,7 @@ impl Months {
     #[inline(never)]
     fn add_to_all(&mut self, alloc: Global, month: u32) -> Result<bool, Memory>
         ensures is_new { IfOk result (λ is_new. is_new ≡ not (seen.has_month self.old month)) }
-        ensures added { OnOk result (seen.Adds self.old self.new month) }
+        ensures added { OnOk result (seen.NotesMonth self.old self.new month) }
     {
         if let Some(all) = &mut self.all {
             return Ok(all.insert(month)?);

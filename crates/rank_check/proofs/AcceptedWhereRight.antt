@@ -12,10 +12,10 @@ use Rattle.rank_query.specs.Meaning.Asked.{Asked, IsAsked}
 use Rattle.rank_scores.specs.QueryCandidates.{CandidatesAreApart}
 use Rattle.rank_scores.specs.declared.candidate.Candidate.{Candidate}
 use Rattle.rank_scores.specs.Morsels.{morsels, best_of_query, kth_of_query}
-use Rattle.rank_papers.specs.Report.{IsReport}
+use Rattle.rank_papers.specs.Report.{IsFoundReport}
 use Rattle.rank_papers.specs.ReportLines.{Reported, IsReportOf, SaysRightReport}
-use Rattle.rank_papers.specs.Certificate.{Certified, Entry}
-use Rattle.rank_papers.specs.Certificate.{IsCount, AreCounts, IsCertificate, IsCertificateOf, IsRightEntry, count_of}
+use Rattle.rank_papers.specs.Certificate.{Certified, Line}
+use Rattle.rank_papers.specs.Certificate.{IsCount, AreCounts, IsFoundCertificate, IsCertificateOf, IsRightEntry, count_of}
 use Rattle.rank_papers.specs.Certificate.{counts_of, SaysRightCertificate}
 use Rattle.rank_papers.specs.Laws.{CertificatesAreRead, RightCertificatesSayRight, ReportsAreRead, RightReportsSayRight}
 use Rattle.rank_papers.proofs.SameQueries.{one_query, own_query, score_from, score_to}
@@ -80,7 +80,7 @@ module _ (q : Asked) (c : Contents) (asked : IsAsked q) (right : IsContents c) (
       ∙ sym (ap (λ (v : ℕ). counts_of v (best_of_query q c) z.entries) k.0)
 
   -- those of the best candidates are counted
-  best_counted : (rows : List Candidate) (w : ℕ) (es : List Entry) → rows ≡ best_of_query q c
+  best_counted : (rows : List Candidate) (w : ℕ) (es : List Line) → rows ≡ best_of_query q c
       → AreCounted rows (counts_of w (best_of_query q c) es) es
   best_counted rows w es best =
       subst (λ (l : List Candidate). AreCounted rows (counts_of w l es) es) best
@@ -124,7 +124,7 @@ pub accepted_right : CertificatesAreRead → RightCertificatesSayRight → Repor
 accepted_right certificates right_certificates reports right_reports apart q c report certificate asked right =
     (accepted, both_right)
   where
-    accepted : verdict q c report certificate ≡ Accepted → IsReport q c report × IsCertificate q c certificate
+    accepted : verdict q c report certificate ≡ Accepted → IsFoundReport q c report × IsFoundCertificate q c certificate
     accepted e =
         let pass = accepted-pass q c (read_papers report certificate) e in
         let are = (papers_read reports certificates report certificate pass.report pass.certificate).0 pass.read in
@@ -141,7 +141,7 @@ accepted_right certificates right_certificates reports right_reports apart q c r
           ),
         )
 
-    both_right : IsReport q c report × IsCertificate q c certificate → verdict q c report certificate ≡ Accepted
+    both_right : IsFoundReport q c report × IsFoundCertificate q c certificate → verdict q c report certificate ≡ Accepted
     both_right h =
         let r = (right_reports q c report asked right).0 h.0 in
         let z = (right_certificates q c certificate asked right).0 h.1 in

@@ -28,7 +28,7 @@ use Rattle.ghcn_series.specs.Series.{Contents}
 use Rattle.rank_query.specs.Meaning.Asked.{Asked}
 use Rattle.rank_scores.specs.Candidates.{candidates}
 use Rattle.rank_scores.specs.Order.{bound_is_below}
-use Rattle.rank_papers.specs.Certificate.{Entry, count_of}
+use Rattle.rank_papers.specs.Certificate.{Line, count_of}
 use Rattle.std.specs.Int.{int_max}
 use Rattle.std.proofs.lemmas.Int.{ints}
 use Rattle.std.proofs.Math.Bool.{and-true}
@@ -140,19 +140,19 @@ watched_at cs rows found i m e lt is =
 -- ---- the tests of a line
 
 -- the error of a line is that of the line at its place
-pub fault-placed : (q : Asked) (kth : Option ℤ) (rows : List Candidate) (counts : List ℕ) (lines : List Entry) (i : ℕ)
-    (line : Entry) (count : Option ℕ) (s : Option Usable) (o : Option Refusal)
+pub fault-placed : (q : Asked) (kth : Option ℤ) (rows : List Candidate) (counts : List ℕ) (lines : List Line) (i : ℕ)
+    (line : Line) (count : Option ℕ) (s : Option Usable) (o : Option Refusal)
     → o ≡ first_failing (line_tests q kth rows (i + 4) line count s) → count ≡ slice_get counts i
     → slice_get lines i ≡ Some line
     → option_map (λ l. first_failing (line_tests q kth rows (i + 4) l (slice_get counts i) s)) (slice_get lines i) ≡
     Some o
 fault-placed q kth rows counts lines i line count s o said own there =
-    ap (option_map (λ (l : Entry). first_failing (line_tests q kth rows (i + 4) l (slice_get counts i) s))) there
+    ap (option_map (λ (l : Line). first_failing (line_tests q kth rows (i + 4) l (slice_get counts i) s))) there
     ∙ ap (λ (n : Option ℕ). Some (first_failing (line_tests q kth rows (i + 4) line n s))) (sym own)
     ∙ ap (λ (v : Option Refusal). Some v) (sym said)
 
 -- a count is the number of rows, if that is this number, if and only if it is this number
-pub counted_there : (rows : List Candidate) (e : Entry) (wanted : ℕ) (count : Option ℕ) → wanted ≡ count_of rows e
+pub counted_there : (rows : List Candidate) (e : Line) (wanted : ℕ) (count : Option ℕ) → wanted ≡ count_of rows e
     → is_counted rows e count ≡ option_map_or (λ n. n == wanted) count true
 counted_there rows e wanted count h = ap (λ (w : ℕ). option_map_or (λ n. n == w) count true) (sym h)
 
@@ -210,7 +210,7 @@ abbrev pub is_low : ℤ → Option ℤ → Bool
 is_low bound highest = option_map_or (λ score. int_le score bound) highest true
 
 -- the tests of a line by what was found of its morsel
-line_tests-top : (q : Asked) (kth : Option ℤ) (rows : List Candidate) (number : ℕ) (e : Entry) (count : Option ℕ)
+line_tests-top : (q : Asked) (kth : Option ℤ) (rows : List Candidate) (number : ℕ) (e : Line) (count : Option ℕ)
     (t : Top) (s : Option Usable) → Some t ≡ option_map (top q) s
     → first_failing (line_tests q kth rows number e count s)
     ≡ fault_by number (same_id e.id t.id) (is_low e.bound t.highest) (not e.skipped || bound_is_below kth e.bound)
@@ -223,7 +223,7 @@ line_tests-top q kth rows number e count t (Some u) f =
     ∙ ap (λ (x : Top). fault_by number (same_id e.id x.id) (is_low e.bound x.highest)
     (not e.skipped || bound_is_below kth e.bound) (is_counted rows e count)) same
 
-module _ (q : Asked) (kth : Option ℤ) (rows : List Candidate) (number : ℕ) (e : Entry) (count : Option ℕ) (t : Top)
+module _ (q : Asked) (kth : Option ℤ) (rows : List Candidate) (number : ℕ) (e : Line) (count : Option ℕ) (t : Top)
     (s : Option Usable) (made : Some t ≡ option_map (top q) s) (named : same_id t.id e.id ≡ true) where
   -- the error by three tests, once the ID is right
   by_three : (above below counted : Bool) → is_low e.bound t.highest ≡ above
@@ -256,21 +256,21 @@ module _ (q : Asked) (kth : Option ℤ) (rows : List Candidate) (number : ℕ) (
   none_fails_there f g h = sym (by_three true true true f g h)
 
 -- the error of a line by its number and its place
-abbrev fault_at : Asked → Contents → Option ℤ → List Candidate → List ℕ → Entry → ℕ → ℕ → Option Refusal
+abbrev fault_at : Asked → Contents → Option ℤ → List Candidate → List ℕ → Line → ℕ → ℕ → Option Refusal
 fault_at q c kth rows counts e number place =
     first_failing (line_tests q kth rows number e (slice_get counts place) (slice_get (morsels q c) place))
 
 -- what is said of the line at a place
 pub line_there : (q : Asked) (c : Contents) (kth : Option ℤ) (rows : List Candidate) (counts : List ℕ)
-    (es : List Entry) (i : ℕ) (o : Option Refusal)
+    (es : List Line) (i : ℕ) (o : Option Refusal)
     → option_map (λ e. first_failing (line_tests q kth rows (i + 4) e (slice_get counts i) (slice_get (morsels q c) i)))
     (slice_get es i) ≡ Some o
-    → (e : Entry) × (slice_get es i ≡ Some e) × (o ≡ first_failing (entry_tests q c kth rows counts (i + 1, e)))
+    → (e : Line) × (slice_get es i ≡ Some e) × (o ≡ first_failing (entry_tests q c kth rows counts (i + 1, e)))
 line_there q c kth rows counts es i o h = by (slice_get es i) refl h
   where
-    by : (found : Option Entry) → slice_get es i ≡ found → option_map (λ e. fault_at q c kth rows counts e (i + 4) i)
+    by : (found : Option Line) → slice_get es i ≡ found → option_map (λ e. fault_at q c kth rows counts e (i + 4) i)
         found ≡ Some o
-        → (e : Entry) × (slice_get es i ≡ Some e) × (o ≡ first_failing (entry_tests q c kth rows counts (i + 1, e)))
+        → (e : Line) × (slice_get es i ≡ Some e) × (o ≡ first_failing (entry_tests q c kth rows counts (i + 1, e)))
     by None f g = absurd cc
     by (Some e) f g =
         let same : fault_at q c kth rows counts e (i + 4) i ≡ o = cc in

@@ -24,7 +24,7 @@ use Rattle.ghcn_files.specs.declared.station.Station.{Station}
 use Rattle.rank_scores.specs.declared.candidate.Candidate.{Candidate}
 use Rattle.rank_scores.specs.Runs.{run_from}
 use Rattle.rank_papers.specs.Report.{Named}
-use Rattle.rank_papers.specs.Certificate.{Entry}
+use Rattle.rank_papers.specs.Certificate.{Line}
 use Rattle.rank_check.specs.Tests.{verdict}
 use Rattle.rank_check.specs.Pieces.{is_morsel, piece_tests}
 use Rattle.rank_check.proofs.Examples.{warm, ask, text}
@@ -60,11 +60,11 @@ abbrev own_row : List Named
 own_row = (worst, codes "ALPHA") ∷ []
 
 -- a line
-abbrev line : Bool → Station → ℤ → Entry
+abbrev line : Bool → Station → ℤ → Line
 line skipped st bound = record { id = st.id; bound = bound; skipped = skipped }
 
 -- the judgement of a line by itself, of the highest one
-abbrev alone : Station → Usable → Entry → ℕ → List Named → Option Why
+abbrev alone : Station → Usable → Line → ℕ → List Named → Option Why
 alone st u e printed rows = first_failing (piece_tests (ask 1) st (Some u) e printed rows (Some worst))
 
 -- right lines; a row left out, without its count and with it; a bound that is too low; a skip at the k-th score

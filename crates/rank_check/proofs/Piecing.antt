@@ -21,7 +21,7 @@ use Rattle.rank_scores.specs.Candidates.{candidates}
 use Rattle.rank_scores.specs.Order.{bound_is_below}
 use Rattle.rank_papers.specs.Meaning.Report.{trimmed}
 use Rattle.rank_papers.specs.Report.{Named}
-use Rattle.rank_papers.specs.Certificate.{Entry}
+use Rattle.rank_papers.specs.Certificate.{Line}
 use Rattle.rank_papers.specs.Papers.{of_rows}
 use Rattle.rank_papers.proofs.FirstFailing.{none_fails, all_pass}
 use Rattle.rank_check.specs.declared.verdict.Why.{Why}
@@ -43,7 +43,7 @@ piece_by own counted candidates rest =
     cond own (cond counted (cond candidates rest (Some NotACandidate)) (Some NotCounted)) (Some OtherSeries)
 
 -- what these come to
-pub piece-by : (q : Asked) (st : Station) (u : Usable) (e : Entry) (printed : ℕ) (rows : List Named)
+pub piece-by : (q : Asked) (st : Station) (u : Usable) (e : Line) (printed : ℕ) (rows : List Named)
     (worst : Option Candidate) (own counted candidates : Bool)
     → (same_id st.id e.id && is_morsel q st (Some u)) ≡ own → (printed == length rows) ≡ counted
     → list_all (is_row_of q st u) rows ≡ candidates
@@ -57,7 +57,7 @@ abbrev last_by : Bool → Bool → Bool → Option Why
 last_by all above low = cond all (cond above (cond low None (Some NotBelow)) (Some NoBound)) (Some NotBest)
 
 -- what these come to
-pub last-by : (q : Asked) (u : Usable) (e : Entry) (rows : List Candidate) (worst : Option Candidate)
+pub last-by : (q : Asked) (u : Usable) (e : Line) (rows : List Candidate) (worst : Option Candidate)
     (all above low : Bool) → has_all q worst rows u ≡ all → is_low e.bound (top_score (candidates q u)) ≡ above
     → (not e.skipped || bound_is_below (score_of worst) e.bound) ≡ low
     → first_failing (last_tests q u e rows worst) ≡ last_by all above low
@@ -129,7 +129,7 @@ or_made false p f = refl
 
 -- ---- both directions
 
-module _ (q : Asked) (st : Station) (e : Entry) (printed : ℕ) (rows : List Named) (worst : Option Candidate)
+module _ (q : Asked) (st : Station) (e : Line) (printed : ℕ) (rows : List Named) (worst : Option Candidate)
     (within : AreRowsWithin worst (of_rows rows)) where
   -- a line whose tests pass is right
   right_from : (s : Option Usable) → AllByRecursion (λ t. t.0 ≡ true) (piece_tests q st s e printed rows worst)
@@ -201,7 +201,7 @@ module _ (q : Asked) (st : Station) (e : Entry) (printed : ℕ) (rows : List Nam
       )
 
 -- no test of a line fails if and only if it is right
-pub right_piece : (q : Asked) (st : Station) (s : Option Usable) (e : Entry) (printed : ℕ) (rows : List Named)
+pub right_piece : (q : Asked) (st : Station) (s : Option Usable) (e : Line) (printed : ℕ) (rows : List Named)
     (worst : Option Candidate) → AreRowsWithin worst (of_rows rows)
     → (first_failing (piece_tests q st s e printed rows worst) ≡ None) ↔ IsRightPiece q st s e printed rows worst
 right_piece q st s e printed rows worst within = (

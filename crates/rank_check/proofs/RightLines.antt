@@ -18,7 +18,7 @@ use Rattle.rank_scores.specs.declared.candidate.Candidate.{Candidate}
 use Rattle.rank_scores.specs.Candidates.{candidates}
 use Rattle.rank_scores.specs.Order.{bound_is_below}
 use Rattle.rank_scores.specs.Morsels.{morsels}
-use Rattle.rank_papers.specs.Certificate.{Entry, IsEntry, IsRightEntry, count_of}
+use Rattle.rank_papers.specs.Certificate.{Line, IsEntry, IsRightEntry, count_of}
 use Rattle.rank_check.specs.Tests.{is_above, is_counted, entry_tests}
 use Rattle.rank_check.proofs.Accepted.{Passes}
 
@@ -61,11 +61,11 @@ below_to true low h = h refl
 below_to false low h = refl
 
 -- a count is the number of rows if the test passes
-counted_from : (rows : List Candidate) (e : Entry) (n : ℕ) → is_counted rows e (Some n) ≡ true → n ≡ count_of rows e
+counted_from : (rows : List Candidate) (e : Line) (n : ℕ) → is_counted rows e (Some n) ≡ true → n ≡ count_of rows e
 counted_from rows e n h = eqb-true n (count_of rows e) h
 
 -- and back
-counted_to : (rows : List Candidate) (e : Entry) (n : ℕ) → n ≡ count_of rows e → is_counted rows e (Some n) ≡ true
+counted_to : (rows : List Candidate) (e : Line) (n : ℕ) → n ≡ count_of rows e → is_counted rows e (Some n) ≡ true
 counted_to rows e n h = grind (arith, nat_tests)
 
 -- no counts at all
@@ -73,13 +73,13 @@ abbrev no_counts : List ℕ
 no_counts = []
 
 -- counts are the numbers of rows, as far as there are counts
-abbrev pub AreCounted : List Candidate → List ℕ → List Entry → Type 0
+abbrev pub AreCounted : List Candidate → List ℕ → List Line → Type 0
 AreCounted rows [] es = ⊤
 AreCounted rows (n ∷ counts) [] = ⊤
 AreCounted rows (n ∷ counts) (e ∷ es) = (n ≡ count_of rows e) × AreCounted rows counts es
 
 -- those that were counted are
-pub are_counted : (rows : List Candidate) (es : List Entry) → AreCounted rows (map (count_of rows) es) es
+pub are_counted : (rows : List Candidate) (es : List Line) → AreCounted rows (map (count_of rows) es) es
 are_counted rows [] = tt
 are_counted rows (e ∷ es) = (refl, are_counted rows es)
 
@@ -97,7 +97,7 @@ module _ (q : Asked) (c : Contents) (kth : Option ℤ) (rows : List Candidate) (
   morsel_here n ss there = let same : n + 1 - 1 ≡ n + 0 = omega arith in ap (slice_get (morsels q c)) same ∙ there 0
 
   -- lines whose tests pass are right entries of the morsels from a place on
-  entries_right : (n : ℕ) (es : List Entry) (ss : List Usable)
+  entries_right : (n : ℕ) (es : List Line) (ss : List Usable)
       → ((j : ℕ) → slice_get (morsels q c) (n + j) ≡ slice_get ss j) → length ss ≤ length es
       → AllByRecursion IsEntry es
       → AllByRecursion Passes (flat_map (entry_tests q c kth rows counts) (enumerate_from (n + 1) es))
@@ -136,7 +136,7 @@ module _ (q : Asked) (c : Contents) (kth : Option ℤ) (rows : List Candidate) (
       ap (slice_get counts) next ∙ there (suc j)
 
   -- counts of lines whose tests pass, one for each, are the numbers of rows
-  counts_right : (n : ℕ) (es : List Entry) (ns : List ℕ)
+  counts_right : (n : ℕ) (es : List Line) (ns : List ℕ)
       → ((j : ℕ) → slice_get counts (n + j) ≡ slice_get ns j) → length ns ≡ length es
       → AllByRecursion Passes (flat_map (entry_tests q c kth rows counts) (enumerate_from (n + 1) es))
       → ns ≡ map (count_of rows) es
@@ -151,12 +151,12 @@ module _ (q : Asked) (c : Contents) (kth : Option ℤ) (rows : List Candidate) (
       (counts_right (n + 1) es ns (places_behind n x ns counts there) (omega (arith, long)) h.1.1.1.1)
 
   -- the test of a count passes if there is none
-  none_counted : (n : ℕ) (e : Entry) → ((j : ℕ) → slice_get counts (n + j) ≡ slice_get no_counts j)
+  none_counted : (n : ℕ) (e : Line) → ((j : ℕ) → slice_get counts (n + j) ≡ slice_get no_counts j)
       → is_counted rows e (slice_get counts (n + 1 - 1)) ≡ true
   none_counted n e there = ap (is_counted rows e) (count_here n [] there)
 
   -- the tests of one right entry, before those of the others
-  entry_pass : (n : ℕ) (e : Entry) (s : Usable) (ss : List Usable) (es : List Entry)
+  entry_pass : (n : ℕ) (e : Line) (s : Usable) (ss : List Usable) (es : List Line)
       → ((j : ℕ) → slice_get (morsels q c) (n + j) ≡ slice_get (s ∷ ss) j) → IsRightEntry q kth e s
       → is_counted rows e (slice_get counts (n + 1 - 1)) ≡ true
       → AllByRecursion Passes (flat_map (entry_tests q c kth rows counts) (enumerate_from (n + 1 + 1) es))
@@ -174,7 +174,7 @@ module _ (q : Asked) (c : Contents) (kth : Option ℤ) (rows : List Candidate) (
       )
 
   -- the tests of right entries pass
-  entries_pass : (n : ℕ) (es : List Entry) (ss : List Usable) (ns : List ℕ)
+  entries_pass : (n : ℕ) (es : List Line) (ss : List Usable) (ns : List ℕ)
       → ((j : ℕ) → slice_get (morsels q c) (n + j) ≡ slice_get ss j)
       → ((j : ℕ) → slice_get counts (n + j) ≡ slice_get ns j)
       → AllZip (IsRightEntry q kth) es ss → AreCounted rows ns es
@@ -192,7 +192,7 @@ module _ (q : Asked) (c : Contents) (kth : Option ℤ) (rows : List Candidate) (
 
 -- lines whose tests pass are right entries, if none is missing
 pub lines_right : (q : Asked) (c : Contents) (kth : Option ℤ) (rows : List Candidate) (counts : List ℕ)
-    (es : List Entry) → AllByRecursion IsEntry es
+    (es : List Line) → AllByRecursion IsEntry es
     → AllByRecursion Passes (flat_map (entry_tests q c kth rows counts) (enumerate_from 1 es))
     → nat_le (length (morsels q c)) (length es) ≡ true → AllZip (IsRightEntry q kth) es (morsels q c)
 lines_right q c kth rows counts es can h few =
@@ -202,7 +202,7 @@ lines_right q c kth rows counts es can h few =
 
 -- and their counts are the numbers of rows, if there is one for each
 pub counts_are : (q : Asked) (c : Contents) (kth : Option ℤ) (rows : List Candidate) (counts : List ℕ)
-    (es : List Entry) → length counts ≡ length es
+    (es : List Line) → length counts ≡ length es
     → AllByRecursion Passes (flat_map (entry_tests q c kth rows counts) (enumerate_from 1 es))
     → counts ≡ map (count_of rows) es
 counts_are q c kth rows counts es long h =
@@ -211,7 +211,7 @@ counts_are q c kth rows counts es long h =
 
 -- and back
 pub right_pass : (q : Asked) (c : Contents) (kth : Option ℤ) (rows : List Candidate) (counts : List ℕ)
-    (es : List Entry) → AllZip (IsRightEntry q kth) es (morsels q c) → AreCounted rows counts es
+    (es : List Line) → AllZip (IsRightEntry q kth) es (morsels q c) → AreCounted rows counts es
     → AllByRecursion Passes (flat_map (entry_tests q c kth rows counts) (enumerate_from 1 es))
     × (nat_le (length (morsels q c)) (length es) ≡ true)
 right_pass q c kth rows counts es h k =

@@ -12,7 +12,7 @@ use Rattle.rank_scores.specs.Morsels.{all_candidates, morsels, kth_of_query}
 use Rattle.rank_papers.specs.declared.paper.Row.{Row}
 use Rattle.rank_papers.specs.ReportLines.{named_in}
 use Rattle.rank_papers.specs.Papers.{candidates_of}
-use Rattle.rank_papers.specs.Certificate.{Entry, Certified, count_of}
+use Rattle.rank_papers.specs.Certificate.{Line, Certified, count_of}
 use Rattle.rank_check.specs.declared.tally.Met.{Met}
 use Rattle.rank_check.specs.declared.survey.Top.{Top}
 use Rattle.rank_check.specs.declared.survey.Findings.{Findings}
@@ -38,7 +38,7 @@ IsFaultOfRow stations rows place found fault = (q : Asked) (c : Contents) → st
 -- ---- lines of morsels, if the certificate has this k-th score, and that many of the report's rows belong to each line
 
 -- the error of all lines with these counts, if these are the greatest scores of the morsels
-abbrev pub IsFaultOfLines : Option ℤ → List ℕ → List ℕ → List Entry → List Top → Option Refusal → Type 0
+abbrev pub IsFaultOfLines : Option ℤ → List ℕ → List ℕ → List Line → List Top → Option Refusal → Type 0
 IsFaultOfLines kth wanted counts lines tops fault =
     (rows : List Candidate) → wanted ≡ map (count_of rows) lines
     → (q : Asked) (c : Contents) → tops ≡ map (top q) (morsels q c)
@@ -46,14 +46,14 @@ IsFaultOfLines kth wanted counts lines tops fault =
 
 -- the error of a line by its number and its count, if it has one, if this is the greatest score of its morsel, if
 -- there is one
-abbrev pub IsFaultOfLine : Option ℤ → ℕ → ℕ → Entry → Option ℕ → Option Top → Option Refusal → Type 0
+abbrev pub IsFaultOfLine : Option ℤ → ℕ → ℕ → Line → Option ℕ → Option Top → Option Refusal → Type 0
 IsFaultOfLine kth wanted number line count found fault =
     (rows : List Candidate) → wanted ≡ count_of rows line
     → (q : Asked) (s : Option Usable) → found ≡ option_map (top q) s
     → fault ≡ first_failing (line_tests q kth rows number line count s)
 
 -- the error of the line at a place
-abbrev pub IsFaultOfLineAt : Option ℤ → List ℕ → List ℕ → List Entry → ℕ → Option Top → Option Refusal → Type 0
+abbrev pub IsFaultOfLineAt : Option ℤ → List ℕ → List ℕ → List Line → ℕ → Option Top → Option Refusal → Type 0
 IsFaultOfLineAt kth wanted counts lines place found fault =
     (rows : List Candidate) → wanted ≡ map (count_of rows) lines
     → (q : Asked) (s : Option Usable) → found ≡ option_map (top q) s

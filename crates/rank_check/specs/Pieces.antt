@@ -19,7 +19,7 @@ use Rattle.rank_scores.specs.Order.{full_cmp, bound_is_below}
 use Rattle.rank_scores.specs.Morsels.{has_admitted, IsAbove}
 use Rattle.rank_papers.specs.Meaning.Report.{trimmed}
 use Rattle.rank_papers.specs.Report.{Named}
-use Rattle.rank_papers.specs.Certificate.{Entry}
+use Rattle.rank_papers.specs.Certificate.{Line}
 use Rattle.rank_papers.specs.Papers.{of_rows, AreInOrder}
 use Rattle.rank_check.specs.declared.verdict.Why.{Why}
 use Rattle.rank_check.specs.declared.verdict.Why.TheVariants.{NotACandidate, NotBest, OtherSeries, NoBound, NotBelow}
@@ -58,7 +58,7 @@ abbrev pub has_all : Asked → Option Candidate → List Candidate → Usable �
 has_all q worst rows s = list_all (λ c. not (is_within_worst worst c) || is_one_of rows c) (candidates q s)
 
 -- the tests of the candidates of a series against the rows, the bound and the k-th score
-abbrev pub last_tests : Asked → Usable → Entry → List Candidate → Option Candidate → List (Bool × Why)
+abbrev pub last_tests : Asked → Usable → Line → List Candidate → Option Candidate → List (Bool × Why)
 last_tests q s e rows worst =
     (has_all q worst rows s, NotBest)
     ∷ (is_above q e.bound s, NoBound)
@@ -67,7 +67,7 @@ last_tests q s e rows worst =
 
 -- the tests of a line with its count, of its station and series, and of the report's rows of the station, in their
 -- order
-abbrev pub piece_tests : Asked → Station → Option Usable → Entry → ℕ → List Named → Option Candidate → List (Bool × Why)
+abbrev pub piece_tests : Asked → Station → Option Usable → Line → ℕ → List Named → Option Candidate → List (Bool × Why)
 piece_tests q st s e printed rows worst =
     (same_id st.id e.id && is_morsel q st s, OtherSeries)
     ∷ (printed == length rows, NotCounted)
@@ -82,7 +82,7 @@ piece_tests q st s e printed rows worst =
 -- the line names a morsel of this station; the rows are exactly its candidates that are the worst row or precede it,
 -- each with the station's name, and the count is theirs; no candidate scores above the bound; and it is skipped
 -- only if the bound is strictly below the k-th score
-pub record IsRightPiece (q : Asked) (st : Station) (s : Option Usable) (e : Entry) (printed : ℕ) (rows : List Named)
+pub record IsRightPiece (q : Asked) (st : Station) (s : Option Usable) (e : Line) (printed : ℕ) (rows : List Named)
     (worst : Option Candidate) : Type 0 where
   pub series : Usable
   pub there : s ≡ Some series

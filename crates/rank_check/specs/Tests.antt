@@ -21,7 +21,7 @@ use Rattle.rank_papers.specs.Papers.{read_papers, same_query, of_rows}
 use Rattle.rank_papers.specs.Meaning.Report.{trimmed}
 use Rattle.rank_papers.specs.Report.{Named}
 use Rattle.rank_papers.specs.ReportLines.{Reported}
-use Rattle.rank_papers.specs.Certificate.{Entry, Certified, count_of}
+use Rattle.rank_papers.specs.Certificate.{Line, Certified, count_of}
 use Rattle.rank_papers.specs.declared.fault.Paper.{Paper}
 use Rattle.rank_papers.specs.declared.fault.Paper.TheVariants.{Report, Certificate}
 use Rattle.rank_check.specs.declared.verdict.Why.{Why}
@@ -95,12 +95,12 @@ abbrev pub is_above : Asked → ℤ → Usable → Bool
 is_above q bound s = list_all (λ c. int_le c.score bound) (candidates q s)
 
 -- a count, if there is one, is the number of the rows of an entry's station
-abbrev pub is_counted : List Candidate → Entry → Option ℕ → Bool
+abbrev pub is_counted : List Candidate → Line → Option ℕ → Bool
 is_counted rows e count = option_map_or (λ n. n == count_of rows e) count true
 
 -- the tests of the line of this number about a morsel, if there is one for it, if the certificate has this k-th
 -- score, the report these rows, and the line this count, if it has one
-abbrev pub line_tests : Asked → Option ℤ → List Candidate → ℕ → Entry → Option ℕ → Option Usable → List Test
+abbrev pub line_tests : Asked → Option ℤ → List Candidate → ℕ → Line → Option ℕ → Option Usable → List Test
 line_tests q kth rows number e count morsel =
     (option_map_or (λ s. same_id e.id s.id) morsel false, refusal Certificate number OtherSeries)
     ∷ (option_map_or (is_above q e.bound) morsel true, refusal Certificate number NoBound)
@@ -109,12 +109,12 @@ line_tests q kth rows number e count morsel =
     ∷ []
 
 -- the tests of the j-th line, from 1, of a certificate with these counts
-abbrev pub entry_tests : Asked → Contents → Option ℤ → List Candidate → List ℕ → ℕ × Entry → List Test
+abbrev pub entry_tests : Asked → Contents → Option ℤ → List Candidate → List ℕ → ℕ × Line → List Test
 entry_tests q c kth rows counts l =
     line_tests q kth rows (l.0 + 3) l.1 (slice_get counts (l.0 - 1)) (slice_get (morsels q c) (l.0 - 1))
 
 -- the tests of all lines of morsels
-abbrev pub tests_of_lines : Asked → Contents → Option ℤ → List Candidate → List ℕ → List Entry → List Test
+abbrev pub tests_of_lines : Asked → Contents → Option ℤ → List Candidate → List ℕ → List Line → List Test
 tests_of_lines q c kth rows counts es = flat_map (entry_tests q c kth rows counts) (enumerate_from 1 es)
 
 -- the test of the number of lines: there are as many as morsels

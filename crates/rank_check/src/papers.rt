@@ -3,8 +3,8 @@
 ghost use Rattle.std.specs.Prelude.{◌≡◌, ◌↔◌, IfOk};
 ghost use Rattle.ghcn_series.specs.Held.{IsContents};
 ghost use Rattle.rank_query.specs.Meaning.Asked.{IsAsked};
-ghost use Rattle.rank_papers.specs.Report.{IsReport};
-ghost use Rattle.rank_papers.specs.Certificate.{IsCertificate};
+ghost use Rattle.rank_papers.specs.Report.{IsFoundReport};
+ghost use Rattle.rank_papers.specs.Certificate.{IsFoundCertificate};
 ghost use Rattle.rank_papers.specs.Papers as papers;
 ghost use Rattle.rank_check.specs.Tests as tests;
 
@@ -34,7 +34,7 @@ pub fn check(
     ensures verdict { IfOk result (λ found.
         found ≡ tests.verdict query.now dataset.now report.now certificate.now) }
     ensures accepted { IfOk result (λ found. (found ≡ Verdict.Accepted)
-        ↔ (IsReport query.now dataset.now report.now × IsCertificate query.now dataset.now certificate.now)) }
+        ↔ (IsFoundReport query.now dataset.now report.now × IsFoundCertificate query.now dataset.now certificate.now)) }
 {
     // Clause `accepted` is the law, which asks for a right query and right data.
     accepted_where_right();

@@ -12,7 +12,7 @@ use Rattle.ghcn_files.specs.Meaning.Ids.{same_id}
 use Rattle.ghcn_files.proofs.IdLaws.{same_id-is, same_id-turned}
 use Rattle.rank_scores.specs.declared.candidate.Candidate.{Candidate}
 use Rattle.rank_papers.specs.Report.{Named}
-use Rattle.rank_papers.specs.Certificate.{Entry, count_of, counts_of}
+use Rattle.rank_papers.specs.Certificate.{Line, count_of, counts_of}
 use Rattle.rank_papers.specs.Papers.{of_rows}
 use Rattle.rank_head.specs.HeadTests.{IdsRise, is_scanned}
 use Rattle.rank_head.specs.RightHead.{CountsAddUp}
@@ -26,14 +26,14 @@ sum-cons n ns = sum_by-cons (λ (x : ℕ). x) n ns
 -- ---- one row
 
 -- nothing is counted if no line hits
-no_hits : (i : StationId) (es : List Entry) → AllByRecursion (λ e. hits i e ≡ false) es → sum (map (hit i) es) ≡ 0
+no_hits : (i : StationId) (es : List Line) → AllByRecursion (λ e. hits i e ≡ false) es → sum (map (hit i) es) ≡ 0
 no_hits i [] h = refl
 no_hits i (e ∷ es) h =
     let here : hit i e ≡ 0 = ap (λ (b : Bool). cond b 1 0) h.0 in
     omega (arith, sum-cons (hit i e) (map (hit i) es), here, no_hits i es h.1)
 
 -- a line whose ID comes after that of one that hits doesn't
-behind_misses : (i : StationId) (e f : Entry) → by_bytes e.id f.id ≡ Less → hits i e ≡ true → hits i f ≡ false
+behind_misses : (i : StationId) (e f : Line) → by_bytes e.id f.id ≡ Less → hits i e ≡ true → hits i f ≡ false
 behind_misses i e f b h = by (hits i f) refl
   where
     by : (t : Bool) → hits i f ≡ t → hits i f ≡ false
@@ -47,13 +47,13 @@ behind_misses i e f b h = by (hits i f) refl
         absurd (let no : Less ≡ Equal = sym own ∙ tied in cc)
 
 -- none of those after does
-pub all_miss : (i : StationId) (e : Entry) (es : List Entry) → AreBehind e.id es → hits i e ≡ true
+pub all_miss : (i : StationId) (e : Line) (es : List Line) → AreBehind e.id es → hits i e ≡ true
     → AllByRecursion (λ f. hits i f ≡ false) es
 all_miss i e [] a h = tt
 all_miss i e (f ∷ es) a h = (behind_misses i e f a.0 h, all_miss i e es a.1 h)
 
 -- so one line alone is counted
-hit_once : (i : StationId) (es : List Entry) → IdsRise es → is_scanned es i ≡ true → sum (map (hit i) es) ≡ 1
+hit_once : (i : StationId) (es : List Line) → IdsRise es → is_scanned es i ≡ true → sum (map (hit i) es) ≡ 1
 hit_once i [] up s = absurd cc
 hit_once i (e ∷ es) up s = by (hits i e) refl s (λ k. hit_once i es (rise-behind e es up) k)
   where
@@ -75,7 +75,7 @@ hit_once i (e ∷ es) up s = by (hits i e) refl s (λ k. hit_once i es (rise-beh
 -- ---- all rows
 
 -- the count with one row more
-pub count-more : (d : Candidate) (ds : List Candidate) (e : Entry) → count_of (d ∷ ds) e ≡ hit d.id e + count_of ds e
+pub count-more : (d : Candidate) (ds : List Candidate) (e : Line) → count_of (d ∷ ds) e ≡ hit d.id e + count_of ds e
 count-more d ds e =
     let rows : ℕ = count_by (λ c. same_id c.id e.id) ds in
     let more : count_by (λ c. same_id c.id e.id) (d ∷ ds)
@@ -91,7 +91,7 @@ count-more d ds e =
     by false f = f
 
 -- the counts of all lines
-counts-more : (d : Candidate) (ds : List Candidate) (es : List Entry)
+counts-more : (d : Candidate) (ds : List Candidate) (es : List Line)
     → sum (map (count_of (d ∷ ds)) es) ≡ sum (map (hit d.id) es) + sum (map (count_of ds) es)
 counts-more d ds [] = refl
 counts-more d ds (e ∷ es) = omega (
@@ -104,7 +104,7 @@ counts-more d ds (e ∷ es) = omega (
 )
 
 -- without rows a line counts none
-pub no_row : (e : Entry) → count_of [] e ≡ 0
+pub no_row : (e : Line) → count_of [] e ≡ 0
 no_row e = by e.skipped
   where
     by : (b : Bool) → cond b 0 (count_by (λ (c : Candidate). same_id c.id e.id) []) ≡ 0
@@ -112,12 +112,12 @@ no_row e = by e.skipped
     by false = refl
 
 -- so the counts add up to 0
-no_rows : (es : List Entry) → sum (map (count_of []) es) ≡ 0
+no_rows : (es : List Line) → sum (map (count_of []) es) ≡ 0
 no_rows [] = refl
 no_rows (e ∷ es) = omega (arith, sum-cons (count_of [] e) (map (count_of []) es), no_row e, no_rows es)
 
 -- the counts add up to the number of rows
-add_up : (es : List Entry) → IdsRise es → (rows : List Named)
+add_up : (es : List Line) → IdsRise es → (rows : List Named)
     → AllByRecursion (λ row. is_scanned es row.0.id ≡ true) rows
     → sum (map (count_of (of_rows rows)) es) ≡ length rows
 add_up es up [] h = no_rows es

@@ -7,7 +7,7 @@ use Rattle.rank_query.specs.Meaning.Asked.{Asked}
 use Rattle.rank_papers.specs.Report.{Named}
 use Rattle.rank_papers.specs.declared.paper.Row.{Row}
 use Rattle.rank_papers.specs.ReportLines.{Reported, named_in}
-use Rattle.rank_papers.specs.Certificate.{Entry, Certified}
+use Rattle.rank_papers.specs.Certificate.{Line, Certified}
 use Rattle.rank_papers.specs.Papers.{same_query, neighbours}
 use Rattle.rank_papers.proofs.FirstFailing.{first_fails, first_passes, first_failing-append, some_decides, none_decides}
 use Rattle.rank_head.specs.declared.fault.HeadFault.{HeadFault}
@@ -28,7 +28,7 @@ none_behind None (Some w) e = absurd cc
 none_behind (Some w) p e = absurd cc
 
 -- the tests of the order of rows, of the k-th score and of the order of lines, made one after the other
-pub early_tests : (q : Asked) (rows : List Named) (kth : Option ℤ) (es : List Entry)
+pub early_tests : (q : Asked) (rows : List Named) (kth : Option ℤ) (es : List Line)
     → option_or (option_or (first_failing (order_tests rows)) (first_failing (floor_test q rows kth ∷ [])))
     (first_failing (rising_tests es))
     ≡ first_failing (order_tests rows ++ floor_test q rows kth ∷ rising_tests es)
@@ -69,7 +69,7 @@ module _ (q : Asked) (r : Reported) (z : Certified) where
 
 -- ---- places
 
-module _ (q : Asked) (rows : List Named) (kth : Option ℤ) (es : List Entry) (o p r s t : Option HeadFault)
+module _ (q : Asked) (rows : List Named) (kth : Option ℤ) (es : List Line) (o p r s t : Option HeadFault)
     (order : o ≡ first_failing (order_tests rows)) (floor : p ≡ first_failing (floor_test q rows kth ∷ []))
     (rise : r ≡ first_failing (rising_tests es)) (both : s ≡ option_or o p) (all : t ≡ option_or s r) where
   -- the first of the early tests
@@ -80,7 +80,7 @@ module _ (q : Asked) (rows : List Named) (kth : Option ℤ) (es : List Entry) (o
   pub lines_rise : t ≡ None → IdsRise es
   lines_rise e =
       let none : r ≡ None = none_behind s r (ap is_some (sym all ∙ e)) in
-      all_pass (λ (two : Entry × Entry). stands_before two.0.id two.1.id) NotRising 5 (neighbours es) (sym rise ∙ none)
+      all_pass (λ (two : Line × Line). stands_before two.0.id two.1.id) NotRising 5 (neighbours es) (sym rise ∙ none)
 
 -- ---- the head
 
@@ -91,7 +91,7 @@ in_turn : (order rising scanned counts : List HeadTest) (floor : HeadTest)
 in_turn order rising scanned counts floor = simp append_assoc
 
 module _ (q : Asked) (r : Reported) (z : Certified) (report : same_query r.query q ≡ true)
-    (certificate : same_query z.query q ≡ true) (rows : List Row) (lines : List Entry) (counts : List ℕ)
+    (certificate : same_query z.query q ≡ true) (rows : List Row) (lines : List Line) (counts : List ℕ)
     (rows_are : map named_in rows ≡ r.rows) (lines_are : lines ≡ z.entries) (counts_are : counts ≡ z.counts)
     (seen : Option HeadFault) (places : seen ≡ first_failing (order_tests (map named_in rows)
     ++ floor_test q (map named_in rows) z.kth ∷ rising_tests lines)) where

@@ -8,7 +8,7 @@ use Rattle.rank_query.specs.Meaning.Asked.{Asked}
 use Rattle.rank_query.specs.Asked.{top}
 use Rattle.rank_papers.specs.Report.{Named}
 use Rattle.rank_papers.specs.ReportLines.{Reported}
-use Rattle.rank_papers.specs.Certificate.{Entry, Certified}
+use Rattle.rank_papers.specs.Certificate.{Line, Certified}
 use Rattle.rank_head.specs.declared.fault.HeadFault.TheVariants.{OtherReportQuery, OtherCertificateQuery, OutOfOrder}
 use Rattle.rank_head.specs.declared.fault.HeadFault.TheVariants.{OtherFloor, NotRising, NotScanned, NotCounted}
 use Rattle.rank_head.specs.HeadTests.{head_fault}
@@ -22,7 +22,7 @@ abbrev row : List ℕ → ℤ → Named
 row id score = (record { id = record { 0 = id }; first = pos 18444; last = pos 18444; score = score }, codes "NAME")
 
 -- the line of a series
-abbrev line : Bool → List ℕ → ℤ → Entry
+abbrev line : Bool → List ℕ → ℤ → Line
 line skipped id bound = record { id = record { 0 = id }; bound = bound; skipped = skipped }
 
 -- the IDs of three stations
@@ -40,14 +40,14 @@ abbrev report : List Named → Reported
 report rows = record { query = ask 2; rows = rows }
 
 -- a certificate of them
-abbrev certificate : Option ℤ → List Entry → List ℕ → Certified
+abbrev certificate : Option ℤ → List Line → List ℕ → Certified
 certificate kth es counts = record { version = 2; query = ask 2; kth = kth; entries = es; counts = counts }
 
 -- two rows in order, and the lines of three series
 abbrev rows : List Named
 rows = row a (pos 311) ∷ row b (pos 305) ∷ []
 
-abbrev lines : List Entry
+abbrev lines : List Line
 lines = line false a (pos 311) ∷ line false b (pos 305) ∷ line true c (pos 300) ∷ []
 
 -- no error: with counts, of version 1 without, and if there are fewer rows than were asked for

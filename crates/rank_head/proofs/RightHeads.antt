@@ -9,7 +9,7 @@ use Rattle.rank_scores.specs.declared.candidate.Candidate.{Candidate}
 use Rattle.rank_scores.specs.Meaning.Order.{precedes}
 use Rattle.rank_papers.specs.Report.{Named}
 use Rattle.rank_papers.specs.ReportLines.{Reported, IsReported}
-use Rattle.rank_papers.specs.Certificate.{Certified, Entry, IsCertified, IsCount, AreCounts, kth_of_best, count_of, counts_of}
+use Rattle.rank_papers.specs.Certificate.{Certified, Line, IsCertified, IsCount, AreCounts, kth_of_best, count_of, counts_of}
 use Rattle.rank_papers.specs.Laws.{CertificatesAreRead}
 use Rattle.rank_papers.specs.Papers.{same_query, of_rows, neighbours}
 use Rattle.rank_papers.proofs.FirstFailing.{front_none, front_passed, none_of, none_of_both}
@@ -25,7 +25,7 @@ use Rattle.rank_head.proofs.FirstPlaces.{all_pass, none_refused}
 -- ---- counts
 
 -- numbers beside others that are the same are these
-same_numbers : (es : List Entry) (ns : List ℕ) (f : Entry → ℕ) → AllZip IsCount es ns
+same_numbers : (es : List Line) (ns : List ℕ) (f : Line → ℕ) → AllZip IsCount es ns
     → AllByRecursion (λ two. (two.0 == two.1) ≡ true) (zip ns (map f es)) → ns ≡ map f es
 same_numbers [] [] f k h = refl
 same_numbers [] (n ∷ ns) f k h = absurd k
@@ -94,7 +94,7 @@ module _ (certificates : CertificatesAreRead) (q : Asked) (r : Reported) (z : Ce
         order = all_pass (λ (two : Candidate × Candidate). precedes two.0 two.1) OutOfOrder 4
             (neighbours (of_rows r.rows)) order.0;
         kth = score_from z.kth (kth_of_best q.k (of_rows r.rows)) floor.0;
-        rise = all_pass (λ (two : Entry × Entry). stands_before two.0.id two.1.id) NotRising 5 (neighbours z.entries)
+        rise = all_pass (λ (two : Line × Line). stands_before two.0.id two.1.id) NotRising 5 (neighbours z.entries)
             floor.1;
         scanned = all_pass (λ (row : Named). is_scanned z.entries row.0.id) NotScanned 3 r.rows places.1;
         counts = counts_from r.rows z can_z.counts body.1;
@@ -105,7 +105,7 @@ module _ (certificates : CertificatesAreRead) (q : Asked) (r : Reported) (z : Ce
   right_passes h =
       let order = none_refused (λ (two : Candidate × Candidate). precedes two.0 two.1) OutOfOrder 4
       (neighbours (of_rows r.rows)) h.order in
-      let rise = none_refused (λ (two : Entry × Entry). stands_before two.0.id two.1.id) NotRising 5
+      let rise = none_refused (λ (two : Line × Line). stands_before two.0.id two.1.id) NotRising 5
       (neighbours z.entries) h.rise in
       let scanned = none_refused (λ (row : Named). is_scanned z.entries row.0.id) NotScanned 3 r.rows h.scanned in
       let kth = score_to z.kth (kth_of_best q.k (of_rows r.rows)) h.kth in

@@ -16,7 +16,7 @@ use Rattle.ghcn_files.specs.Meaning.Ids.{same_id}
 use Rattle.ghcn_files.proofs.IdOrder as ids
 use Rattle.ghcn_files.proofs.Ordered.{less}
 use Rattle.ghcn_files.proofs.IdLaws.{same_id-is}
-use Rattle.rank_papers.specs.Certificate.{Entry}
+use Rattle.rank_papers.specs.Certificate.{Line}
 use Rattle.rank_head.specs.HeadTests.{IdsRise, is_scanned}
 
 -- ---- the order of IDs
@@ -42,16 +42,16 @@ not_less o Greater e h = absurd cc
 -- ---- lines that rise
 
 -- the lines after the first rise too
-pub rise-behind : (e : Entry) (es : List Entry) → IdsRise (e ∷ es) → IdsRise es
+pub rise-behind : (e : Line) (es : List Line) → IdsRise (e ∷ es) → IdsRise es
 rise-behind e [] h = tt
 rise-behind e (f ∷ es) h = h.1
 
 -- each line of some has an ID after this one
-abbrev pub AreBehind : StationId → List Entry → Type 0
+abbrev pub AreBehind : StationId → List Line → Type 0
 AreBehind id es = AllByRecursion (λ f. by_bytes id f.id ≡ Less) es
 
 -- what comes before the first line of some that rise comes before all
-before_all : (id : StationId) (e : Entry) (es : List Entry) → by_bytes id e.id ≡ Less → IdsRise (e ∷ es)
+before_all : (id : StationId) (e : Line) (es : List Line) → by_bytes id e.id ≡ Less → IdsRise (e ∷ es)
     → AreBehind id (e ∷ es)
 before_all id e [] b h = (b, tt)
 before_all id e (f ∷ es) b h =
@@ -59,7 +59,7 @@ before_all id e (f ∷ es) b h =
     (b, before_all id f es next h.1)
 
 -- the lines after the first have IDs after its own
-pub behind_first : (e : Entry) (es : List Entry) → IdsRise (e ∷ es) → AreBehind e.id es
+pub behind_first : (e : Line) (es : List Line) → IdsRise (e ∷ es) → AreBehind e.id es
 behind_first e [] h = tt
 behind_first e (f ∷ es) h = before_all e.id f es (less (by_bytes e.id f.id) h.0) h.1
 
@@ -69,7 +69,7 @@ left_to_others true s r v f g = ap (λ (x : Bool). x || r) f ∙ g
 left_to_others false s r v f g = g
 
 -- so no line belongs to a station before all of them
-none_scanned : (id : StationId) (es : List Entry) → AreBehind id es → is_scanned es id ≡ false
+none_scanned : (id : StationId) (es : List Line) → AreBehind id es → is_scanned es id ≡ false
 none_scanned id [] h = refl
 none_scanned id (e ∷ es) h =
     let other : by_bytes e.id id ≡ Greater =
@@ -77,14 +77,14 @@ none_scanned id (e ∷ es) h =
     left_to_others (not e.skipped) _ _ _ (same_by e.id id Greater other) (none_scanned id es h.1)
 
 -- the line at a place is one of those that are after
-at_behind : (id : StationId) (es : List Entry) (i : ℕ) (d : Entry) → AreBehind id es → i < length es
+at_behind : (id : StationId) (es : List Line) (i : ℕ) (d : Line) → AreBehind id es → i < length es
     → by_bytes id (get_or es i d).id ≡ Less
 at_behind id [] i d h below = absurd (omega arith)
 at_behind id (e ∷ es) zero d h below = h.0
 at_behind id (e ∷ es) (suc i) d h below = at_behind id es i d h.1 (omega arith)
 
 -- if the line at a place belongs to a station, it says whether the station was scanned
-pub scanned_at : (id : StationId) (es : List Entry) (i : ℕ) (d : Entry) → IdsRise es → i < length es
+pub scanned_at : (id : StationId) (es : List Line) (i : ℕ) (d : Line) → IdsRise es → i < length es
     → by_bytes (get_or es i d).id id ≡ Equal → is_scanned es id ≡ not (get_or es i d).skipped
 scanned_at id [] i d h below e = absurd (omega arith)
 scanned_at id (x ∷ es) zero d h below e =
@@ -107,30 +107,30 @@ scanned_at id (x ∷ es) (suc i) d h below e =
 -- ---- if there is none
 
 -- no line of some belongs to a station
-abbrev AreOthers : StationId → List Entry → Type 0
-AreOthers id es = (k : ℕ) (d : Entry) → k < length es → same_id (get_or es k d).id id ≡ false
+abbrev AreOthers : StationId → List Line → Type 0
+AreOthers id es = (k : ℕ) (d : Line) → k < length es → same_id (get_or es k d).id id ≡ false
 
 -- then it wasn't scanned
-others_not_scanned : (id : StationId) (es : List Entry) → AreOthers id es → is_scanned es id ≡ false
+others_not_scanned : (id : StationId) (es : List Line) → AreOthers id es → is_scanned es id ≡ false
 others_not_scanned id [] h = refl
 others_not_scanned id (e ∷ es) h =
     left_to_others (not e.skipped) _ _ _ (h 0 e (omega arith))
     (others_not_scanned id es (λ k d below. h (suc k) d (omega arith)))
 
 -- a place between lines before a station and lines after it
-pub not_scanned : (id : StationId) (es : List Entry) (i : ℕ)
+pub not_scanned : (id : StationId) (es : List Line) (i : ℕ)
     → IsPartitionPoint (λ e. by_bytes e.id id ≡ Less) (λ e. by_bytes e.id id ≡ Greater) es i
     → is_scanned es id ≡ false
 not_scanned id es i h = others_not_scanned id es (λ k d below. by k d below (nat_lt k i) refl)
   where
-    by : (k : ℕ) (d : Entry) → k < length es → (b : Bool) → nat_lt k i ≡ b → same_id (get_or es k d).id id ≡ false
+    by : (k : ℕ) (d : Line) → k < length es → (b : Bool) → nat_lt k i ≡ b → same_id (get_or es k d).id id ≡ false
     by k d below true t = same_by (get_or es k d).id id Less (h.0 k d (omega arith) (ltb-true k i t))
     by k d below false t = same_by (get_or es k d).id id Greater (h.1 k d (ltb-false k i t) below)
 
 -- ---- lines in order
 
 -- lines that rise are in order by ID
-pub rise-sorted : (es : List Entry) → IdsRise es → IsSortedBy (λ a b. is_lt (by_bytes a.id b.id)) es
+pub rise-sorted : (es : List Line) → IdsRise es → IsSortedBy (λ a b. is_lt (by_bytes a.id b.id)) es
 rise-sorted [] h k d low high = absurd (omega arith)
 rise-sorted (e ∷ []) h k d low high = absurd (omega arith)
 rise-sorted (e ∷ f ∷ es) h zero d low high =
@@ -141,6 +141,6 @@ rise-sorted (e ∷ f ∷ es) h (suc k) d low high =
     simp unary_clauses turned
 
 -- so a search by ID finds its way
-pub searchable : (id : StationId) (es : List Entry) → IdsRise es
+pub searchable : (id : StationId) (es : List Line) → IdsRise es
     → IsNonDecreasingBy (λ e. ordering_index (by_bytes e.id id)) es
-searchable id es h = searchable_from_sorted bytes_total (λ (e : Entry). e.id) es id (rise-sorted es h)
+searchable id es h = searchable_from_sorted bytes_total (λ (e : Line). e.id) es id (rise-sorted es h)

@@ -13,7 +13,7 @@ use Rattle.ghcn_files.specs.Meaning.Ids.{same_id}
 use Rattle.rank_scores.specs.declared.candidate.Candidate.{Candidate}
 use Rattle.rank_papers.specs.declared.paper.Row.{Row}
 use Rattle.rank_papers.specs.ReportLines.{named_in}
-use Rattle.rank_papers.specs.Certificate.{Entry, count_of}
+use Rattle.rank_papers.specs.Certificate.{Line, count_of}
 use Rattle.rank_papers.specs.Papers.{of_rows}
 use Rattle.rank_head.specs.HeadTests.{IdsRise}
 use Rattle.rank_head.specs.Tallies.{hits, hit, IsOneMore}
@@ -24,15 +24,15 @@ use Rattle.rank_head.proofs.Scanned.{by_bytes, same_by, behind_first, rise-behin
 
 module _ (id : StationId) where
   -- a line that hits counts one
-  hit-one : (e : Entry) → hits id e ≡ true → hit id e ≡ 1
+  hit-one : (e : Line) → hits id e ≡ true → hit id e ≡ 1
   hit-one e h = ap (λ (b : Bool). cond b 1 0) h
 
   -- another counts none
-  hit-none : (e : Entry) → hits id e ≡ false → hit id e ≡ 0
+  hit-none : (e : Line) → hits id e ≡ false → hit id e ≡ 0
   hit-none e h = ap (λ (b : Bool). cond b 1 0) h
 
   -- if no line hits nothing is counted
-  none_more : (count : Entry → ℕ) (es : List Entry) → AllByRecursion (λ e. hits id e ≡ false) es
+  none_more : (count : Line → ℕ) (es : List Line) → AllByRecursion (λ e. hits id e ≡ false) es
       → map count es ≡ map (λ e. hit id e + count e) es
   none_more count [] h = refl
   none_more count (e ∷ es) h =
@@ -41,14 +41,14 @@ module _ (id : StationId) where
       ∙ ap (λ (ns : List ℕ). (hit id e + count e) ∷ ns) (none_more count es h.1)
 
   -- what misses everywhere misses at a place
-  miss_at : (es : List Entry) (i : ℕ) (d : Entry) → AllByRecursion (λ e. hits id e ≡ false) es → i < length es
+  miss_at : (es : List Line) (i : ℕ) (d : Line) → AllByRecursion (λ e. hits id e ≡ false) es → i < length es
       → hits id (get_or es i d) ≡ false
   miss_at [] i d h below = absurd (omega arith)
   miss_at (e ∷ es) zero d h below = h.0
   miss_at (e ∷ es) (suc i) d h below = miss_at es i d h.1 (omega arith)
 
   -- the first line misses if one after it hits
-  before_misses : (e : Entry) (es : List Entry) (i : ℕ) (d : Entry) → IdsRise (e ∷ es) → i < length es
+  before_misses : (e : Line) (es : List Line) (i : ℕ) (d : Line) → IdsRise (e ∷ es) → i < length es
       → hits id (get_or es i d) ≡ true → hits id e ≡ false
   before_misses e es i d up below h = by (hits id e) refl
     where
@@ -60,8 +60,8 @@ module _ (id : StationId) where
           absurd (let no : true ≡ false = sym h ∙ miss in cc)
 
   -- if the line at a place hits, one more is counted for it alone
-  pub one_more : (es : List Entry) (i : ℕ) (d : Entry) → IdsRise es → i < length es → hits id (get_or es i d) ≡ true
-      → (count : Entry → ℕ)
+  pub one_more : (es : List Line) (i : ℕ) (d : Line) → IdsRise es → i < length es → hits id (get_or es i d) ≡ true
+      → (count : Line → ℕ)
       → set (map count es) i (get_or (map count es) i 0 + 1) ≡ map (λ e. hit id e + count e) es
   one_more [] i d up below h count = absurd (omega arith)
   one_more (e ∷ es) zero d up below h count =
@@ -77,12 +77,12 @@ module _ (id : StationId) where
       (one_more es i d (rise-behind e es up) (omega arith) h count)
 
   -- a line of the station that wasn't skipped hits
-  pub hits_here : (e : Entry) → by_bytes e.id id ≡ Equal → e.skipped ≡ false → hits id e ≡ true
+  pub hits_here : (e : Line) → by_bytes e.id id ≡ Equal → e.skipped ≡ false → hits id e ≡ true
   hits_here e same scanned =
       ap (λ (b : Bool). not b && same_id e.id id) scanned ∙ same_by e.id id Equal same
 
   -- so that line's count is one more
-  pub line-counted : (es : List Entry) (old new : List ℕ) (i : ℕ) (d : Entry) → IdsRise es → i < length es
+  pub line-counted : (es : List Line) (old new : List ℕ) (i : ℕ) (d : Line) → IdsRise es → i < length es
       → by_bytes (get_or es i d).id id ≡ Equal → (get_or es i d).skipped ≡ false
       → new ≡ set old i (get_or old i 0 + 1) → IsOneMore id es old new
   line-counted es old new i d up below same scanned written count e =
@@ -93,13 +93,13 @@ module _ (id : StationId) where
 -- ---- all rows
 
 -- a row after others counts as one before them
-count-last : (d : Candidate) (ds : List Candidate) (e : Entry) → count_of (ds ++ d ∷ []) e ≡ hit d.id e + count_of ds e
+count-last : (d : Candidate) (ds : List Candidate) (e : Line) → count_of (ds ++ d ∷ []) e ≡ hit d.id e + count_of ds e
 count-last d [] e = count-more d [] e
 count-last d (c ∷ ds) e =
     omega (arith, count-more c (ds ++ d ∷ []) e, count-last d ds e, count-more c ds e)
 
 -- so it does for all lines
-counts-last : (d : Candidate) (ds : List Candidate) (es : List Entry)
+counts-last : (d : Candidate) (ds : List Candidate) (es : List Line)
     → map (λ e. hit d.id e + count_of ds e) es ≡ map (count_of (ds ++ d ∷ [])) es
 counts-last d ds [] = refl
 counts-last d ds (e ∷ es) =
@@ -107,7 +107,7 @@ counts-last d ds (e ∷ es) =
     ∙ ap (λ (ns : List ℕ). count_of (ds ++ d ∷ []) e ∷ ns) (counts-last d ds es)
 
 -- no row was counted
-pub none-counted : (es : List Entry) → replicate (length es) 0 ≡ map (count_of []) es
+pub none-counted : (es : List Line) → replicate (length es) 0 ≡ map (count_of []) es
 none-counted [] = refl
 none-counted (e ∷ es) =
     ap (λ (n : ℕ). n ∷ replicate (length es) 0) (sym (no_row e))
@@ -124,7 +124,7 @@ candidates-last [] row = refl
 candidates-last (r ∷ rows) row = ap (λ (cs : List Candidate). r.candidate ∷ cs) (candidates-last rows row)
 
 -- if the first rows were counted, and one more is, one more of the first is counted
-pub next-counted : (rows : List Row) (es : List Entry) (n : ℕ) (row : Row) (old new : List ℕ) → n < length rows
+pub next-counted : (rows : List Row) (es : List Line) (n : ℕ) (row : Row) (old new : List ℕ) → n < length rows
     → row ≡ get_or rows n row → old ≡ map (count_of (first_candidates n rows)) es
     → IsOneMore row.candidate.id es old new → new ≡ map (count_of (first_candidates (n + 1) rows)) es
 next-counted rows es n row old new below at e more =
@@ -139,7 +139,7 @@ next-counted rows es n row old new below at e more =
 -- ---- how many
 
 -- no more rows belong to a line's station than there are
-few_of : (ds : List Candidate) (e : Entry) → count_of ds e ≤ length ds
+few_of : (ds : List Candidate) (e : Line) → count_of ds e ≤ length ds
 few_of ds e = by e.skipped
   where
     by : (b : Bool) → cond b 0 (count_by (λ (c : Candidate). same_id c.id e.id) ds) ≤ length ds
@@ -147,7 +147,7 @@ few_of ds e = by e.skipped
     by false = count_by-le-length (λ (c : Candidate). same_id c.id e.id) ds
 
 -- so it is for the line at a place
-few_at : (ds : List Candidate) (es : List Entry) (k : ℕ) → get_or (map (count_of ds) es) k 0 ≤ length ds
+few_at : (ds : List Candidate) (es : List Line) (k : ℕ) → get_or (map (count_of ds) es) k 0 ≤ length ds
 few_at ds [] k = omega arith
 few_at ds (e ∷ es) zero = few_of ds e
 few_at ds (e ∷ es) (suc k) = few_at ds es k
@@ -159,7 +159,7 @@ few_first (suc n) [] = omega arith
 few_first (suc n) (row ∷ rows) = omega (arith, few_first n rows)
 
 -- so no count of theirs is greater
-pub few_counted : (n : ℕ) (rows : List Row) (es : List Entry) (counts : List ℕ)
+pub few_counted : (n : ℕ) (rows : List Row) (es : List Line) (counts : List ℕ)
     → counts ≡ map (count_of (first_candidates n rows)) es → (k : ℕ) → get_or counts k 0 ≤ n
 few_counted n rows es counts e k =
     rw e (omega (arith, few_at (first_candidates n rows) es k, few_first n rows))

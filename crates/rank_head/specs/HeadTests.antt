@@ -13,7 +13,7 @@ use Rattle.rank_scores.specs.Meaning.Order.{precedes}
 use Rattle.rank_papers.specs.Papers.{same_query, of_rows, neighbours}
 use Rattle.rank_papers.specs.Report.{Named}
 use Rattle.rank_papers.specs.ReportLines.{Reported}
-use Rattle.rank_papers.specs.Certificate.{Entry, Certified, kth_of_best, count_of}
+use Rattle.rank_papers.specs.Certificate.{Line, Certified, kth_of_best, count_of}
 use Rattle.rank_head.specs.declared.fault.HeadFault.{HeadFault}
 use Rattle.rank_head.specs.declared.fault.HeadFault.TheVariants.{OtherReportQuery, OtherCertificateQuery, OutOfOrder}
 use Rattle.rank_head.specs.declared.fault.HeadFault.TheVariants.{OtherFloor, NotRising, NotScanned, NotCounted}
@@ -46,23 +46,23 @@ abbrev pub stands_before : StationId → StationId → Bool
 stands_before a b = is_lt (slice_cmp nat_cmp a.0 b.0)
 
 -- the IDs of lines rise
-abbrev pub IdsRise : List Entry → Type 0
+abbrev pub IdsRise : List Line → Type 0
 IdsRise es = AllByRecursion (λ two. stands_before two.0.id two.1.id ≡ true) (neighbours es)
 
 -- the test of that; the second is line 5 of the certificate
-abbrev pub rising_tests : List Entry → List HeadTest
+abbrev pub rising_tests : List Line → List HeadTest
 rising_tests es = on_lines (λ two. stands_before two.0.id two.1.id) NotRising 5 (neighbours es)
 
 -- a line belongs to this station, and the series wasn't skipped
-abbrev pub is_scanned : List Entry → StationId → Bool
+abbrev pub is_scanned : List Line → StationId → Bool
 is_scanned es id = list_any (λ e. not e.skipped && same_id e.id id) es
 
 -- each row belongs to a series that was scanned; the first is line 3 of the report
-abbrev pub scanned_tests : List Entry → List Named → List HeadTest
+abbrev pub scanned_tests : List Line → List Named → List HeadTest
 scanned_tests es rows = on_lines (λ row. is_scanned es row.0.id) NotScanned 3 rows
 
 -- the order of rows, the k-th score, the order of lines, and the series of the rows
-abbrev pub place_tests : Asked → List Named → Option ℤ → List Entry → List HeadTest
+abbrev pub place_tests : Asked → List Named → Option ℤ → List Line → List HeadTest
 place_tests q rows kth es =
     order_tests rows ++ floor_test q rows kth ∷ rising_tests es ++ scanned_tests es rows
 
@@ -71,7 +71,7 @@ abbrev pub matching_tests : List ℕ → List ℕ → List HeadTest
 matching_tests counts wanted = on_lines (λ two. two.0 == two.1) NotCounted 4 (zip counts wanted)
 
 -- each count, if there are any, is the number of rows of its line's station
-abbrev pub count_tests : List Named → List Entry → List ℕ → List HeadTest
+abbrev pub count_tests : List Named → List Line → List ℕ → List HeadTest
 count_tests rows es counts = matching_tests counts (map (count_of (of_rows rows)) es)
 
 -- ---- the head

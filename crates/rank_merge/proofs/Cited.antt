@@ -44,13 +44,13 @@ pub use Rattle.rank_pool.proofs.Ranked.{best-first, in_order-descends, kth_score
 pub use Rattle.rank_pool.specs.First.{above, comes_first, first, in_order, kth}
 pub use Rattle.rank_papers.proofs.PlanLines.{sorted-zip}
 pub use Rattle.rank_papers.proofs.PlanPapers.{kth-best, some_asked}
-pub use Rattle.rank_papers.specs.Certificate.{Certified, Entry, IsCertificate, IsCertificateOf, IsCount, IsEntry}
+pub use Rattle.rank_papers.specs.Certificate.{Certified, Line, IsFoundCertificate, IsCertificateOf, IsCount, IsEntry}
 pub use Rattle.rank_papers.specs.Certificate.{IsRightEntry, SaysRightCertificate, certificate_text, count_of, counts_of}
 pub use Rattle.rank_papers.specs.Certificate.{kth_of_best}
 pub use Rattle.rank_papers.specs.CertificateLines.{read_certificate}
 pub use Rattle.rank_papers.specs.Meaning.Report.{report_text}
 pub use Rattle.rank_papers.specs.Papers.{of_both, of_rows}
-pub use Rattle.rank_papers.specs.Report.{IsReport, Named, with_stations}
+pub use Rattle.rank_papers.specs.Report.{IsFoundReport, Named, with_stations}
 pub use Rattle.rank_papers.specs.ReportLines.{IsReportOf, IsRow, Reported, SaysRightReport, name_of, named_in}
 pub use Rattle.rank_papers.specs.declared.paper.Row.{Row}
 pub use Rattle.rank_head.proofs.FirstPlaces.{behind_first}

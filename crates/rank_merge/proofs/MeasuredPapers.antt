@@ -5,7 +5,7 @@ use Rattle.rank_merge.proofs.Cited.{arith, ℕ, ℤ, nat_le, IfSome, FitsSigned,
 use Rattle.rank_merge.proofs.Cited.{length-take, count_by-le-length, sorted_by, Station, Usable, Contents, IsContents}
 use Rattle.rank_merge.proofs.Cited.{Asked, IsAsked, series_first, Filed, IsDataOf, CutByFiles, MorselsOfParts}
 use Rattle.rank_merge.proofs.Cited.{all_candidates, morsels, id_comes_first, best_of_query, kth_of_query, Candidate}
-use Rattle.rank_merge.proofs.Cited.{in_order, Entry, Certified, IsEntry, IsCount, IsRightEntry, count_of, counts_of}
+use Rattle.rank_merge.proofs.Cited.{in_order, Line, Certified, IsEntry, IsCount, IsRightEntry, count_of, counts_of}
 use Rattle.rank_merge.proofs.Cited.{read_certificate, sorted-zip, entries_of_parts, merged_entries, IsMeasuredPart}
 use Rattle.rank_merge.proofs.Cited.{MergedAreMeasured, all_texts, merge, ints, zip-weaker, w64}
 use Rattle.std.proofs.lemmas.Bool.{and_parts}
@@ -18,12 +18,12 @@ use Rattle.rank_merge.proofs.MergedTexts.{Known, all, is_certificate, same_data}
 
 module _ (q : Asked) where
   -- a line has the ID and the bound of a series
-  abbrev pub IsMeasuredEntry : Entry → Usable → Type 0
+  abbrev pub IsMeasuredEntry : Line → Usable → Type 0
   IsMeasuredEntry e u = (e.id ≡ u.id) × (e.bound ≡ bound q u)
 
   -- right lines whose bounds are those of the series
-  zip_measured : (kth : Option ℤ) (es : List Entry) (us : List Usable) → AllZip (IsRightEntry q kth) es us
-      → map (λ (e : Entry). e.bound) es ≡ map (bound q) us → AllZip IsMeasuredEntry es us
+  zip_measured : (kth : Option ℤ) (es : List Line) (us : List Usable) → AllZip (IsRightEntry q kth) es us
+      → map (λ (e : Line). e.bound) es ≡ map (bound q) us → AllZip IsMeasuredEntry es us
   zip_measured kth [] [] h e = tt
   zip_measured kth [] (u ∷ us) h e = absurd h
   zip_measured kth (x ∷ es) [] h e = absurd h
@@ -32,7 +32,7 @@ module _ (q : Asked) where
   -- ---- what is read of a measured certificate
 
   -- entries of the same series can be alike
-  each_can : (kth : Option ℤ) (es fs : List Entry) (us : List Usable) → AllZip (IsRightEntry q kth) es us
+  each_can : (kth : Option ℤ) (es fs : List Line) (us : List Usable) → AllZip (IsRightEntry q kth) es us
       → AllZip (IsRightEntry q kth) fs us → AllByRecursion IsEntry fs → AllByRecursion IsEntry es
   each_can kth [] fs us h k can = tt
   each_can kth (x ∷ es) fs [] h k can = absurd h
@@ -40,11 +40,11 @@ module _ (q : Asked) where
   each_can kth (x ∷ es) (y ∷ fs) (u ∷ us) h k can = grind (arith, ints, each_can kth es fs us h.1 k.1 can.1)
 
   -- of few candidates few belong to one station, and none is counted if its series was skipped
-  one_count : (best : List Candidate) (x : Entry) → length best ≤ 1000 → IsCount x (count_of best x)
+  one_count : (best : List Candidate) (x : Line) → length best ≤ 1000 → IsCount x (count_of best x)
   one_count best x few = grind (arith, ints, count_by-le-length)
 
   -- so it is with all counts
-  all_counts : (best : List Candidate) (es : List Entry) → length best ≤ 1000
+  all_counts : (best : List Candidate) (es : List Line) → length best ≤ 1000
       → AllZip IsCount es (map (count_of best) es)
   all_counts best [] few = tt
   all_counts best (x ∷ es) few = (one_count best x few, all_counts best es few)
@@ -59,7 +59,7 @@ module _ (q : Asked) where
   module _ (known : Known) (asked : IsAsked q) where
     -- the certificate itself is read
     measured_read : (c : Contents) (bytes : List ℕ) → IsContents c → IsMeasuredCertificate q c bytes → (z : Certified)
-        → read_certificate bytes ≡ Ok z → map (λ (e : Entry). e.bound) z.entries ≡ map (bound q) (morsels q c)
+        → read_certificate bytes ≡ Ok z → map (λ (e : Line). e.bound) z.entries ≡ map (bound q) (morsels q c)
     measured_read c bytes right h z e =
         let v = (known.right_certificates q c bytes asked right).0 h.certificate in
         let said : Certified = record {
@@ -85,7 +85,7 @@ module _ (q : Asked) where
           text = h.certificate.text;
         }) in
         let same : z ≡ said = cc in
-        ap (λ (w : Certified). map (λ (x : Entry). x.bound) w.entries) same ∙ h.bounds
+        ap (λ (w : Certified). map (λ (x : Line). x.bound) w.entries) same ∙ h.bounds
 
     -- the lines of all parts
     measured_parts : (stations : List Station) (parts : List Filed) (ws : List WithData)
@@ -112,7 +112,7 @@ merged_measured known cut morsels_of q texts papers asked merged list stations p
     let data_are = zip-weaker (IsMeasuredPart q stations) (IsDataOf stations) parts ds (λ p d h. h.0) measured in
     let one = same_data stations parts (data_of_parts found.read) ds found.data_are data_are in
     let us : List Usable = flat_map (morsels q) (data_of_parts found.read) in
-    let lines = sorted-zip (IsMeasuredEntry q) (λ (a b : Entry). id_comes_first a.id b.id) series_first
+    let lines = sorted-zip (IsMeasuredEntry q) (λ (a b : Line). id_comes_first a.id b.id) series_first
     (λ a x b y r t. ap₂ id_comes_first r.0 t.0) (entries_of_parts (parts_alone found.read)) us
     (measured_parts q known asked stations parts found.read found.right found.certificates_are
     (subst (AllZip (IsMeasuredPart q stations) parts) (sym one) measured)) in
@@ -122,7 +122,7 @@ merged_measured known cut morsels_of q texts papers asked merged list stations p
     record {
       certificate = z.0;
       version = z.1;
-      bounds = ap (λ (es : List Entry). map (λ (e : Entry). e.bound) es) z.2
+      bounds = ap (λ (es : List Line). map (λ (e : Line). e.bound) es) z.2
           ∙ zip-same (IsMeasuredEntry q) (λ e. e.bound) (bound q) (λ e u r. r.1)
           (merged_entries (parts_alone found.read)) (sorted_by series_first us) lines
           ∙ ap (map (bound q)) (sym series);

@@ -6,7 +6,7 @@ use Rattle.rank_merge.proofs.Cited.{Contents, IsContents, each-append, zip-weake
 use Rattle.rank_merge.proofs.Cited.{bound_is_below, IsSameFor, series_first, all_candidates, morsels, id_comes_first}
 use Rattle.rank_merge.proofs.Cited.{best_of_query, kth_of_query, all_apart, first, kth, above, comes_first}
 use Rattle.rank_merge.proofs.Cited.{above-append, below_kth, best-first, kth_score-kth, Named, SaysRightReport, name_of}
-use Rattle.rank_merge.proofs.Cited.{Entry, IsRightEntry, SaysRightCertificate, kth_of_best, counts_of, sorted-zip}
+use Rattle.rank_merge.proofs.Cited.{Line, IsRightEntry, SaysRightCertificate, kth_of_best, counts_of, sorted-zip}
 use Rattle.rank_merge.proofs.Cited.{kth-best, some_asked, of_rows, Part, rows_of, entries_of_parts, rows_in_order}
 use Rattle.rank_merge.proofs.Cited.{merged_rows, merged_entries, merged_report, merged_certificate, take-all}
 use Rattle.rank_merge.proofs.Cited.{sorted-all, ints}
@@ -38,7 +38,7 @@ parts_alone ps = map (λ p. p.1) ps
 -- ---- what is the same of parts and of the whole
 
 -- right entries of series are right entries of other series that are the same for the query
-zip_moved : (q : Asked) (kth : Option ℤ) (es : List Entry) (us vs : List Usable) → AllZip (IsRightEntry q kth) es us
+zip_moved : (q : Asked) (kth : Option ℤ) (es : List Line) (us vs : List Usable) → AllZip (IsRightEntry q kth) es us
     → AllZip (IsSameFor q) us vs → AllZip (IsRightEntry q kth) es vs
 zip_moved q kth [] [] [] h k = tt
 zip_moved q kth [] [] (v ∷ vs) h k = absurd k
@@ -112,7 +112,7 @@ module _ (q : Asked) (c : Contents) (asked : IsAsked q) (right : IsContents c) (
   merged_entries_right =
       let us : List Usable = flat_map (morsels q) (data_of_parts ps) in
       zip_moved q kth_all (merged_entries (parts_alone ps)) (sorted_by series_first us) (morsels q c)
-      (sorted-zip (IsRightEntry q kth_all) (λ (a b : Entry). id_comes_first a.id b.id) series_first
+      (sorted-zip (IsRightEntry q kth_all) (λ (a b : Line). id_comes_first a.id b.id) series_first
       (λ a x b y r t. ap₂ id_comes_first r.named t.named) (entries_of_parts (parts_alone ps)) us
       (entries_right ps parts (λ b. omega (
         arith,

@@ -4,8 +4,8 @@ use Rattle.rank_merge.proofs.Cited.{Ok, Err, refl, sym, ap, ◌∙◌, subst, ar
 use Rattle.rank_merge.proofs.Cited.{AllZip, find, cons_option, le-leb, length-take, map-append, IsPermutation}
 use Rattle.rank_merge.proofs.Cited.{IsPermutation-sym, IsPermutation-map, IsRefusal, OrMemory, Station, StationId}
 use Rattle.rank_merge.proofs.Cited.{same_id, same_id-turned, Contents, IsContents, each-append, Asked, IsAsked, Filed}
-use Rattle.rank_merge.proofs.Cited.{IsDataOf, morsel_ids, CutByFiles, id_comes_first, IsReport, report_text}
-use Rattle.rank_merge.proofs.Cited.{with_stations, IsReportOf, IsRow, SaysRightReport, Reported, Entry, IsCertificate}
+use Rattle.rank_merge.proofs.Cited.{IsDataOf, morsel_ids, CutByFiles, id_comes_first, IsFoundReport, report_text}
+use Rattle.rank_merge.proofs.Cited.{with_stations, IsReportOf, IsRow, SaysRightReport, Reported, Line, IsFoundCertificate}
 use Rattle.rank_merge.proofs.Cited.{SaysRightCertificate, certificate_text, Certified, IsCertificateOf}
 use Rattle.rank_merge.proofs.Cited.{read_certificate, HeadsAreRight, MergeFault, Part, rows_of, entries_of_parts}
 use Rattle.rank_merge.proofs.Cited.{rows_in_order, merged_entries, merged_report, merged_certificate, Texts, part_of}
@@ -81,15 +81,15 @@ module _ (known : Known) (q : Asked) (asked : IsAsked q) (list : List ℕ) (stat
 -- ---- no ID twice
 
 -- the IDs of lines
-abbrev ids_of : List Entry → List StationId
-ids_of es = map (λ (e : Entry). e.id) es
+abbrev ids_of : List Line → List StationId
+ids_of es = map (λ (e : Line). e.id) es
 
 -- if there is no result, the test fails, and there is no other result
 none_of : (b : Bool) (i : StationId) (o : Option StationId) → cond b (Some i) o ≡ None → (b ≡ false) × (o ≡ None)
 none_of b i o e = grind arith
 
 -- no later line has the ID
-none_behind : (i : StationId) (es : List Entry)
+none_behind : (i : StationId) (es : List Line)
     → (list_any (λ f. same_id i f.id) es ≡ false) ↔ AllByRecursion (λ j. same_id i j ≡ false) (ids_of es)
 none_behind i [] = (λ h. tt, λ h. refl)
 none_behind i (f ∷ es) = (
@@ -98,7 +98,7 @@ none_behind i (f ∷ es) = (
 )
 
 -- no ID is found twice if and only if no two are the same
-once_apart : (es : List Entry) → (twice es ≡ None) ↔ IsDistinct same_id (ids_of es)
+once_apart : (es : List Line) → (twice es ≡ None) ↔ IsDistinct same_id (ids_of es)
 unfolding IsDistinct
 once_apart [] = (λ h. tt, λ d. refl)
 once_apart (e ∷ es) = (
@@ -117,12 +117,12 @@ part_ids q (w ∷ ws) h = grind (arith, ints, map-append, parts_alone ws, zip-sa
 parts_apart : (q : Asked) (ws : List WithData) → AllByRecursion (IsRightPart q) ws
     → (twice (merged_entries (parts_alone ws)) ≡ None) ↔ IsDistinct same_id (morsel_ids q (data_of_parts ws))
 parts_apart q ws right =
-    let lines : List Entry = entries_of_parts (parts_alone ws) in
+    let lines : List Line = entries_of_parts (parts_alone ws) in
     let apart = once_apart (merged_entries (parts_alone ws)) in
     let moved : IsPermutation (morsel_ids q (data_of_parts ws)) (ids_of (merged_entries (parts_alone ws))) =
     subst (λ (l : List StationId). IsPermutation l (ids_of (merged_entries (parts_alone ws)))) (part_ids q ws right)
-    (IsPermutation-map (λ (x : Entry). x.id) lines (merged_entries (parts_alone ws))
-    (ordered.sorted-permutation (λ (a b : Entry). id_comes_first a.id b.id) lines)) in (
+    (IsPermutation-map (λ (x : Line). x.id) lines (merged_entries (parts_alone ws))
+    (ordered.sorted-permutation (λ (a b : Line). id_comes_first a.id b.id) lines)) in (
       λ once. IsDistinct-IsPermutation same_id same_id-turned _ _ (IsPermutation-sym _ _ moved) (apart.0 once),
       λ d. apart.1 (IsDistinct-IsPermutation same_id same_id-turned _ _ moved d),
     )
@@ -140,7 +140,7 @@ rows_are stations (x ∷ xs) h =
     (with_stations stations (map (λ row. row.0) xs))) h.0)
 
 -- so two right reports are the same
-pub one_report : (q : Asked) (c : Contents) (a b : List ℕ) → IsReport q c a → IsReport q c b → a ≡ b
+pub one_report : (q : Asked) (c : Contents) (a b : List ℕ) → IsFoundReport q c a → IsFoundReport q c b → a ≡ b
 one_report q c a b h k =
     let same : h.rows ≡ k.rows = rows_are c.stations h.rows h.listed
     ∙ ap (with_stations c.stations) (h.best ∙ sym k.best) ∙ sym (rows_are c.stations k.rows k.listed) in
@@ -186,11 +186,11 @@ module _ (known : Known) (cut : CutByFiles) (q : Asked) (list : List ℕ) (stati
       grind (arith, ints, length-take q.k (rows_in_order (rows_of whole)), le-leb, take-all, sorted-all, all, told)
 
   -- the report is right
-  pub is_report : IsReport q dataset papers.0
+  pub is_report : IsFoundReport q dataset papers.0
   is_report = (known.right_reports q dataset papers.0 asked contents).1 (merged_report q whole, is_text, say.0)
 
   -- and the certificate is, which has the merged lines
-  pub is_certificate : (z : IsCertificate q dataset papers.1) × (z.version ≡ 2) × (z.entries ≡ merged_entries whole)
+  pub is_certificate : (z : IsFoundCertificate q dataset papers.1) × (z.version ≡ 2) × (z.entries ≡ merged_entries whole)
   is_certificate = (
     record {
       version = 2;

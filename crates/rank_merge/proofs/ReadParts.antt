@@ -2,7 +2,7 @@
 use Rattle.rank_merge.proofs.Cited.{◌≡◌, ℕ, suc, ◌+◌, ◌<◌, List, [], ◌∷◌, ◌++◌, length, map, Result, Ok, Err, Bool}
 use Rattle.rank_merge.proofs.Cited.{true, false, take, drop, get_or, refl, ap, ◌∙◌, arith, ap₂, map-append, length-map}
 use Rattle.rank_merge.proofs.Cited.{length-take, map_more, drop_more, take-append-drop, flat_map_more, IsRefusal, Asked}
-use Rattle.rank_merge.proofs.Cited.{named_in, Entry, MergeFault, Part, rows_of, first_rows, Texts, part_of, and_parts}
+use Rattle.rank_merge.proofs.Cited.{named_in, Line, MergeFault, Part, rows_of, first_rows, Texts, part_of, and_parts}
 use Rattle.rank_merge.proofs.Cited.{parts_from, is_memory, AreOfParts, IsFloor, part_in, ints}
 use Rattle.std.specs.Bool.{OnFalse}
 use Rattle.rank_merge.specs.declared.gathering.Gathered.{Gathered}
@@ -86,7 +86,7 @@ module _ {X : Type 0} (q : Asked) (f : X → Texts) (xs : List X) (i : ℕ) (d :
             ∙ same_firsts named_cmp named_total q.k (map named_in old.rows.items) (rows_of h.parts) p.report.rows h.rows
             ∙ ap (first_rows q.k) (flat_map_more (λ (x : Part). x.report.rows) [] h.parts p);
         floor = floor;
-        lines = lines ∙ ap (λ (l : List Entry). l ++ p.certificate.entries) h.lines
+        lines = lines ∙ ap (λ (l : List Line). l ++ p.certificate.entries) h.lines
             ∙ flat_map_more (λ (x : Part). x.certificate.entries) [] h.parts p;
       }
 

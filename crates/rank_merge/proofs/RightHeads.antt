@@ -4,7 +4,7 @@ use Rattle.rank_merge.proofs.Cited.{Option, Some, None, refl, sym, ap, ◌∙◌
 use Rattle.rank_merge.proofs.Cited.{int_lt, AllByRecursion, AllZip, ints, Descend, same_id-laws, Usable, Contents}
 use Rattle.rank_merge.proofs.Cited.{IsContents, Asked, IsAsked, Candidate, series_first, precedes, bound_is_below}
 use Rattle.rank_merge.proofs.Cited.{admitted_series, has_admitted, morsels, all_candidates, best_of_query, kth_of_query}
-use Rattle.rank_merge.proofs.Cited.{Named, Entry, IsRightEntry, Certified, SaysRightCertificate, kth_of_best, counts_of}
+use Rattle.rank_merge.proofs.Cited.{Named, Line, IsRightEntry, Certified, SaysRightCertificate, kth_of_best, counts_of}
 use Rattle.rank_merge.proofs.Cited.{of_rows, IsRightHead, take-all, sorted-all, all_apart, candidates-own, morsels_rise}
 use Rattle.rank_merge.proofs.Cited.{in_order, kth, first, in_order-descends, best-first, kth_score-kth, Reported}
 use Rattle.rank_merge.proofs.Cited.{SaysRightReport, kth-best, some_asked, NoneAbove, ScoresFall, in_order-falls}
@@ -46,7 +46,7 @@ first_not_below (suc j) xs cs o e f = rw (e, f) (none_below (in_order xs) j (in_
 -- ---- morsels by rising ID
 
 -- entries rise that name series of which each has an ID below those of all after it
-entries_rise : (q : Asked) (kth : Option ℤ) (es : List Entry) (us : List Usable) → AllZip (IsRightEntry q kth) es us
+entries_rise : (q : Asked) (kth : Option ℤ) (es : List Line) (us : List Usable) → AllZip (IsRightEntry q kth) es us
     → Descend (λ a b. stands_before a.id b.id ≡ true) us → IdsRise es
 entries_rise q kth [] us h k = tt
 entries_rise q kth (e ∷ []) us h k = tt
@@ -58,15 +58,15 @@ entries_rise q kth (e ∷ f ∷ es) (u ∷ v ∷ us) h k =
 -- ---- lines that were scanned
 
 -- a line that isn't a skip scans its own station
-scanned_own : (f e : Entry) (es : List Entry) → f ≡ e → e.skipped ≡ false → is_scanned (f ∷ es) e.id ≡ true
+scanned_own : (f e : Line) (es : List Line) → f ≡ e → e.skipped ≡ false → is_scanned (f ∷ es) e.id ≡ true
 scanned_own f e es same h = let own = same_id-laws.refl e.id in rw same (grind arith)
 
 -- each line that isn't a skip, among all
-abbrev Scans : List Entry → Entry → Type 0
+abbrev Scans : List Line → Line → Type 0
 Scans all e = e.skipped ≡ false → is_scanned all e.id ≡ true
 
 -- so does each of a list
-scans : (es : List Entry) (e : Entry) → In es e → e.skipped ≡ false → is_scanned es e.id ≡ true
+scans : (es : List Line) (e : Line) → In es e → e.skipped ≡ false → is_scanned es e.id ≡ true
 scans [] e there h = absurd there
 scans (f ∷ es) e (inl same) h = scanned_own f e es same h
 scans (f ∷ es) e (inr there) h = let behind = scans es e there h in grind arith
@@ -78,13 +78,13 @@ below_kth : (k : Option ℤ) (a b : ℤ) → a ≤ℤ b → bound_is_below k b �
 below_kth None a b h e = absurd cc
 below_kth (Some s) a b h e = grind (arith, ints)
 
-module _ (q : Asked) (k : Option ℤ) (all : List Entry) where
+module _ (q : Asked) (k : Option ℤ) (all : List Line) where
   -- a candidate belongs to a series that was scanned, or scores below the k-th
   abbrev IsSeen : Candidate → Type 0
   IsSeen d = (is_scanned all d.id ≡ true) ⊎ (bound_is_below k d.score ≡ true)
 
   -- so it is with one of an ID, if a line of it is right
-  seen : (e : Entry) (d : Candidate) → Scans all e → (e.skipped ≡ true → bound_is_below k e.bound ≡ true)
+  seen : (e : Line) (d : Candidate) → Scans all e → (e.skipped ≡ true → bound_is_below k e.bound ≡ true)
       → d.id ≡ e.id → d.score ≤ℤ e.bound → IsSeen d
   seen e d scanned passed own above = elim (e.skipped) as (λ b. e.skipped ≡ b → IsSeen d) [
     | true ↦ λ s. inr (below_kth k d.score e.bound above (passed s))
@@ -96,7 +96,7 @@ module _ (q : Asked) (k : Option ℤ) (all : List Entry) where
   AllSeen u = AllByRecursion IsSeen (candidates q u)
 
   -- so it is with all series of right lines
-  seen_morsels : (es : List Entry) (us : List Usable) → AllZip (IsRightEntry q k) es us → AllByRecursion (Scans all) es
+  seen_morsels : (es : List Line) (us : List Usable) → AllZip (IsRightEntry q k) es us → AllByRecursion (Scans all) es
       → AllByRecursion AllSeen us
   seen_morsels es [] h s = tt
   seen_morsels [] (u ∷ us) h s = absurd h
@@ -121,7 +121,7 @@ module _ (q : Asked) (c : Contents) (asked : IsAsked q) (right : IsContents c) w
   best_are = best-first q.k (all_candidates q c) (all_apart q c right)
 
   -- the first candidates are seen by lines that are right, since all are
-  first_seen : (es : List Entry) (cs : List Candidate) → AllZip (IsRightEntry q (kth_of_query q c)) es (morsels q c)
+  first_seen : (es : List Line) (cs : List Candidate) → AllZip (IsRightEntry q (kth_of_query q c)) es (morsels q c)
       → cs ≡ first q.k (all_candidates q c) → AllByRecursion (IsSeen q (kth_of_query q c) es) cs
   first_seen es cs h e =
       let Seen : Candidate → Type 0 = IsSeen q (kth_of_query q c) es in

@@ -9,8 +9,8 @@ use Rattle.ghcn_series.specs.Series.{Contents}
 use Rattle.ghcn_series.specs.Says.{data_of}
 use Rattle.rank_query.specs.Meaning.Asked.{Asked, IsAsked}
 use Rattle.rank_scores.specs.Cut.{Filed, IsDataOf, morsel_ids, series_ids}
-use Rattle.rank_papers.specs.Report.{IsReport}
-use Rattle.rank_papers.specs.Certificate.{IsCertificate}
+use Rattle.rank_papers.specs.Report.{IsFoundReport}
+use Rattle.rank_papers.specs.Certificate.{IsFoundCertificate}
 use Rattle.rank_papers.specs.PlanPapers.{IsMeasuredCertificate}
 use Rattle.rank_merge.specs.declared.fault.MergeFault.{MergeFault}
 use Rattle.rank_merge.specs.declared.fault.MergeFault.TheVariants.{Twice}
@@ -32,8 +32,8 @@ all_texts parts = map (λ p. p.1) parts
 pub record ArePapersOf (q : Asked) (stations : List Station) (files : List (List ℕ)) (texts : Texts) : Type 0 where
   pub dataset : Contents
   pub read : data_of stations files ≡ Ok dataset
-  pub report : IsReport q dataset texts.0
-  pub certificate : IsCertificate q dataset texts.1
+  pub report : IsFoundReport q dataset texts.0
+  pub certificate : IsFoundCertificate q dataset texts.1
 
 -- the report and the certificate of each part are right for its files
 abbrev pub AreAllParts : Asked → List Station → List Filed → Type 0
@@ -41,7 +41,7 @@ AreAllParts q stations parts = AllByRecursion (λ p. ArePapersOf q stations p.0 
 
 -- the text is the right report, and there is no other
 abbrev pub IsOneReport : Asked → Contents → List ℕ → Type 0
-IsOneReport q c text = IsReport q c text × ((other : List ℕ) → IsReport q c other → other ≡ text)
+IsOneReport q c text = IsFoundReport q c text × ((other : List ℕ) → IsFoundReport q c other → other ≡ text)
 
 -- a report and a certificate, merged from the texts of parts, are right for all files if those of each part are right
 -- for its files, with one station list, and neither this list nor all files together have an error
@@ -49,7 +49,7 @@ abbrev pub AreRightForAll : Asked → List Texts → Texts → Type 0
 AreRightForAll q texts papers = (list : List ℕ) (stations : List Station) (parts : List Filed) (dataset : Contents)
     → listed list ≡ Ok stations → all_texts parts ≡ texts → AreAllParts q stations parts
     → data_of stations (all_files parts) ≡ Ok dataset
-    → IsOneReport q dataset papers.0 × IsCertificate q dataset papers.1
+    → IsOneReport q dataset papers.0 × IsFoundCertificate q dataset papers.1
 
 -- a merged report and a merged certificate are right for all files
 abbrev pub MergedAreRight : Type 0

@@ -7,7 +7,7 @@ use Rattle.rank_scores.specs.Morsels.{id_comes_first}
 use Rattle.rank_pool.specs.First.{comes_first}
 use Rattle.rank_papers.specs.Report.{Named}
 use Rattle.rank_papers.specs.ReportLines.{Reported}
-use Rattle.rank_papers.specs.Certificate.{Entry, Certified, kth_of_best, counts_of}
+use Rattle.rank_papers.specs.Certificate.{Line, Certified, kth_of_best, counts_of}
 use Rattle.rank_papers.specs.Papers.{of_rows}
 
 -- ---- what parts say
@@ -22,7 +22,7 @@ abbrev pub rows_of : List Part → List Named
 rows_of ps = flat_map (λ p. p.report.rows) ps
 
 -- the lines of all parts, one part after the other
-abbrev pub entries_of_parts : List Part → List Entry
+abbrev pub entries_of_parts : List Part → List Line
 entries_of_parts ps = flat_map (λ p. p.certificate.entries) ps
 
 -- ---- in order
@@ -36,7 +36,7 @@ abbrev pub first_rows : ℕ → List Named → List Named
 first_rows k rows = take k (rows_in_order rows)
 
 -- lines by increasing ID
-abbrev pub by_id : List Entry → List Entry
+abbrev pub by_id : List Line → List Line
 by_id es = sorted_by (λ a b. id_comes_first a.id b.id) es
 
 -- ---- the report and the certificate of all
@@ -46,7 +46,7 @@ abbrev pub merged_rows : ℕ → List Part → List Named
 merged_rows k ps = first_rows k (rows_of ps)
 
 -- the lines of all parts by increasing ID, each with its own bound; a skip stays a skip
-abbrev pub merged_entries : List Part → List Entry
+abbrev pub merged_entries : List Part → List Line
 merged_entries ps = by_id (entries_of_parts ps)
 
 -- what the report of all says

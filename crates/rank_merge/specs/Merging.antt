@@ -10,7 +10,7 @@ use Rattle.rank_papers.specs.declared.fault.Paper.{Paper}
 use Rattle.rank_papers.specs.declared.fault.Paper.TheVariants.{Report, Certificate}
 use Rattle.rank_papers.specs.Papers.{read_papers}
 use Rattle.rank_papers.specs.ReportLines.{Reported}
-use Rattle.rank_papers.specs.Certificate.{Entry, Certified, certificate_text}
+use Rattle.rank_papers.specs.Certificate.{Line, Certified, certificate_text}
 use Rattle.rank_head.specs.declared.fault.HeadFault.{HeadFault}
 use Rattle.rank_head.specs.declared.fault.HeadFault.TheVariants as head
 use Rattle.rank_head.specs.HeadTests.{head_fault}
@@ -70,7 +70,7 @@ parts_from q part [] = Ok []
 parts_from q part (t ∷ ts) = and_parts (part_of q part t) (parts_from q (suc part) ts)
 
 -- the first ID of some lines that a later line has too
-abbrev pub twice : List Entry → Option StationId
+abbrev pub twice : List Line → Option StationId
 twice [] = None
 twice (e ∷ es) = if list_any (λ f. same_id e.id f.id) es then Some e.id else twice es
 

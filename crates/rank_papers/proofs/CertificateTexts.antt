@@ -20,7 +20,7 @@ use Rattle.rank_papers.specs.declared.counted.Counted.{Counted}
 use Rattle.rank_papers.specs.Meaning.Report.{text_line, query_line}
 use Rattle.rank_papers.specs.ReportLines.{first_word}
 use Rattle.rank_papers.specs.Meaning.Certificate.{title_line, kth_line, has_count, entry_line, end_line}
-use Rattle.rank_papers.specs.Certificate.{Entry, Certified, counted, certificate_text, AreCounts, IsCertified, IsCertificateOf}
+use Rattle.rank_papers.specs.Certificate.{Line, Certified, counted, certificate_text, AreCounts, IsCertified, IsCertificateOf}
 use Rattle.rank_papers.specs.Lines.{paper_lines, number_in}
 use Rattle.rank_papers.specs.CertificateLines.{kth_in, kth_word, entry_with, behind_id, entry_in_columns, behind_word, count_field, with_count, counted_in_columns, entry_in, entries_in, entries_of, counts_in, with_entries, behind_query, behind_title, version_in, certified_lines, read_certificate}
 use Rattle.rank_papers.specs.Laws.{CertificatesAreRead}
@@ -63,7 +63,7 @@ entry_printable : (w : ℕ) (l : Counted) → IsCounted w l → list_all is_prin
     (word_of l.entry.skipped ∷ l.entry.id.0
     ∷ (signed_decimal l.entry.bound ++ count_text (has_count w l.entry) l.count) ∷ [])) ≡ true
 entry_printable w l is =
-    let e : Entry = l.entry in
+    let e : Line = l.entry in
     let id = and_parts _ (list_all is_visible e.id.0) is.entry.id in
     let tail : List ℕ = signed_decimal e.bound ++ count_text (has_count w e) l.count in
     printable-append (word_of e.skipped) (32 ∷ (e.id.0 ++ 32 ∷ tail)) (word_printable e.skipped)
@@ -228,13 +228,13 @@ count_read false n word few none = ap (λ (m : ℕ). Some m) (sym (none refl))
 -- the line of an entry is read as it
 pub entry_in-line : (w : ℕ) (l : Counted) → IsCounted w l → entry_in w (entry_line w l) ≡ Some l
 entry_in-line w l is =
-    let e : Entry = l.entry in
+    let e : Line = l.entry in
     let word : List ℕ = word_of e.skipped in
     let four : length (word_of e.skipped) ≡ 4 = word_long e.skipped in
     let eleven : length e.id.0 ≡ 11 = id_long e.id.0 is.entry.id in
     let has : Bool = has_count w e in
     let field : List ℕ = signed_decimal e.bound ++ count_text has l.count in
-    let read : List ℕ → List ℕ → List ℕ → Option Entry =
+    let read : List ℕ → List ℕ → List ℕ → Option Line =
     λ x i n. option_map_or (entry_with x i) (number_in n) None in
     let plain : list_all no_blank (signed_decimal e.bound) ≡ true = whole_plain e.bound is.entry.bound in
     let behind : behind_id (entry_line w l) ≡ field = third_word (word_of e.skipped) e.id.0 field four eleven in
@@ -263,7 +263,7 @@ entry_in-line w l is =
     ∙ ap (λ (x : List ℕ). count_field has (drop (length x + 1) field)) bound
     ∙ count_read has l.count (signed_decimal e.bound) is.few is.none in
     exactly-from (entry_line w) (counted_in_columns w (entry_line w l)) l (
-    ap (λ (o : Option Entry). option_map_or (with_count w rest) o None) entry
+    ap (λ (o : Option Line). option_map_or (with_count w rest) o None) entry
     ∙ ap (option_map (λ (n : ℕ). record { entry = e; count = n })) count)
 
 -- no end line is an entry's
@@ -293,7 +293,7 @@ entry_in-end n w = by (entry_in w (end_line n)) refl
 -- ---- the whole text
 
 -- a first line is read as that of its version
-pub version_in-title : (w : ℕ) (es : List Entry) (ns : List ℕ) → AreCounts w es ns
+pub version_in-title : (w : ℕ) (es : List Line) (ns : List ℕ) → AreCounts w es ns
     → version_in (title_line w) ≡ Some w
 version_in-title w es ns (inl h) =
     ap (λ (v : ℕ). version_in (title_line v)) h.0 ∙ ap (λ (v : ℕ). Some v) (sym h.0)

@@ -15,7 +15,7 @@ use Rattle.rank_papers.specs.declared.counted.Counted.{Counted}
 use Rattle.rank_papers.specs.Meaning.Report.{query_line}
 use Rattle.rank_papers.specs.ReportLines.{first_word}
 use Rattle.rank_papers.specs.Meaning.Certificate.{title_line, kth_line, has_count, entry_line, end_line}
-use Rattle.rank_papers.specs.Certificate.{Entry, Certified, counted, IsEntry, IsCertified}
+use Rattle.rank_papers.specs.Certificate.{Line, Certified, counted, IsEntry, IsCertified}
 use Rattle.rank_papers.specs.Lines.{exactly, number_in, query_in}
 use Rattle.rank_papers.specs.CertificateLines.{kth_in, kth_word, entry_with, behind_id, entry_in_columns, behind_word, count_field, with_count, counted_in_columns, entry_in, entries_in, entries_of, counts_in, with_entries, behind_query, behind_title, version_in, certified_lines}
 use Rattle.rank_papers.proofs.LineValues.{exactly-some, in_i64-some, option-ok, query_in-is}
@@ -50,7 +50,7 @@ kth_in-is line k h =
     (kth_word-fits (slice_range line 4 (length line - 1)) k parts.0, parts.1)
 
 -- an entry that was made of a word, an ID and a number
-entry_with-is : (word id : List ℕ) (o : Option ℤ) (e : Entry)
+entry_with-is : (word id : List ℕ) (o : Option ℤ) (e : Line)
     → option_map_or (entry_with word id) o None ≡ Some e → ((z : ℤ) → o ≡ Some z → FitsSigned w64 z) → IsEntry e
 entry_with-is word id None e h f = absurd cc
 entry_with-is word id (Some z) e h f = elim (is_id id) as (λ b. is_id id ≡ b
@@ -62,7 +62,7 @@ entry_with-is word id (Some z) e h f = elim (is_id id) as (λ b. is_id id ≡ b
     ] refl h
 
 -- an entry in the columns of a line
-columns-is : (line : List ℕ) (e : Entry) → entry_in_columns line ≡ Some e → IsEntry e
+columns-is : (line : List ℕ) (e : Line) → entry_in_columns line ≡ Some e → IsEntry e
 columns-is line e h =
     entry_with-is (take 4 line) (slice_range line 5 16) (number_in (first_word (behind_id line))) e h
     (number_in-fits (first_word (behind_id line)))
@@ -83,8 +83,8 @@ count_in-is false field n h = let same : n ≡ 0 = cc in (omega (arith, same), �
 count_in-is true field n h = (up_to-low 1000 (natural field) n h, λ e. absurd cc)
 
 -- an entry that was read with its count
-with_count-is : (w : ℕ) (field : List ℕ) (o : Option Entry) (l : Counted)
-    → option_map_or (with_count w field) o None ≡ Some l → ((e : Entry) → o ≡ Some e → IsEntry e) → IsCounted w l
+with_count-is : (w : ℕ) (field : List ℕ) (o : Option Line) (l : Counted)
+    → option_map_or (with_count w field) o None ≡ Some l → ((e : Line) → o ≡ Some e → IsEntry e) → IsCounted w l
 with_count-is w field None l h f = absurd cc
 with_count-is w field (Some e) l h f = by (count_field (has_count w e) field) refl h
   where

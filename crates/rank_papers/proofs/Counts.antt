@@ -5,7 +5,7 @@ use Rattle.std.specs.List.{AllByRecursion, AllZip}
 use Rattle.std.proofs.lemmas.Bool.{not-false}
 use Rattle.rank_papers.specs.declared.counted.Counted.{Counted}
 use Rattle.rank_papers.specs.Meaning.Certificate.{has_count}
-use Rattle.rank_papers.specs.Certificate.{Entry, counted, IsEntry, IsCount, AreCounts}
+use Rattle.rank_papers.specs.Certificate.{Line, counted, IsEntry, IsCount, AreCounts}
 use Rattle.rank_papers.specs.CertificateLines.{entries_of, counts_in}
 
 -- what a line of a version can say: an entry and a count that can be, and 0 if the line has no count
@@ -17,19 +17,19 @@ pub record IsCounted (version : ℕ) (l : Counted) : Type 0 where
 -- ---- entries, and the counts beside them
 
 -- the entries are those that were counted
-pub entries-counted : (es : List Entry) (ns : List ℕ) → entries_of (counted es ns) ≡ es
+pub entries-counted : (es : List Line) (ns : List ℕ) → entries_of (counted es ns) ≡ es
 entries-counted [] ns = refl
-entries-counted (e ∷ es) [] = ap (λ (l : List Entry). e ∷ l) (entries-counted es [])
-entries-counted (e ∷ es) (n ∷ ns) = ap (λ (l : List Entry). e ∷ l) (entries-counted es ns)
+entries-counted (e ∷ es) [] = ap (λ (l : List Line). e ∷ l) (entries-counted es [])
+entries-counted (e ∷ es) (n ∷ ns) = ap (λ (l : List Line). e ∷ l) (entries-counted es ns)
 
 -- as many lines as entries
-pub length-counted : (es : List Entry) (ns : List ℕ) → length (counted es ns) ≡ length es
+pub length-counted : (es : List Line) (ns : List ℕ) → length (counted es ns) ≡ length es
 length-counted [] ns = refl
 length-counted (e ∷ es) [] = ap (λ (n : ℕ). suc n) (length-counted es [])
 length-counted (e ∷ es) (n ∷ ns) = ap (λ (m : ℕ). suc m) (length-counted es ns)
 
 -- one more entry and its count
-pub counted-more : (es : List Entry) (ns : List ℕ) (e : Entry) (n : ℕ) → length ns ≡ length es
+pub counted-more : (es : List Line) (ns : List ℕ) (e : Line) (n : ℕ) → length ns ≡ length es
     → counted (es ++ e ∷ []) (ns ++ n ∷ []) ≡ counted es ns ++ record { entry = e; count = n } ∷ []
 counted-more [] [] e n h = refl
 counted-more [] (m ∷ ns) e n h = absurd (omega (arith, h))
@@ -38,14 +38,14 @@ counted-more (x ∷ es) (m ∷ ns) e n h =
     ap (λ (l : List Counted). record { entry = x; count = m } ∷ l) (counted-more es ns e n (omega (arith, h)))
 
 -- the counts beside entries, one for each
-counts-beside : (es : List Entry) (ns : List ℕ) → AllZip IsCount es ns → map (λ l. l.count) (counted es ns) ≡ ns
+counts-beside : (es : List Line) (ns : List ℕ) → AllZip IsCount es ns → map (λ l. l.count) (counted es ns) ≡ ns
 counts-beside [] [] h = refl
 counts-beside [] (n ∷ ns) h = absurd h
 counts-beside (e ∷ es) [] h = absurd h
 counts-beside (e ∷ es) (n ∷ ns) h = ap (λ (l : List ℕ). n ∷ l) (counts-beside es ns h.1)
 
 -- the counts of a version are found again
-pub counts_back : (w : ℕ) (es : List Entry) (ns : List ℕ) → AreCounts w es ns → counts_in w (counted es ns) ≡ ns
+pub counts_back : (w : ℕ) (es : List Line) (ns : List ℕ) → AreCounts w es ns → counts_in w (counted es ns) ≡ ns
 counts_back w es ns (inl h) = ap (λ (v : ℕ). counts_in v (counted es ns)) h.0 ∙ sym h.1
 counts_back w es ns (inr h) = ap (λ (v : ℕ). counts_in v (counted es ns)) h.0 ∙ counts-beside es ns h.1
 
@@ -83,7 +83,7 @@ lines_back w ls h = elim (w == 2) as (λ b. (w == 2) ≡ b
 -- ---- what can be
 
 -- entries alone can be lines of version 1
-each_alone : (es : List Entry) → AllByRecursion IsEntry es → AllByRecursion (IsCounted 1) (counted es [])
+each_alone : (es : List Line) → AllByRecursion IsEntry es → AllByRecursion (IsCounted 1) (counted es [])
 each_alone [] h = tt
 each_alone (e ∷ es) h = (
   record { entry = h.0; few = omega arith; none = λ f. refl },
@@ -91,7 +91,7 @@ each_alone (e ∷ es) h = (
 )
 
 -- entries with counts can be lines of version 2
-each_beside : (es : List Entry) (ns : List ℕ) → AllByRecursion IsEntry es → AllZip IsCount es ns
+each_beside : (es : List Line) (ns : List ℕ) → AllByRecursion IsEntry es → AllZip IsCount es ns
     → AllByRecursion (IsCounted 2) (counted es ns)
 each_beside [] [] h k = tt
 each_beside [] (n ∷ ns) h k = absurd k
@@ -102,7 +102,7 @@ each_beside (e ∷ es) (n ∷ ns) h k = (
 )
 
 -- entries and the counts of a version can be its lines
-pub each_counted : (w : ℕ) (es : List Entry) (ns : List ℕ) → AllByRecursion IsEntry es → AreCounts w es ns
+pub each_counted : (w : ℕ) (es : List Line) (ns : List ℕ) → AllByRecursion IsEntry es → AreCounts w es ns
     → AllByRecursion (IsCounted w) (counted es ns)
 each_counted w es ns h (inl k) =
     subst (λ (v : ℕ). AllByRecursion (IsCounted v) (counted es ns)) (sym k.0)
@@ -136,6 +136,6 @@ counts_can w ls (inr e) h = inr (
 )
 
 -- counts are those of a version
-pub has_version : (w : ℕ) (es : List Entry) (ns : List ℕ) → AreCounts w es ns → ((w ≡ 1) ⊎ (w ≡ 2))
+pub has_version : (w : ℕ) (es : List Line) (ns : List ℕ) → AreCounts w es ns → ((w ≡ 1) ⊎ (w ≡ 2))
 has_version w es ns (inl h) = inl h.0
 has_version w es ns (inr h) = inr h.0

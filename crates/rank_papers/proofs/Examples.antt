@@ -6,7 +6,7 @@ use Rattle.ghcn_files.specs.declared.station.StationId.{StationId}
 use Rattle.ghcn_files.specs.declared.element.Element.TheVariants.{Tmax, Tmin}
 use Rattle.rank_query.specs.declared.score.Score.TheVariants.{Highest, Lowest}
 use Rattle.rank_query.specs.Asked.{top}
-use Rattle.rank_papers.specs.Certificate.{Entry, certificate_text}
+use Rattle.rank_papers.specs.Certificate.{Line, certificate_text}
 
 -- the stations
 abbrev alpha : StationId
@@ -24,7 +24,7 @@ text [] = []
 text (l ∷ ls) = l ++ 10 ∷ text ls
 
 -- an entry
-abbrev entry : Bool → StationId → ℤ → Entry
+abbrev entry : Bool → StationId → ℤ → Line
 entry skipped id bound = record { id = id; bound = bound; skipped = skipped }
 
 -- two series were scanned, and one was skipped

@@ -22,7 +22,7 @@ use Rattle.rank_scores.proofs.Rising.{all-filter, from_each}
 use Rattle.rank_scores.proofs.QueryCandidates.{all_apart}
 use Rattle.rank_pool.proofs.Orders.{sorted-all}
 use Rattle.rank_papers.specs.Meaning.Report.{IsReportOfBest, query_line}
-use Rattle.rank_papers.specs.Certificate.{Entry, IsCertificate, IsRightEntry, certificate_text, counted, count_of}
+use Rattle.rank_papers.specs.Certificate.{Line, IsFoundCertificate, IsRightEntry, certificate_text, counted, count_of}
 use Rattle.rank_papers.specs.Certificate.{counts_of, kth_of_best}
 use Rattle.rank_papers.specs.Meaning.Certificate.{title_line, kth_line, entry_line, end_line}
 use Rattle.rank_papers.specs.Meaning.Right.{IsOfQuery, AreSeriesOf, AreBest, IsTrueEntry}
@@ -47,12 +47,12 @@ some_below kth b (score, is, low) =
     let yes : int_lt b score ≡ true = grind (arith, ints) in ap (λ (k : Option ℤ). bound_is_below k b) is ∙ yes
 
 -- the lines of entries, with how many of the best belong to each
-abbrev lines_with : ℕ → List Candidate → List Entry → List ℕ
+abbrev lines_with : ℕ → List Candidate → List Line → List ℕ
 lines_with version best es =
     flat_map (λ e. entry_line version (record { entry = e; count = count_by (λ x. same_id x.id e.id) best })) es
 
 -- a line whose series was skipped has no count, so it doesn't matter which
-count_unseen : (best : List Candidate) (e : Entry)
+count_unseen : (best : List Candidate) (e : Line)
     → entry_line 2 (record { entry = e; count = count_of best e })
     ≡ entry_line 2 (record { entry = e; count = count_by (λ x. same_id x.id e.id) best })
 count_unseen best e = by e.skipped
@@ -69,7 +69,7 @@ count_unseen best e = by e.skipped
     by false = refl
 
 -- in version 2 the lines have these counts
-lines_counted : (best : List Candidate) (es : List Entry)
+lines_counted : (best : List Candidate) (es : List Line)
     → flat_map (entry_line 2) (counted es (map (count_of best) es)) ≡ lines_with 2 best es
 lines_counted best [] = refl
 lines_counted best (e ∷ es) =
@@ -78,13 +78,13 @@ lines_counted best (e ∷ es) =
     (lines_counted best es)
 
 -- and in version 1 none
-lines_plain : (best : List Candidate) (es : List Entry) → flat_map (entry_line 1) (counted es []) ≡ lines_with 1 best es
+lines_plain : (best : List Candidate) (es : List Line) → flat_map (entry_line 1) (counted es []) ≡ lines_with 1 best es
 lines_plain best [] = refl
 lines_plain best (e ∷ es) =
     ap (λ (t : List ℕ). entry_line 1 (record { entry = e; count = 0 }) ++ t) (lines_plain best es)
 
 -- so it is in both
-lines_are : (version : ℕ) (best : List Candidate) (es : List Entry) → (version ≡ 1) ⊎ (version ≡ 2)
+lines_are : (version : ℕ) (best : List Candidate) (es : List Line) → (version ≡ 1) ⊎ (version ≡ 2)
     → flat_map (entry_line version) (counted es (counts_of version best es)) ≡ lines_with version best es
 lines_are version best es (inl one) =
     subst (λ (v : ℕ). flat_map (entry_line v) (counted es (counts_of v best es)) ≡ lines_with v best es) (sym one)
@@ -94,7 +94,7 @@ lines_are version best es (inr two) =
     (lines_counted best es)
 
 -- what a certificate is, with the lines of its entries
-abbrev text_with : ℕ → Asked → Option ℤ → List Entry → List ℕ → List ℕ
+abbrev text_with : ℕ → Asked → Option ℤ → List Line → List ℕ → List ℕ
 text_with version q kth es lines =
     title_line version ++ query_line q ++ kth_line kth ++ lines ++ end_line (length es)
 
@@ -120,7 +120,7 @@ module _ (q : Asked) (c : Contents) (asked : IsAsked q) (right : IsContents c) w
   kth_found = kth-best q.k (all_candidates q c) (some_asked q asked) (all_apart q c right)
 
   -- right entries are true
-  entries_true : (kth : Option ℤ) (es : List Entry) (ss : List Usable) → AllByRecursion IsSeries ss
+  entries_true : (kth : Option ℤ) (es : List Line) (ss : List Usable) → AllByRecursion IsSeries ss
       → AllZip (IsRightEntry q kth) es ss → AllZip (IsTrueEntry q kth) es ss
   entries_true kth [] [] series h = tt
   entries_true kth [] (s ∷ ss) series h = absurd h
@@ -136,7 +136,7 @@ module _ (q : Asked) (c : Contents) (asked : IsAsked q) (right : IsContents c) w
   )
 
   -- and true ones are right
-  entries_right : (kth : Option ℤ) (es : List Entry) (ss : List Usable) → AllByRecursion IsSeries ss
+  entries_right : (kth : Option ℤ) (es : List Line) (ss : List Usable) → AllByRecursion IsSeries ss
       → AllZip (IsTrueEntry q kth) es ss → AllZip (IsRightEntry q kth) es ss
   entries_right kth [] [] series h = tt
   entries_right kth [] (s ∷ ss) series h = absurd h
@@ -152,7 +152,7 @@ module _ (q : Asked) (c : Contents) (asked : IsAsked q) (right : IsContents c) w
   )
 
   -- a certificate with what is found is right
-  certificate_true : (version : ℕ) (bytes : List ℕ) (h : IsCertificate q c bytes) → h.version ≡ version
+  certificate_true : (version : ℕ) (bytes : List ℕ) (h : IsFoundCertificate q c bytes) → h.version ≡ version
       → IsRightCertificateFor version q c bytes
   certificate_true version bytes h e =
       subst (λ (v : ℕ). IsRightCertificateFor v q c bytes) e (
@@ -173,7 +173,7 @@ module _ (q : Asked) (c : Contents) (asked : IsAsked q) (right : IsContents c) w
 
   -- and a right one has what is found
   certificate_found : (version : ℕ) (bytes : List ℕ) → IsRightCertificateFor version q c bytes
-      → (h : IsCertificate q c bytes) × (h.version ≡ version)
+      → (h : IsFoundCertificate q c bytes) × (h.version ≡ version)
   certificate_found version bytes (found, are, h) =
       let best : found ≡ best_of_query q c = (best_found q c found asked right).1 are in
       let series : h.series ≡ morsels q c =

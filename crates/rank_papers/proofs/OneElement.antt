@@ -8,14 +8,14 @@ use Rattle.rank_query.specs.Meaning.Asked.{Asked}
 use Rattle.rank_scores.specs.Morsels.{best_of_query, kth_of_query, morsels}
 use Rattle.rank_scores.specs.OneElement.{data_for, BestStay, KthStays, MorselsStay}
 use Rattle.rank_blocks.specs.Bounds.{bound}
-use Rattle.rank_papers.specs.Report.{IsReport}
-use Rattle.rank_papers.specs.Certificate.{IsCertificate, IsRightEntry, counts_of, certificate_text}
+use Rattle.rank_papers.specs.Report.{IsFoundReport}
+use Rattle.rank_papers.specs.Certificate.{IsFoundCertificate, IsRightEntry, counts_of, certificate_text}
 use Rattle.rank_papers.specs.PlanPapers.{IsMeasuredCertificate}
 use Rattle.rank_papers.specs.OneElement.{ReportStays, CertificateStays, MeasuredStays}
 
 -- what is right of a report in some data is right of it in others, if they have the same stations and the same best
 report-moved : (q : Asked) (a b : Contents) (bytes : List ℕ) → a.stations ≡ b.stations →
-    best_of_query q a ≡ best_of_query q b → IsReport q a bytes → IsReport q b bytes
+    best_of_query q a ≡ best_of_query q b → IsFoundReport q a bytes → IsFoundReport q b bytes
 report-moved q a b bytes listed same r = record {
   rows = r.rows;
   best = r.best ∙ same;
@@ -25,7 +25,7 @@ report-moved q a b bytes listed same r = record {
 
 -- and of a certificate, if they have the same best, the same k-th score and the same morsels
 certificate-moved : (q : Asked) (a b : Contents) (bytes : List ℕ) → best_of_query q a ≡ best_of_query q b →
-    kth_of_query q a ≡ kth_of_query q b → morsels q a ≡ morsels q b → IsCertificate q a bytes → IsCertificate q b bytes
+    kth_of_query q a ≡ kth_of_query q b → morsels q a ≡ morsels q b → IsFoundCertificate q a bytes → IsFoundCertificate q b bytes
 certificate-moved q a b bytes best kth same z = record {
   version = z.version;
   known = z.known;

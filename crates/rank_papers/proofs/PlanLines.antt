@@ -27,7 +27,7 @@ use Rattle.ghcn_files.proofs.Ordered.{sorted-permutation}
 use Rattle.rank_sched.proofs.PlanBest.{get_behind, plan_has_best}
 use Rattle.rank_sched.proofs.FairPlans.{IsMeasured, plan_measured, plans_fair}
 use Rattle.rank_sched.proofs.Totals.{skips_right}
-use Rattle.rank_papers.specs.Certificate.{Entry, AreInRange, IsRightEntry}
+use Rattle.rank_papers.specs.Certificate.{Line, AreInRange, IsRightEntry}
 
 -- ---- two lists that are sorted alike
 
@@ -75,14 +75,14 @@ series-measured q (s ∷ ss) = ap (λ (l : List Usable). s ∷ l) (series-measur
 
 -- what the line of a series says: its ID and its bound, which is above its candidates, and a skip only if the bound is
 -- strictly below the k-th score
-pub record IsLineOf (q : Asked) (kth : Option ℤ) (l : Entry) (s : Usable) : Type 0 where
+pub record IsLineOf (q : Asked) (kth : Option ℤ) (l : Line) (s : Usable) : Type 0 where
   pub named : l.id ≡ s.id
   pub bounded : l.bound ≡ bound q s
   pub above : IsAbove q s l.bound
   pub passed_over : l.skipped ≡ true → bound_is_below kth l.bound ≡ true
 
 -- such lines, with bounds inside 64 bits, are right entries
-pub right_entries : (q : Asked) (kth : Option ℤ) (ls : List Entry) (ss : List Usable)
+pub right_entries : (q : Asked) (kth : Option ℤ) (ls : List Line) (ss : List Usable)
     → AreInRange ls → AllZip (IsLineOf q kth) ls ss
     → AllZip (IsRightEntry q kth) ls ss
 right_entries q kth [] [] f h = tt
@@ -94,7 +94,7 @@ right_entries q kth (l ∷ ls) (s ∷ ss) f h = (
 )
 
 -- and their bounds are those of the series
-pub bounds_are : (q : Asked) (kth : Option ℤ) (ls : List Entry) (ss : List Usable)
+pub bounds_are : (q : Asked) (kth : Option ℤ) (ls : List Line) (ss : List Usable)
     → AllZip (IsLineOf q kth) ls ss → map (λ l. l.bound) ls ≡ map (bound q) ss
 bounds_are q kth [] [] h = refl
 bounds_are q kth [] (s ∷ ss) h = absurd h
@@ -114,7 +114,7 @@ module _ (q : Asked) (c : Contents) (asked : IsAsked q) (right : IsContents c) (
   is_plan = record { asked = asked; dataset = c; right = right; plan = refl }
 
   -- the line of a morsel with its number
-  abbrev line : ℕ → Morsel → Entry
+  abbrev line : ℕ → Morsel → Line
   line n m = line_of plan (all_records hs) (n, m)
 
   -- the k-th score of the plan's candidates is the query's
@@ -169,8 +169,8 @@ module _ (q : Asked) (c : Contents) (asked : IsAsked q) (right : IsContents c) (
   -- the lines of a plan's sound hauls are those of the query's series, one by one
   pub lines_right : AllZip (IsLineOf q (kth_of_query q c)) (lines_of plan (all_records hs)) (morsels q c)
   lines_right =
-      let ls : List Entry = map (line_of plan (all_records hs)) (enumerate_from 0 plan.morsels) in
-      let by_id : Entry → Entry → Bool = λ a b. id_comes_first a.id b.id in
+      let ls : List Line = map (line_of plan (all_records hs)) (enumerate_from 0 plan.morsels) in
+      let by_id : Line → Line → Bool = λ a b. id_comes_first a.id b.id in
       subst (λ (ss : List Usable). AllZip (IsLineOf q (kth_of_query q c)) (sorted_by by_id ls) ss) (sym series_are)
       (sorted-zip (IsLineOf q (kth_of_query q c)) by_id comes_first
       (λ a x b y r s. ap (λ (i : StationId). id_comes_first i x.id) r.named

@@ -21,7 +21,7 @@ use Rattle.rank_sched.specs.Answers.{best_of_plan, IsAnswerOfPlan, IsAnswerOfCre
 use Rattle.rank_sched.proofs.PlanBest.{plan_has_best}
 use Rattle.rank_papers.specs.Meaning.Report.{IsReportOfBest, query_line}
 use Rattle.rank_papers.specs.Meaning.Certificate.{title_line, kth_line, entry_line, end_line}
-use Rattle.rank_papers.specs.Certificate.{Entry, counted, counts_of, kth_of_best, certificate_text, AreInRange}
+use Rattle.rank_papers.specs.Certificate.{Line, counted, counts_of, kth_of_best, certificate_text, AreInRange}
 use Rattle.rank_papers.specs.Certificate.{certificate_of_best}
 use Rattle.rank_papers.specs.PlanPapers.{IsReportOfPlan, IsCertificateOfPlan}
 use Rattle.rank_papers.proofs.PlanLines.{IsLineOf, right_entries, bounds_are, lines_right}
@@ -88,7 +88,7 @@ kth_is q c cs asked right e =
 -- ---- the certificate
 
 -- the parts of a certificate, one after the other, make its text
-pub certificate-made : (q : Asked) (best : List Candidate) (es : List Entry) (t u v w x : List ℕ)
+pub certificate-made : (q : Asked) (best : List Candidate) (es : List Line) (t u v w x : List ℕ)
     → t ≡ title_line 2 → u ≡ t ++ query_line q → v ≡ u ++ kth_line (kth_of_best q.k best)
     → w ≡ v ++ flat_map (entry_line 2) (counted es (counts_of 2 best es)) → x ≡ w ++ end_line (length es)
     → x ≡ certificate_of_best q best es
@@ -109,7 +109,7 @@ certificate-of_plan p a bytes answer fits text q c asked right is =
     let of_kth : kth_of_best p.query.k a.best.items ≡ kth_of_query q c =
     ap (λ (x : Planned). kth_of_best x.query.k a.best.items) is
     ∙ kth_is q c a.best.items asked right (best_is p a q c answer asked right is) in
-    let IsRight : List Entry → Type 0 = λ es. AllZip (IsLineOf q (kth_of_query q c)) es (morsels q c) in
+    let IsRight : List Line → Type 0 = λ es. AllZip (IsLineOf q (kth_of_query q c)) es (morsels q c) in
     let are : IsRight a.lines.items = subst IsRight (sym own.lines_are) lines in
     let best : a.best.items ≡ best_of_query q c = best_is p a q c answer asked right is in
     record {

@@ -36,8 +36,8 @@ use Rattle.rank_pool.specs.First.{in_order}
 use Rattle.rank_pool.proofs.Ranked.{best-first}
 use Rattle.rank_sched.proofs.Lists.{each-append, each-weaker}
 use Rattle.rank_sched.proofs.ScoreRanges.{candidates_ranged}
-use Rattle.rank_papers.specs.Certificate.{Entry, Certified, certificate_text, IsEntry, IsCount, AreCounts}
-use Rattle.rank_papers.specs.Certificate.{IsCertificateOf, IsRightEntry, count_of, counts_of, IsCertificate}
+use Rattle.rank_papers.specs.Certificate.{Line, Certified, certificate_text, IsEntry, IsCount, AreCounts}
+use Rattle.rank_papers.specs.Certificate.{IsCertificateOf, IsRightEntry, count_of, counts_of, IsFoundCertificate}
 use Rattle.rank_papers.specs.Certificate.{SaysRightCertificate}
 use Rattle.rank_papers.specs.Laws.{RightCertificatesSayRight}
 use Rattle.rank_papers.proofs.Counts.{has_version}
@@ -129,7 +129,7 @@ kth_fits (suc r) all h = elim (of_rank all r)
 -- ---- what a right certificate says
 
 -- right entries of visible series can be
-each_entry : (q : Asked) (k : Option ℤ) (es : List Entry) (ss : List Usable)
+each_entry : (q : Asked) (k : Option ℤ) (es : List Line) (ss : List Usable)
     → AllByRecursion (λ s. is_id s.id.0 ≡ true) ss → AllZip (IsRightEntry q k) es ss → AllByRecursion IsEntry es
 each_entry q k [] [] v h = tt
 each_entry q k [] (s ∷ ss) v h = tt
@@ -152,7 +152,7 @@ few_best q c asked right =
     omega (arith, first, taken, high)
 
 -- so few belong to one station
-count_few : (best : List Candidate) (e : Entry) → length best ≤ 1000 → IsCount e (count_of best e)
+count_few : (best : List Candidate) (e : Line) → length best ≤ 1000 → IsCount e (count_of best e)
 count_few best e few =
     let parts = by e.skipped (count_of best e) refl in record { few = parts.0; none = parts.1 }
   where
@@ -165,12 +165,12 @@ count_few best e few =
     by false n is = (omega (arith, is, counted, few), λ t. absurd cc)
 
 -- the counts of the best candidates can be
-each_count : (best : List Candidate) (es : List Entry) → length best ≤ 1000 → AllZip IsCount es (map (count_of best) es)
+each_count : (best : List Candidate) (es : List Line) → length best ≤ 1000 → AllZip IsCount es (map (count_of best) es)
 each_count best [] few = tt
 each_count best (e ∷ es) few = (count_few best e few, each_count best es few)
 
 -- in a version that has them, and in one that has none
-right_counts : (w : ℕ) (best : List Candidate) (es : List Entry) → ((w ≡ 1) ⊎ (w ≡ 2)) → length best ≤ 1000
+right_counts : (w : ℕ) (best : List Candidate) (es : List Line) → ((w ≡ 1) ⊎ (w ≡ 2)) → length best ≤ 1000
     → AreCounts w es (counts_of w best es)
 right_counts w best es (inl e) few = inl (e, ap (λ (v : ℕ). counts_of v best es) e)
 right_counts w best es (inr e) few = inr (
@@ -180,7 +180,7 @@ right_counts w best es (inr e) few = inr (
 
 module _ (q : Asked) (c : Contents) (bytes : List ℕ) (asked : IsAsked q) (right : IsContents c) where
   -- a right certificate has the form, and says what is right
-  says_right : IsCertificate q c bytes → (v : Certified) × IsCertificateOf v bytes × SaysRightCertificate q c v
+  says_right : IsFoundCertificate q c bytes → (v : Certified) × IsCertificateOf v bytes × SaysRightCertificate q c v
   says_right h = (
     record {
       version = h.version;
@@ -203,7 +203,7 @@ module _ (q : Asked) (c : Contents) (bytes : List ℕ) (asked : IsAsked q) (righ
   )
 
   -- and what says so is a right certificate
-  right_where : (v : Certified) → IsCertificateOf v bytes → SaysRightCertificate q c v → IsCertificate q c bytes
+  right_where : (v : Certified) → IsCertificateOf v bytes → SaysRightCertificate q c v → IsFoundCertificate q c bytes
   right_where v is says = record {
     version = v.version;
     known = has_version v.version v.entries v.counts is.can_be.counts;

@@ -26,7 +26,7 @@ use Rattle.rank_scores.proofs.QueryCandidates.{best-holds}
 use Rattle.rank_sched.proofs.Lists.{each-append}
 use Rattle.rank_sched.proofs.PlanMade.{kept-length}
 use Rattle.rank_papers.specs.Meaning.Report.{trimmed, report_text}
-use Rattle.rank_papers.specs.Report.{Named, named, with_stations, IsReport}
+use Rattle.rank_papers.specs.Report.{Named, named, with_stations, IsFoundReport}
 use Rattle.rank_papers.specs.ReportLines.{Reported, IsReported, IsReportOf, IsRow, name_of, SaysRightReport}
 use Rattle.rank_papers.specs.Laws.{RightReportsSayRight}
 use Rattle.rank_papers.proofs.CandidateDays.{IsOfDays, candidates_of_days}
@@ -140,7 +140,7 @@ module _ (q : Asked) (c : Contents) (bytes : List ℕ) (asked : IsAsked q) (righ
       }
 
   -- a right report has the form, and says what is right
-  says_right : IsReport q c bytes → (v : Reported) × IsReportOf v bytes × SaysRightReport q c v
+  says_right : IsFoundReport q c bytes → (v : Reported) × IsReportOf v bytes × SaysRightReport q c v
   says_right h = (
     record { query = q; rows = map named h.rows },
     record { can_be = can_be h.rows h.best h.listed; text = h.text },
@@ -152,7 +152,7 @@ module _ (q : Asked) (c : Contents) (bytes : List ℕ) (asked : IsAsked q) (righ
   )
 
   -- and what says so is a right report
-  right_where : (v : Reported) → IsReportOf v bytes → SaysRightReport q c v → IsReport q c bytes
+  right_where : (v : Reported) → IsReportOf v bytes → SaysRightReport q c v → IsFoundReport q c bytes
   right_where v is says =
       let listed : AreOfListed c.stations (map (λ row. row.0) v.rows) = names_listed c.stations v.rows says.named in
       record {

@@ -21,7 +21,7 @@ use Rattle.std.proofs.lemmas.Map.Text.{is_eq-slice_cmp}
 use Rattle.ghcn_files.specs.declared.station.StationId.{StationId}
 use Rattle.ghcn_files.specs.Meaning.Ids.{same_id}
 use Rattle.rank_scores.specs.declared.candidate.Candidate.{Candidate}
-use Rattle.rank_papers.specs.Certificate.{Entry, count_of}
+use Rattle.rank_papers.specs.Certificate.{Line, count_of}
 use Rattle.rank_papers.specs.StationRows.{AreIdsInOrder, count_in, is_gap}
 
 -- ---- how many pass a test that the first ones pass
@@ -215,7 +215,7 @@ count-ids p (c ∷ rows) = omega (
 )
 
 -- the IDs of rows in another order count as the rows do
-count-rows : (rows : List Candidate) (ids : List StationId) → IsPermutation (map (λ c. c.id) rows) ids → (e : Entry)
+count-rows : (rows : List Candidate) (ids : List StationId) → IsPermutation (map (λ c. c.id) rows) ids → (e : Line)
     → count_in ids e ≡ count_of rows e
 count-rows rows ids turned e =
     ap (λ (n : ℕ). cond e.skipped 0 n) (sum_by-IsPermutation (λ i. cond (same_id i e.id) 1 0) (map (λ c. c.id) rows) ids
@@ -223,7 +223,7 @@ count-rows rows ids turned e =
 
 -- so they do for all entries
 pub counts-rows : (rows : List Candidate) (ids : List StationId) → IsPermutation (map (λ c. c.id) rows) ids
-    → (es : List Entry) → map (count_in ids) es ≡ map (count_of rows) es
+    → (es : List Line) → map (count_in ids) es ≡ map (count_of rows) es
 counts-rows rows ids turned [] = refl
 counts-rows rows ids turned (e ∷ es) =
     ap (λ (n : ℕ). n ∷ map (count_in ids) es) (count-rows rows ids turned e)

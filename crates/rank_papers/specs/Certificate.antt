@@ -12,17 +12,12 @@ use Rattle.rank_query.specs.Meaning.Asked.{Asked, IsAsked}
 use Rattle.rank_scores.specs.declared.candidate.Candidate.{Candidate}
 use Rattle.rank_scores.specs.Order.{bound_is_below}
 use Rattle.rank_scores.specs.Morsels.{morsels, best_of_query, kth_of_query, IsAbove}
-use Rattle.rank_sched.specs.declared.line.Line.{Line}
+pub use Rattle.rank_sched.specs.declared.line.Line.{Line}
 use Rattle.rank_papers.specs.declared.counted.Counted.{Counted}
 use Rattle.rank_papers.specs.Meaning.Report.{query_line}
 use Rattle.rank_papers.specs.Meaning.Certificate.{title_line, kth_line, entry_line, end_line}
 
 -- ---- the text
-
--- what a certificate says of one series: its ID, a bound, and whether it was skipped, so that its candidates weren't
--- looked for
-abbrev pub Entry : Type 0
-Entry = Line
 
 -- what a certificate says: its version, a query, a k-th score or none, an entry for each series, and in version 2 a
 -- count for each entry
@@ -30,11 +25,11 @@ pub record Certified : Type 0 where
   pub version : ℕ
   pub query : Asked
   pub kth : Option ℤ
-  pub entries : List Entry
+  pub entries : List Line
   pub counts : List ℕ
 
 -- entries with their counts, 0 if there are no more of these
-abbrev pub counted : List Entry → List ℕ → List Counted
+abbrev pub counted : List Line → List ℕ → List Counted
 counted [] counts = []
 counted (e ∷ es) [] = record { entry = e; count = 0 } ∷ counted es []
 counted (e ∷ es) (n ∷ counts) = record { entry = e; count = n } ∷ counted es counts
@@ -49,23 +44,23 @@ certificate_text v =
     ++ end_line (length v.entries)
 
 -- each bound is inside 64 bits
-abbrev pub AreInRange : List Entry → Type 0
+abbrev pub AreInRange : List Line → Type 0
 AreInRange es = AllByRecursion (λ e. FitsSigned w64 e.bound) es
 
 -- ---- what a certificate can say
 
 -- an entry that a certificate can have: its ID is eleven visible bytes, and its bound is inside 64 bits
-pub record IsEntry (e : Entry) : Type 0 where
+pub record IsEntry (e : Line) : Type 0 where
   pub id : IsTrue (is_id e.id.0)
   pub bound : FitsSigned w64 e.bound
 
 -- a count that an entry can have: of at most a thousand rows, and none if the series was skipped
-pub record IsCount (e : Entry) (n : ℕ) : Type 0 where
+pub record IsCount (e : Line) (n : ℕ) : Type 0 where
   pub few : n ≤ 1000
   pub none : e.skipped ≡ true → n ≡ 0
 
 -- the counts of a version: none at all in version 1, and one for each entry in version 2
-abbrev pub AreCounts : ℕ → List Entry → List ℕ → Type 0
+abbrev pub AreCounts : ℕ → List Line → List ℕ → Type 0
 AreCounts version es counts =
     ((version ≡ 1) × (counts ≡ [])) ⊎ ((version ≡ 2) × AllZip IsCount es counts)
 
@@ -85,30 +80,30 @@ pub record IsCertificateOf (v : Certified) (bytes : List ℕ) : Type 0 where
 
 -- an entry is right for a series: it names the series, no candidate of the series has a score above the bound, and it
 -- is skipped only if there is a k-th score and the bound is strictly below it
-pub record IsRightEntry (q : Asked) (kth : Option ℤ) (e : Entry) (s : Usable) : Type 0 where
+pub record IsRightEntry (q : Asked) (kth : Option ℤ) (e : Line) (s : Usable) : Type 0 where
   pub named : e.id ≡ s.id
   pub above : IsAbove q s e.bound
   pub fits : FitsSigned w64 e.bound
   pub passed_over : e.skipped ≡ true → bound_is_below kth e.bound ≡ true
 
 -- a right entry for each series of the query, by increasing ID
-abbrev pub AreRightEntries : Asked → Contents → List Entry → Type 0
+abbrev pub AreRightEntries : Asked → Contents → List Line → Type 0
 AreRightEntries q c es = AllZip (IsRightEntry q (kth_of_query q c)) es (morsels q c)
 
 -- how many of these candidates belong to the station of an entry; for one that was skipped none is counted
-abbrev pub count_of : List Candidate → Entry → ℕ
+abbrev pub count_of : List Candidate → Line → ℕ
 count_of best e = if e.skipped then 0 else count_by (λ c. same_id c.id e.id) best
 
 -- the counts that a version has of these best candidates
-abbrev pub counts_of : ℕ → List Candidate → List Entry → List ℕ
+abbrev pub counts_of : ℕ → List Candidate → List Line → List ℕ
 counts_of version best es = if version == 2 then map (count_of best) es else []
 
 -- a right certificate of a query and data, whatever its version, its bounds and skips: it has the query, the k-th
 -- score, a right entry for each series, and in version 2 how many of the best candidates belong to each
-pub record IsCertificate (q : Asked) (c : Contents) (bytes : List ℕ) : Type 0 where
+pub record IsFoundCertificate (q : Asked) (c : Contents) (bytes : List ℕ) : Type 0 where
   pub version : ℕ
   pub known : (version ≡ 1) ⊎ (version ≡ 2)
-  pub entries : List Entry
+  pub entries : List Line
   pub right : AreRightEntries q c entries
   pub text : bytes ≡ certificate_text (record {
     version = version;
@@ -133,7 +128,7 @@ abbrev pub kth_of_best : ℕ → List Candidate → Option ℤ
 kth_of_best k best = option_map (λ c. c.score) (slice_get best (k - 1))
 
 -- the text of the certificate of version 2 with these best candidates and entries
-abbrev pub certificate_of_best : Asked → List Candidate → List Entry → List ℕ
+abbrev pub certificate_of_best : Asked → List Candidate → List Line → List ℕ
 certificate_of_best q best es = certificate_text (record {
   version = 2;
   query = q;

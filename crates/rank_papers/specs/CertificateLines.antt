@@ -11,7 +11,7 @@ use Rattle.rank_papers.specs.declared.paper.Certificate.{Certificate}
 use Rattle.rank_papers.specs.declared.counted.Counted.{Counted}
 use Rattle.rank_papers.specs.ReportLines.{first_word}
 use Rattle.rank_papers.specs.Meaning.Certificate.{title_line, kth_line, has_count, entry_line, end_line}
-use Rattle.rank_papers.specs.Certificate.{Entry, Certified}
+use Rattle.rank_papers.specs.Certificate.{Line, Certified}
 use Rattle.rank_papers.specs.Lines.{paper_lines, ends_by, up_to_end, exactly, number_in, query_in}
 
 -- a k-th score or none, by its word
@@ -23,7 +23,7 @@ abbrev pub kth_in : List ℕ → Option (Option ℤ)
 kth_in line = exactly kth_line line (kth_word (slice_range line 4 (length line - 1)))
 
 -- the entry of a morsel with this ID, if it is eleven visible bytes
-abbrev pub entry_with : List ℕ → List ℕ → ℤ → Option Entry
+abbrev pub entry_with : List ℕ → List ℕ → ℤ → Option Line
 entry_with word id bound = if is_id id then Some (record {
   id = record { 0 = id };
   bound = bound;
@@ -36,7 +36,7 @@ abbrev pub behind_id : List ℕ → List ℕ
 behind_id line = slice_range line 17 (length line - 1)
 
 -- the entry in the columns of a line, whose bound ends at the next blank
-abbrev pub entry_in_columns : List ℕ → Option Entry
+abbrev pub entry_in_columns : List ℕ → Option Line
 entry_in_columns line =
     option_map_or (entry_with (take 4 line) (slice_range line 5 16)) (number_in (first_word (behind_id line))) None
 
@@ -49,7 +49,7 @@ abbrev pub count_field : Bool → List ℕ → Option ℕ
 count_field has field = if has then up_to 1000 (natural field) else Some 0
 
 -- an entry with the count that a field writes, if its line has one
-abbrev pub with_count : ℕ → List ℕ → Entry → Option Counted
+abbrev pub with_count : ℕ → List ℕ → Line → Option Counted
 with_count version field e =
     option_map (λ n. record { entry = e; count = n }) (count_field (has_count version e) field)
 
@@ -71,7 +71,7 @@ abbrev pub entries_in : ℕ → ℕ → List (List ℕ) → Result (List Counted
 entries_in version n ls = up_to_end 4 (λ m. entry_in version) end_line n ls
 
 -- the entries alone
-abbrev pub entries_of : List Counted → List Entry
+abbrev pub entries_of : List Counted → List Line
 entries_of ls = map (λ l. l.entry) ls
 
 -- their counts, in a version that has them

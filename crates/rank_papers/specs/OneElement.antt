@@ -4,18 +4,18 @@ use Rattle.std.specs.Prelude.{◌↔◌, ℕ, List}
 use Rattle.ghcn_series.specs.Series.{Contents}
 use Rattle.rank_query.specs.Meaning.Asked.{Asked}
 use Rattle.rank_scores.specs.OneElement.{data_for}
-use Rattle.rank_papers.specs.Report.{IsReport}
-use Rattle.rank_papers.specs.Certificate.{IsCertificate}
+use Rattle.rank_papers.specs.Report.{IsFoundReport}
+use Rattle.rank_papers.specs.Certificate.{IsFoundCertificate}
 use Rattle.rank_papers.specs.PlanPapers.{IsMeasuredCertificate}
 
 -- the right report of what a query needs of any data is that of all of them
 abbrev pub ReportStays : Type 0
-ReportStays = (q : Asked) (c : Contents) (bytes : List ℕ) → IsReport q (data_for q c) bytes ↔ IsReport q c bytes
+ReportStays = (q : Asked) (c : Contents) (bytes : List ℕ) → IsFoundReport q (data_for q c) bytes ↔ IsFoundReport q c bytes
 
 -- a right certificate of the one is a right certificate of the other
 abbrev pub CertificateStays : Type 0
 CertificateStays = (q : Asked) (c : Contents) (bytes : List ℕ) →
-    IsCertificate q (data_for q c) bytes ↔ IsCertificate q c bytes
+    IsFoundCertificate q (data_for q c) bytes ↔ IsFoundCertificate q c bytes
 
 -- the same is true of right certificates whose bounds are those of the series
 abbrev pub MeasuredStays : Type 0

@@ -6,17 +6,17 @@ use Rattle.rank_query.specs.Meaning.Asked.{Asked, IsAsked}
 use Rattle.rank_scores.specs.Morsels.{morsels}
 use Rattle.rank_blocks.specs.Bounds.{bound}
 use Rattle.rank_sched.specs.Plan.{Planned, planned}
-use Rattle.rank_papers.specs.Report.{IsReport}
-use Rattle.rank_papers.specs.Certificate.{IsCertificate}
+use Rattle.rank_papers.specs.Report.{IsFoundReport}
+use Rattle.rank_papers.specs.Certificate.{IsFoundCertificate}
 
 -- the bytes are the right report of all data of which this is the plan
 abbrev pub IsReportOfPlan : Planned → List ℕ → Type 0
 IsReportOfPlan p bytes =
-    (q : Asked) (c : Contents) → IsAsked q → IsContents c → p ≡ planned q c → IsReport q c bytes
+    (q : Asked) (c : Contents) → IsAsked q → IsContents c → p ≡ planned q c → IsFoundReport q c bytes
 
 -- a right certificate of a query and data, of version 2, in which each bound is the bound of its series
 pub record IsMeasuredCertificate (q : Asked) (c : Contents) (bytes : List ℕ) : Type 0 where
-  pub certificate : IsCertificate q c bytes
+  pub certificate : IsFoundCertificate q c bytes
   pub version : certificate.version ≡ 2
   pub bounds : map (λ e. e.bound) certificate.entries ≡ map (bound q) (morsels q c)
 

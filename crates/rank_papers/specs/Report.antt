@@ -35,8 +35,8 @@ abbrev pub with_stations : List Station → List Candidate → List (Candidate �
 with_stations stations cs = filter_map (with_station stations) cs
 
 -- the right report of a query and data: that of the best candidates
-abbrev pub IsReport : Asked → Contents → List ℕ → Type 0
-IsReport q c bytes = IsReportOfBest q c.stations (best_of_query q c) bytes
+abbrev pub IsFoundReport : Asked → Contents → List ℕ → Type 0
+IsFoundReport q c bytes = IsReportOfBest q c.stations (best_of_query q c) bytes
 
 -- the rows of candidates of listed stations
 abbrev pub rows_of_best : List Station → List Candidate → List Named

@@ -11,8 +11,8 @@ use Rattle.rank_query.specs.Meaning.Asked.{Asked, IsAsked}
 use Rattle.rank_scores.specs.declared.candidate.Candidate.{Candidate}
 use Rattle.rank_scores.specs.Morsels.{admitted_series, best_of_query}
 use Rattle.rank_scores.specs.OneElement.{data_for}
-use Rattle.rank_papers.specs.Report.{IsReport}
-use Rattle.rank_papers.specs.Certificate.{IsCertificate}
+use Rattle.rank_papers.specs.Report.{IsFoundReport}
+use Rattle.rank_papers.specs.Certificate.{IsFoundCertificate}
 use Rattle.rank_papers.specs.Meaning.Right.{IsAdmittedSeries, AreBest}
 use Rattle.rank_papers.specs.Right.{IsRightReport, IsRightCertificate}
 
@@ -45,12 +45,12 @@ BestAreOne = (q : Asked) → ((c : Contents) → HaveOneBest q (IsHeldSeries q c
 -- a report is the right one if and only if it has what is found by rank
 abbrev pub ReportsAreFound : Type 0
 ReportsAreFound = (q : Asked) (c : Contents) (bytes : List ℕ) → IsAsked q → IsContents c
-    → IsReport q c bytes ↔ IsRightReportFor q c bytes
+    → IsFoundReport q c bytes ↔ IsRightReportFor q c bytes
 
 -- a certificate of a version is a right one if and only if it is one by what is found
 abbrev pub CertificatesAreFound : Type 0
 CertificatesAreFound = (version : ℕ) (q : Asked) (c : Contents) (bytes : List ℕ) → IsAsked q → IsContents c
-    → ((h : IsCertificate q c bytes) × (h.version ≡ version)) ↔ IsRightCertificateFor version q c bytes
+    → ((h : IsFoundCertificate q c bytes) × (h.version ≡ version)) ↔ IsRightCertificateFor version q c bytes
 
 -- the right report of the data of files is that of what the files say
 abbrev pub ReportsAreSaid : Type 0

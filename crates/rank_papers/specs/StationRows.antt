@@ -7,14 +7,14 @@ use Rattle.std.specs.Ordering.{nat_cmp, is_lt, is_gt}
 use Rattle.std.specs.Cmp.Lexicographic.{slice_cmp}
 use Rattle.ghcn_files.specs.declared.station.StationId.{StationId}
 use Rattle.ghcn_files.specs.Meaning.Ids.{same_id}
-use Rattle.rank_papers.specs.Certificate.{Entry}
+use Rattle.rank_papers.specs.Certificate.{Line}
 
 -- no ID comes after the next
 abbrev pub AreIdsInOrder : List StationId → Type 0
 AreIdsInOrder ids = IsSorted (λ a b. slice_cmp nat_cmp a.0 b.0) ids
 
 -- how many of some IDs are that of an entry; of one that was skipped none is counted
-abbrev pub count_in : List StationId → Entry → ℕ
+abbrev pub count_in : List StationId → Line → ℕ
 count_in ids e = if e.skipped then 0 else count_by (λ i. same_id i e.id) ids
 
 -- an ID comes after the one in front of a place, if there is one

@@ -63,7 +63,7 @@ pub use Rattle.rank_scores.specs.QueryCandidates.{CandidatesAreApart}
 pub use Rattle.rank_scores.specs.declared.candidate.Candidate.{Candidate}
 pub use Rattle.rank_papers.proofs.NamedRows.{descends_order}
 pub use Rattle.rank_papers.proofs.ReadBoth.{papers_read}
-pub use Rattle.rank_papers.specs.Certificate.{Certified, Entry, IsCertificate, IsCertificateOf, IsCertified, IsCount}
+pub use Rattle.rank_papers.specs.Certificate.{Certified, Line, IsFoundCertificate, IsCertificateOf, IsCertified, IsCount}
 pub use Rattle.rank_papers.specs.Certificate.{IsEntry, IsRightEntry, SaysRightCertificate, count_of, counts_of}
 pub use Rattle.rank_papers.specs.Certificate.{kth_of_best}
 pub use Rattle.rank_papers.specs.CertificateLines.{certified_in, read_certificate}
@@ -71,7 +71,7 @@ pub use Rattle.rank_papers.specs.Laws.{CertificatesAreRead, ReportsAreRead, Righ
 pub use Rattle.rank_papers.specs.Laws.{RightReportsSayRight}
 pub use Rattle.rank_papers.specs.Meaning.Report.{trimmed}
 pub use Rattle.rank_papers.specs.Papers.{AreInOrder, candidates_of, of_rows, read_papers}
-pub use Rattle.rank_papers.specs.Report.{IsReport, Named}
+pub use Rattle.rank_papers.specs.Report.{IsFoundReport, Named}
 pub use Rattle.rank_papers.specs.ReportLines.{IsReportOf, IsReported, Reported, SaysRightReport, name_of, named_in}
 pub use Rattle.rank_papers.specs.ReportLines.{read_report, reported_in}
 pub use Rattle.rank_papers.specs.declared.fault.Paper.{Paper}

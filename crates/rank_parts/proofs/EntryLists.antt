@@ -1,6 +1,6 @@
 -- Lines one by one: their IDs, which rise, lists that go together, the lines of stations, and scores.
 use Rattle.rank_parts.proofs.Cited.{◌≡◌, true, List, [], ◌∷◌, map, IsStrictWeakOrder, StationId, strictly_ranks, Usable}
-use Rattle.rank_parts.proofs.Cited.{Contents, IsContents, In, Asked, morsels, morsels_rise, Entry, IdsRise}
+use Rattle.rank_parts.proofs.Cited.{Contents, IsContents, In, Asked, morsels, morsels_rise, Line, IdsRise}
 use Rattle.rank_parts.proofs.Cited.{stands_before, inl, inr, ◌≤◌, length, refl, sym, ◌∙◌, subst, arith, AllByRecursion}
 use Rattle.rank_parts.proofs.Cited.{of_one, ap₂, Option, ℤ, AllZip, IsRightEntry, false, Some, None, ap, ◌≤ℤ◌}
 use Rattle.rank_parts.proofs.Cited.{false_from_ne_true, true_from_ne_false, ints, Station, same_id, same_id-is}
@@ -11,7 +11,7 @@ use Rattle.ghcn_files.proofs.Among as among
 use Rattle.ghcn_files.proofs.Ordered as ordered
 
 -- the IDs of entries
-abbrev pub ids_of : List Entry → List StationId
+abbrev pub ids_of : List Line → List StationId
 ids_of es = map (λ e. e.id) es
 
 -- ---- the order of IDs
@@ -33,7 +33,7 @@ abbrev pub RiseAll : List StationId → Type 0
 RiseAll is = ordered.Descend IsBefore is
 
 -- entries whose IDs rise
-pub rise_ids : (es : List Entry) → IdsRise es → RiseAll (ids_of es)
+pub rise_ids : (es : List Line) → IdsRise es → RiseAll (ids_of es)
 rise_ids [] h = tt
 rise_ids (e ∷ []) h = (tt, tt)
 rise_ids (e ∷ f ∷ es) h =
@@ -43,7 +43,7 @@ rise_ids (e ∷ f ∷ es) h =
     ((h.0, more), rest)
 
 -- entries rise that name series of which each has an ID before those of all after it
-pub entries_rise : (q : Asked) (kth : Option ℤ) (es : List Entry) (us : List Usable) → AllZip (IsRightEntry q kth) es us
+pub entries_rise : (q : Asked) (kth : Option ℤ) (es : List Line) (us : List Usable) → AllZip (IsRightEntry q kth) es us
     → ordered.Descend (λ (a b : Usable). IsBefore a.id b.id) us → IdsRise es
 entries_rise q kth [] us h k = tt
 entries_rise q kth (e ∷ []) us h k = tt
@@ -123,9 +123,9 @@ zip_each R f (x ∷ xs) =
     )
 
 -- entries and series of the same IDs go together by what holds of any two of one ID
-pub zip_ids : (R : Entry → Usable → Type 0) (es : List Entry) (ms : List Usable)
+pub zip_ids : (R : Line → Usable → Type 0) (es : List Line) (ms : List Usable)
     → ids_of es ≡ map (λ (s : Usable). s.id) ms
-    → ((e : Entry) (m : Usable) → In es e → In ms m → e.id ≡ m.id → R e m) → AllZip R es ms
+    → ((e : Line) (m : Usable) → In es e → In ms m → e.id ≡ m.id → R e m) → AllZip R es ms
 zip_ids R [] [] ids h = tt
 zip_ids R [] (m ∷ ms) ids h = absurd cc
 zip_ids R (e ∷ es) [] ids h = absurd cc
@@ -139,12 +139,12 @@ pub same_to : (a b : StationId) → a ≡ b → same_id a b ≡ true
 same_to a b e = ap (same_id a) (sym e) ∙ same_id-laws.refl a
 
 -- the line of a station that has one
-pub line_of : (es : List Entry) (id : StationId) → has_line es id ≡ true → (e : Entry) × In es e × (e.id ≡ id)
+pub line_of : (es : List Line) (id : StationId) → has_line es id ≡ true → (e : Line) × In es e × (e.id ≡ id)
 line_of es id h =
-    let any = any_in (λ (e : Entry). same_id e.id id) es h in
+    let any = any_in (λ (e : Line). same_id e.id id) es h in
     (any.0, any.1, same_id-is any.0.id id any.2)
 
-module _ (q : Asked) (c : Contents) (es : List Entry) where
+module _ (q : Asked) (c : Contents) (es : List Line) where
   -- a station whose series is a morsel has a line, if without one it has no morsel
   pub has_where : (st : Station) → IsAbsent q c es st → is_morsel q st (own_series q c st) ≡ true
       → has_line es st.id ≡ true
@@ -153,7 +153,7 @@ module _ (q : Asked) (c : Contents) (es : List Entry) where
 
   -- so each morsel has a line, if this is so of each station
   pub line_where : AllByRecursion (IsAbsent q c es) c.stations → (u : Usable) → In (morsels q c) u
-      → (e : Entry) × In es e × (e.id ≡ u.id)
+      → (e : Line) × In es e × (e.id ≡ u.id)
   line_where absent u h =
       let st = station_of q c u h in
       let has = has_where st.0 (of_one (IsAbsent q c es) c.stations st.0 absent st.1)
@@ -162,13 +162,13 @@ module _ (q : Asked) (c : Contents) (es : List Entry) where
       (e.0, e.1, e.2 ∙ sym (own_id q c st.0 u st.3))
 
   -- and back
-  pub absent_where : ((u : Usable) → In (morsels q c) u → (e : Entry) × In es e × (e.id ≡ u.id))
+  pub absent_where : ((u : Usable) → In (morsels q c) u → (e : Line) × In es e × (e.id ≡ u.id))
       → AllByRecursion (IsAbsent q c es) c.stations
   absent_where line = for_each (IsAbsent q c es) c.stations (λ st h none.
       false_from_ne_true (is_morsel q st (own_series q c st)) (λ some.
       let u = morsel_of q c st h some in
       let e = line u.0 u.2 in
-      let has = in_any (λ (x : Entry). same_id x.id st.id) es e.0 e.1
+      let has = in_any (λ (x : Line). same_id x.id st.id) es e.0 e.1
       (same_to e.0.id st.id (e.2 ∙ own_id q c st u.0 u.1)) in
       let no : false ≡ true = sym none ∙ has in absurd cc))
 

@@ -1,7 +1,7 @@
 -- A right head, as the pieces of a report and a certificate have it.
 use Rattle.rank_parts.proofs.Cited.{◌≡◌, inr, ◌≤◌, List, length, map, refl, subst, arith, nat_le, and_parts, leb-true}
 use Rattle.rank_parts.proofs.Cited.{ints, length-map, count_by-le-length, Asked, IsAsked, Candidate, Named, Reported}
-use Rattle.rank_parts.proofs.Cited.{IsReported, Entry, Certified, IsCertified, IsCount, count_of, of_rows, IsRightHead}
+use Rattle.rank_parts.proofs.Cited.{IsReported, Line, Certified, IsCertified, IsCount, count_of, of_rows, IsRightHead}
 use Rattle.rank_parts.proofs.Cited.{ℕ, counts_of}
 use Rattle.rank_parts.proofs.EntryLists.{zip_each}
 
@@ -34,7 +34,7 @@ k_within q asked =
     (leb-true 1 q.k both.0, leb-true q.k 1000 both.1)
 
 -- the count of few rows can be
-count_can : (ds : List Candidate) (e : Entry) → length ds ≤ 1000 → IsCount e (count_of ds e)
+count_can : (ds : List Candidate) (e : Line) → length ds ≤ 1000 → IsCount e (count_of ds e)
 count_can ds e few = grind (arith, ints, count_by-le-length)
 
 -- so with the counts of the rows the certificate can be, if the report has the query

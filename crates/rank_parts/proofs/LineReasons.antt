@@ -4,7 +4,7 @@ use Rattle.rank_parts.proofs.Cited.{◌∙◌, subst, find, AllByRecursion, opti
 use Rattle.rank_parts.proofs.Cited.{tied_itself, nil_from_length, first_failing, Station, StationId, same_id-is}
 use Rattle.rank_parts.proofs.Cited.{is_station_of, Usable, Contents, series_of, In, of_one, for_each, found_in}
 use Rattle.rank_parts.proofs.Cited.{in-contains, Asked, score_element, admits_station, Candidate, Named, Reported}
-use Rattle.rank_parts.proofs.Cited.{IsReported, Entry, Certified, count_of, of_rows, IsRightHead, IdsRise, is_scanned}
+use Rattle.rank_parts.proofs.Cited.{IsReported, Line, Certified, count_of, of_rows, IsRightHead, IdsRise, is_scanned}
 use Rattle.rank_parts.proofs.Cited.{by_bytes, bytes_total, scanned_at, Why, is_morsel, piece_tests, rows_with, worst_of}
 use Rattle.rank_parts.proofs.Cited.{why_at, why_of_line, IsSeen, AreSeen}
 use Rattle.rank_parts.proofs.Heads.{few_rows}
@@ -12,7 +12,7 @@ use Rattle.rank_parts.proofs.StationRows.{count_rows}
 
 -- ---- what is looked up
 
-module _ (q : Asked) (d : Contents) (rows : List Named) (e : Entry) where
+module _ (q : Asked) (d : Contents) (rows : List Named) (e : Line) where
   -- the first test that the line fails, of a station and its series
   abbrev pub failing : Station → Option Usable → Option Why
   failing st o = first_failing
@@ -51,15 +51,15 @@ module _ (q : Asked) (d : Contents) (rows : List Named) (e : Entry) where
 -- ---- what the head shows
 
 -- a line says whether its station was scanned
-scanned_line : (es : List Entry) → IdsRise es → (e : Entry) → In es e → is_scanned es e.id ≡ not e.skipped
+scanned_line : (es : List Line) → IdsRise es → (e : Line) → In es e → is_scanned es e.id ≡ not e.skipped
 scanned_line es up e h =
     let at = in-contains es e h in
-    scanned_at e.id es at.0 e up at.1 (ap (λ (f : Entry). by_bytes f.id e.id) at.2 ∙ tied_itself bytes_total e.id)
-    ∙ ap (λ (f : Entry). not f.skipped) at.2
+    scanned_at e.id es at.0 e up at.1 (ap (λ (f : Line). by_bytes f.id e.id) at.2 ∙ tied_itself bytes_total e.id)
+    ∙ ap (λ (f : Line). not f.skipped) at.2
 
 -- so if no row is counted at a line, none belongs to its station
-none_of : (rows : List Named) (es : List Entry) → IdsRise es
-    → AllByRecursion (λ (row : Named). is_scanned es row.0.id ≡ true) rows → (e : Entry) → In es e
+none_of : (rows : List Named) (es : List Line) → IdsRise es
+    → AllByRecursion (λ (row : Named). is_scanned es row.0.id ≡ true) rows → (e : Line) → In es e
     → count_of (of_rows rows) e ≡ 0 → rows_with e.id rows ≡ []
 none_of rows es up scanned e h none = nil_from_length (rows_with e.id rows) (sym (count_rows rows e (λ s row k i.
     both_ways (is_scanned es e.id) (scanned_line es up e h ∙ ap not s)

@@ -1,7 +1,7 @@
 -- What parts say that accept a report and a certificate is so of all data, and back.
 use Rattle.rank_parts.proofs.Cited.{◌≡◌, ℕ, suc, Bool, true, false, cond, List, [], ◌∷◌, length, Option, Some, None}
 use Rattle.rank_parts.proofs.Cited.{refl, Ok, ◌+◌, AllByRecursion, option_or, option_map, option_map_or, Contents}
-use Rattle.rank_parts.proofs.Cited.{Asked, morsels, Reported, Entry, Certified, HeadFault, head_fault, Why, Certificate}
+use Rattle.rank_parts.proofs.Cited.{Asked, morsels, Reported, Line, Certified, HeadFault, head_fault, Why, Certificate}
 use Rattle.rank_parts.proofs.Cited.{OtherSeries, Refusal, refusal, Accepted, Refused, refusal_of, why_of_line}
 use Rattle.rank_parts.proofs.Cited.{first_refused, have_lines, part_judged, ◌↔◌, sym, ◌∙◌, ◌≤◌, not, map, ap, subst}
 use Rattle.rank_parts.proofs.Cited.{arith, ◌||◌, ◌&&◌, ◌==◌, int_le, find, list_all, sum, flat_map, AllZip, length-map}
@@ -23,7 +23,7 @@ use Rattle.rank_parts.proofs.Heads.{recounted}
 -- ---- what a part says
 
 -- no line is refused if and only if none has a reason
-pub none_refused : (reason : Entry → Option Why) (es : List Entry) (k : ℕ)
+pub none_refused : (reason : Line → Option Why) (es : List Line) (k : ℕ)
     → (first_refused reason k es ≡ None) ↔ AllByRecursion (λ e. reason e ≡ None) es
 none_refused reason [] k = (λ e. tt, λ h. refl)
 none_refused reason (f ∷ es) k =
@@ -70,7 +70,7 @@ sees_nothing q d r z n m e =
 
 -- a line of a station fails the same test with each of them, if both are morsels, or neither is
 same_tests : (q : Asked) (st : Station) (u v : Usable) → IsSameFor q u v
-    → is_morsel q st (Some u) ≡ is_morsel q st (Some v) → (e : Entry) (n : ℕ) (rows : List Named)
+    → is_morsel q st (Some u) ≡ is_morsel q st (Some v) → (e : Line) (n : ℕ) (rows : List Named)
     (worst : Option Candidate) → first_failing (piece_tests q st (Some u) e n rows worst)
     ≡ first_failing (piece_tests q st (Some v) e n rows worst)
 same_tests q st u v same own e n rows worst = λ i. first_failing (
@@ -127,7 +127,7 @@ module _ (q : Asked) (c : Contents) (ds : List Contents) (cut : IsCut q c ds) wh
 
     -- a station with a morsel of the part has one of all data, with which a line of it fails the same test
     pub same_morsel : (st : Station) → In d.stations st → is_own q d st ≡ true
-        → (is_own q c st ≡ true) × ((e : Entry) (n : ℕ) (rows : List Named) (worst : Option Candidate)
+        → (is_own q c st ≡ true) × ((e : Line) (n : ℕ) (rows : List Named) (worst : Option Candidate)
         → first_failing (piece_tests q st (own_series q d st) e n rows worst)
         ≡ first_failing (piece_tests q st (own_series q c st) e n rows worst))
     same_morsel st k mine =
@@ -155,7 +155,7 @@ module _ (q : Asked) (c : Contents) (ds : List Contents) (right : IsContents c) 
   seen_by d h = let s = in_zip (λ (x : Contents) (n : ℕ). SeesNothing q x r z n m) ds ns seen d h in (s.0, s.2)
 
   -- a morsel has a line
-  line_for : (v : Usable) → In (morsels q c) v → (e : Entry) × In z.entries e × (e.id ≡ v.id)
+  line_for : (v : Usable) → In (morsels q c) v → (e : Line) × In z.entries e × (e.id ≡ v.id)
   line_for v h =
       let p = part_of q c ds cut v h in
       let st = station_of q p.0 p.2 p.3 in
@@ -181,7 +181,7 @@ module _ (q : Asked) (c : Contents) (ds : List Contents) (right : IsContents c) 
         (λ (d : Contents) (n : ℕ). n ≡ length (morsels q d)) ds ns (λ d n s. sym s.series) seen) in
         omega (
           arith,
-          length-map z.entries (λ (e : Entry). e.id),
+          length-map z.entries (λ (e : Line). e.id),
           length-map (morsels q c) (λ (s : Usable). s.id),
           ap (λ (ks : List ℕ). sum ks) own ∙ add_up q c ds cut,
           long,
@@ -189,18 +189,18 @@ module _ (q : Asked) (c : Contents) (ds : List Contents) (right : IsContents c) 
         )
 
     -- so each line belongs to a morsel
-    morsel_for : (e : Entry) → In z.entries e → (v : Usable) × In (morsels q c) v × (v.id ≡ e.id)
+    morsel_for : (e : Line) → In z.entries e → (v : Usable) × In (morsels q c) v × (v.id ≡ e.id)
     morsel_for e h =
         map_in (λ (s : Usable). s.id) (morsels q c) e.id
         (no_others (map (λ (s : Usable). s.id) (morsels q c)) (ids_of z.entries) (morsel_ids q c right) up
         (λ i k.
         let v = map_in (λ (s : Usable). s.id) (morsels q c) i k in
         let f = line_for v.0 v.1 in
-        subst (In (ids_of z.entries)) (f.2 ∙ v.2) (in_map (λ (x : Entry). x.id) z.entries f.0 f.1))
-        as_many e.id (in_map (λ (x : Entry). x.id) z.entries e h))
+        subst (In (ids_of z.entries)) (f.2 ∙ v.2) (in_map (λ (x : Line). x.id) z.entries f.0 f.1))
+        as_many e.id (in_map (λ (x : Line). x.id) z.entries e h))
 
     -- each line is accepted by itself
-    line_accepted : (e : Entry) → In z.entries e → IsAccepted q c r.rows e (count_of (of_rows r.rows) e)
+    line_accepted : (e : Line) → In z.entries e → IsAccepted q c r.rows e (count_of (of_rows r.rows) e)
     line_accepted e h =
         let v = morsel_for e h in
         let p = part_of q c ds cut v.0 v.1 in
@@ -219,7 +219,7 @@ module _ (q : Asked) (c : Contents) (ds : List Contents) (right : IsContents c) 
           sym ((same_morsel q c ds cut p.0 p.1 st.0 st.1 mine).1 e (count_of (of_rows r.rows) e)
               (rows_with e.id r.rows) (worst_of q.k r.rows))
               ∙ sym reason
-              ∙ of_one (λ (x : Entry). why_of_line q p.0 r.rows x ≡ None) z.entries e (seen_by p.0 p.1).1.lines h,
+              ∙ of_one (λ (x : Line). why_of_line q p.0 r.rows x ≡ None) z.entries e (seen_by p.0 p.1).1.lines h,
         )
 
     -- so are all lines
@@ -231,7 +231,7 @@ module _ (q : Asked) (c : Contents) (ds : List Contents) (right : IsContents c) 
 module _ (q : Asked) (c : Contents) (ds : List Contents) (cut : IsCut q c ds) (r : Reported) (z : Certified)
     (pieces : AreRightPieces q c r (recounted r.rows z)) (d : Contents) (h : In ds d) where
   -- no line is refused by the part
-  no_reason : (e : Entry) → In z.entries e → why_of_line q d r.rows e ≡ None
+  no_reason : (e : Line) → In z.entries e → why_of_line q d r.rows e ≡ None
   no_reason e k =
       let whole = (zip_each (IsAccepted q c r.rows) (count_of (of_rows r.rows)) z.entries).0 pieces.lines e k in
       let st : Station = whole.0 in

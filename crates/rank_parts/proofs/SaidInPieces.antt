@@ -5,7 +5,7 @@ use Rattle.rank_parts.proofs.Cited.{is_station_of, Usable, Contents, IsContents,
 use Rattle.rank_parts.proofs.Cited.{in_kept, in_map, map_in, contains-in, in-contains, Asked, IsAsked, Candidate}
 use Rattle.rank_parts.proofs.Cited.{candidates, AreApart, bound_is_below, all_candidates, morsels, best_of_query}
 use Rattle.rank_parts.proofs.Cited.{kth_of_query, IsAbove, Descends, Named, trimmed, Reported, IsReported}
-use Rattle.rank_parts.proofs.Cited.{SaysRightReport, name_of, Entry, Certified, IsCertified, IsEntry, IsRightEntry}
+use Rattle.rank_parts.proofs.Cited.{SaysRightReport, name_of, Line, Certified, IsCertified, IsEntry, IsRightEntry}
 use Rattle.rank_parts.proofs.Cited.{SaysRightCertificate, counts_of, of_rows, is_scanned, is_within_worst, IsRightPiece}
 use Rattle.rank_parts.proofs.Cited.{right_piece, own_id, morsel_of, one_morsel, candidate_in, in_candidates}
 use Rattle.rank_parts.proofs.Cited.{order_descends, same_rows, rows_with, worst_of, own_series, IsAccepted}
@@ -42,7 +42,7 @@ module _ (q : Asked) (c : Contents) (r : Reported) (z : Certified) (asked : IsAs
   -- ---- lines
 
   -- what an accepted line comes to
-  record Piece (e : Entry) : Type 0 where
+  record Piece (e : Line) : Type 0 where
     count : ℕ
     station : Station
     listed : find (is_station_of e.id) c.stations ≡ Some station
@@ -51,7 +51,7 @@ module _ (q : Asked) (c : Contents) (r : Reported) (z : Certified) (asked : IsAs
     named : e.id ≡ line.series.id
 
   -- by its tests
-  piece : (e : Entry) → In z.entries e → Piece e
+  piece : (e : Line) → In z.entries e → Piece e
   piece e k =
       let one = in_zip (IsAccepted q c r.rows) z.entries z.counts pieces.lines e k in
       let line = (right_piece q one.2.0 (own_series q c one.2.0) e one.0 (rows_with e.id r.rows) (worst_of q.k r.rows)
@@ -73,7 +73,7 @@ module _ (q : Asked) (c : Contents) (r : Reported) (z : Certified) (asked : IsAs
   row_right : (row : Named) → In r.rows row
       → In (all_candidates q c) row.0 × (name_of c.stations row.0.id ≡ Some row.1)
   row_right row h =
-      let e = any_in (λ (x : Entry). not x.skipped && same_id x.id row.0.id) z.entries
+      let e = any_in (λ (x : Line). not x.skipped && same_id x.id row.0.id) z.entries
       (of_one (λ (x : Named). is_scanned z.entries x.0.id ≡ true) r.rows row pieces.head.scanned h) in
       let id : row.0.id ≡ e.0.id =
       sym (same_id-is e.0.id row.0.id (and_parts (not e.0.skipped) (same_id e.0.id row.0.id) e.2).1) in
@@ -121,17 +121,17 @@ module _ (q : Asked) (c : Contents) (r : Reported) (z : Certified) (asked : IsAs
       same_ids (ids_of z.entries) (map (λ (s : Usable). s.id) (morsels q c)) (rise_ids z.entries pieces.head.rise)
       (morsel_ids q c right)
       (λ i h.
-      let e = map_in (λ (x : Entry). x.id) z.entries i h in
+      let e = map_in (λ (x : Line). x.id) z.entries i h in
       let p = piece e.0 e.1 in
       subst (In (map (λ (s : Usable). s.id) (morsels q c))) (sym p.named ∙ e.2)
       (in_map (λ (s : Usable). s.id) (morsels q c) p.line.series p.morsel))
       (λ i h.
       let u = map_in (λ (s : Usable). s.id) (morsels q c) i h in
       let e = line_where q c z.entries pieces.absent u.0 u.1 in
-      subst (In (ids_of z.entries)) (e.2 ∙ u.2) (in_map (λ (x : Entry). x.id) z.entries e.0 e.1))
+      subst (In (ids_of z.entries)) (e.2 ∙ u.2) (in_map (λ (x : Line). x.id) z.entries e.0 e.1))
 
   -- a line and a morsel of one ID are right
-  entry_right : (e : Entry) (u : Usable) → In z.entries e → In (morsels q c) u → e.id ≡ u.id
+  entry_right : (e : Line) (u : Usable) → In z.entries e → In (morsels q c) u → e.id ≡ u.id
       → IsRightEntry q (kth_of_query q c) e u
   entry_right e u h k named =
       let p = piece e h in
@@ -186,7 +186,7 @@ module _ (q : Asked) (c : Contents) (r : Reported) (z : Certified) (asked : IsAs
 
   -- ---- lines and morsels
 
-  module _ (e : Entry) (u : Usable) (h : In (morsels q c) u) (line : IsRightEntry q (kth_of_query q c) e u) where
+  module _ (e : Line) (u : Usable) (h : In (morsels q c) u) (line : IsRightEntry q (kth_of_query q c) e u) where
     -- a row of a morsel's station is one of its candidates
     of_morsel : (d : Candidate) → In (of_rows r.rows) d → d.id ≡ u.id
         → In (candidates q u) d × (is_within_worst (worst_of q.k r.rows) d ≡ true)
@@ -256,7 +256,7 @@ module _ (q : Asked) (c : Contents) (r : Reported) (z : Certified) (asked : IsAs
       let id : row.0.id ≡ u.0.id = candidate_id q c u.0 row.0 u.2 in
       let scanned : e.0.skipped ≡ false =
       false_from_ne_true (e.0.skipped) (λ s. none_skipped e.0 u.0 u.1 e.2 s row h id) in
-      in_any (λ (x : Entry). not x.skipped && same_id x.id row.0.id) z.entries e.0 e.1
+      in_any (λ (x : Line). not x.skipped && same_id x.id row.0.id) z.entries e.0 e.1
       (ap (λ (b : Bool). not b && same_id e.0.id row.0.id) scanned ∙ same_to e.0.id row.0.id (e.2.named ∙ sym id))
 
   -- the counts are those of the rows

@@ -7,7 +7,7 @@ use Rattle.rank_parts.proofs.Cited.{Named, kth_of_best, of_rows, is_within_worst
 use Rattle.rank_parts.proofs.Cited.{permuted_in, kept_descends, within_front, first_within, in_order}
 use Rattle.rank_parts.proofs.Cited.{ordered-permutation, ordered-descends, best_first, worst_of, inl, false, cond}
 use Rattle.rank_parts.proofs.Cited.{subst, count_by, length-filter, StationId, same_id, same_id-is, for_each, IsAsked}
-use Rattle.rank_parts.proofs.Cited.{Entry, count_of, AreInOrder, descends_order, AreRowsWithin, order_descends}
+use Rattle.rank_parts.proofs.Cited.{Line, count_of, AreInOrder, descends_order, AreRowsWithin, order_descends}
 use Rattle.rank_parts.proofs.Cited.{rows_with}
 use Rattle.rank_parts.proofs.EntryLists.{same_to}
 use Rattle.rank_parts.proofs.Heads.{k_within}
@@ -136,7 +136,7 @@ nothing_in [] f = refl
 nothing_in (x ∷ xs) f = absurd (f x (inl refl))
 
 -- their number is the count of the station's line, if a line that was skipped has none
-pub count_rows : (rows : List Named) (e : Entry)
+pub count_rows : (rows : List Named) (e : Line)
     → (e.skipped ≡ true → (row : Named) → In rows row → row.0.id ≡ e.id → ⊥)
     → count_of (of_rows rows) e ≡ length (rows_with e.id rows)
 count_rows rows e none =

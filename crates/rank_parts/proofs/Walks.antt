@@ -5,7 +5,7 @@ use Rattle.rank_parts.proofs.Cited.{slice_get, ◌&&◌, list_all, filter_map, c
 use Rattle.rank_parts.proofs.Cited.{and_from, take_all, list_all_more, list_all_at, length_permutation, sum_by_more}
 use Rattle.rank_parts.proofs.Cited.{slice_get_within, get_or_from_slice_get, sorted-permutation, Element, Station}
 use Rattle.rank_parts.proofs.Cited.{Usable, Contents, series_of, Asked, score_element, admits_station, has_admitted}
-use Rattle.rank_parts.proofs.Cited.{admitted_series, morsels, morsel_at, passing, id_comes_first, by_station, Entry}
+use Rattle.rank_parts.proofs.Cited.{admitted_series, morsels, morsel_at, passing, id_comes_first, by_station, Line}
 use Rattle.rank_parts.proofs.Cited.{is_morsel, or_made, is_own, has_line, have_lines, is_count_by, ◌<◌, Result, Ok, Err}
 use Rattle.rank_parts.proofs.Cited.{nat_lt, IsPartitionPoint, IsSearchInRange, IsBinarySearchResult, is_ok, Less, Equal}
 use Rattle.rank_parts.proofs.Cited.{Greater, ltb-true, ltb-false, list_any_at, list_any_none, StationId, same_id}
@@ -38,7 +38,7 @@ module _ (q : Asked) (d : Contents) where
       (sorted-permutation (λ (a b : Usable). id_comes_first a.id b.id)
       (filter (has_admitted q) (admitted_series q d))))
 
-  module _ (es : List Entry) where
+  module _ (es : List Line) where
     -- a station has no morsel, or it has a line
     abbrev pub is_listed : Station → Bool
     is_listed st = not (is_own q d st) || has_line es st.id
@@ -94,18 +94,18 @@ own_is q d st el o b e f g =
 -- ---- a search by ID among lines that rise
 
 -- a search says whether a line belongs to the station
-pub searched : (id : StationId) (es : List Entry) → IdsRise es → (r : Result ℕ ℕ)
+pub searched : (id : StationId) (es : List Line) → IdsRise es → (r : Result ℕ ℕ)
     → IsSearchInRange r (length es) → IsBinarySearchResult (λ e. by_bytes e.id id) es r → is_ok r ≡ has_line es id
 searched id [] up (Ok i) within found = absurd (omega (arith, within))
 searched id (e ∷ es) up (Ok i) within found =
-    sym (list_any_at (λ (x : Entry). same_id x.id id) (e ∷ es) i e within
+    sym (list_any_at (λ (x : Line). same_id x.id id) (e ∷ es) i e within
     (same_by (get_or (e ∷ es) i e).id id Equal (found e)))
 searched id es up (Err i) within found =
-    sym (list_any_none (λ (e : Entry). same_id e.id id) es
+    sym (list_any_none (λ (e : Line). same_id e.id id) es
     (λ k d below. by (found (searchable id es up)) k d below (nat_lt k i) refl))
   where
-    by : IsPartitionPoint (λ (e : Entry). by_bytes e.id id ≡ Less) (λ (e : Entry). by_bytes e.id id ≡ Greater) es i
-        → (k : ℕ) (d : Entry) → k < length es → (b : Bool) → nat_lt k i ≡ b → same_id (get_or es k d).id id ≡ false
+    by : IsPartitionPoint (λ (e : Line). by_bytes e.id id ≡ Less) (λ (e : Line). by_bytes e.id id ≡ Greater) es i
+        → (k : ℕ) (d : Line) → k < length es → (b : Bool) → nat_lt k i ≡ b → same_id (get_or es k d).id id ≡ false
     by point k d below true t =
         same_by (get_or es k d).id id Less (point.0 k d (omega arith) (ltb-true k i t))
     by point k d below false t = same_by (get_or es k d).id id Greater (point.1 k d (ltb-false k i t) below)

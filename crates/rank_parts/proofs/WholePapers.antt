@@ -2,8 +2,8 @@
 use Rattle.rank_parts.proofs.Cited.{◌≡◌, ℕ, ◌<◌, List, [], ◌∷◌, length, map, Option, Result, Ok, Err, refl, sym, ap}
 use Rattle.rank_parts.proofs.Cited.{◌∙◌, subst, arith, flat_map, sum, AllZip, option_map_or, Station, Contents}
 use Rattle.rank_parts.proofs.Cited.{IsContents, DataAreRight, data_of, Asked, IsAsked, Candidate, morsels, kth_of_query}
-use Rattle.rank_parts.proofs.Cited.{IsCut, IsDataOf, Filed, CutByFiles, IsReport, Reported, IsReported, SaysRightReport}
-use Rattle.rank_parts.proofs.Cited.{Certified, IsCertified, IsCertificate, IsRightEntry, SaysRightCertificate, count_of}
+use Rattle.rank_parts.proofs.Cited.{IsCut, IsDataOf, Filed, CutByFiles, IsFoundReport, Reported, IsReported, SaysRightReport}
+use Rattle.rank_parts.proofs.Cited.{Certified, IsCertified, IsFoundCertificate, IsRightEntry, SaysRightCertificate, count_of}
 use Rattle.rank_parts.proofs.Cited.{counts_of, Paper, read_papers, papers_read, CertificatesAreRead}
 use Rattle.rank_parts.proofs.Cited.{RightCertificatesSayRight, ReportsAreRead, RightReportsSayRight, HeadsAreRight}
 use Rattle.rank_parts.proofs.Cited.{IsRightHead, Refusal, RightInPieces, AreRightPieces, Accepted, Refused, part_judged}
@@ -93,13 +93,13 @@ module _ (certificates : CertificatesAreRead) (right_certificates : RightCertifi
   -- a report and a certificate that all parts accept are right for all data
   right_whole : (q : Asked) (c : Contents) (ds : List Contents) (report certificate : List ℕ) → IsAsked q → IsContents c
       → IsCut q c ds → 0 < length ds → AllAccept q report certificate ds
-      → IsReport q c report × IsCertificate q c certificate
+      → IsFoundReport q c report × IsFoundCertificate q c certificate
   right_whole q c ds report certificate asked dataset cut some all =
       by (read_papers report certificate) refl all.accepted
     where
       by : (p : Result (Reported × Certified) (Paper × ℕ)) → read_papers report certificate ≡ p
           → AllZip (λ d n. part_judged q d p ≡ Accepted n all.lines) ds all.series
-          → IsReport q c report × IsCertificate q c certificate
+          → IsFoundReport q c report × IsFoundCertificate q c certificate
       by (Ok (r, z)) e h =
           let are = (papers_read reports certificates report certificate r z).0 e in
           let both = accepted_say heads pieces q c ds r z asked dataset cut are.0.can_be are.1.can_be all.lines
@@ -115,7 +115,7 @@ module _ (certificates : CertificatesAreRead) (right_certificates : RightCertifi
 
   -- and a right report and a right certificate are accepted by all parts
   all_accept : (q : Asked) (c : Contents) (ds : List Contents) (report certificate : List ℕ) → IsAsked q → IsContents c
-      → IsCut q c ds → IsReport q c report → IsCertificate q c certificate → AllAccept q report certificate ds
+      → IsCut q c ds → IsFoundReport q c report → IsFoundCertificate q c certificate → AllAccept q report certificate ds
   all_accept q c ds report certificate asked dataset cut is_report is_certificate =
       let said = (right_reports q c report asked dataset).0 is_report in
       let told = (right_certificates q c certificate asked dataset).0 is_certificate in

@@ -15,7 +15,7 @@ use Rattle.rank_query.specs.Meaning.Asked.{Asked, IsAsked, score_element}
 use Rattle.rank_scores.specs.declared.candidate.Candidate.{Candidate}
 use Rattle.rank_papers.specs.Report.{Named}
 use Rattle.rank_papers.specs.ReportLines.{Reported, IsReported, IsReportOf, SaysRightReport}
-use Rattle.rank_papers.specs.Certificate.{Entry, Certified, IsCertified, IsCertificateOf, SaysRightCertificate}
+use Rattle.rank_papers.specs.Certificate.{Line, Certified, IsCertified, IsCertificateOf, SaysRightCertificate}
 use Rattle.rank_head.specs.RightHead.{IsRightHead}
 use Rattle.rank_check.specs.declared.verdict.Verdict.TheVariants.{Accepted}
 use Rattle.rank_check.specs.Tests.{verdict}
@@ -38,12 +38,12 @@ own_series q c st = series_of c st.id (score_element q.score)
 -- ---- all pieces
 
 -- a line with its count is accepted by itself: its station is listed, and no test fails
-abbrev pub IsAccepted : Asked → Contents → List Named → Entry → ℕ → Type 0
+abbrev pub IsAccepted : Asked → Contents → List Named → Line → ℕ → Type 0
 IsAccepted q c rows e n = (st : Station) × (find (is_station_of e.id) c.stations ≡ Some st)
     × (first_failing (piece_tests q st (own_series q c st) e n (rows_with e.id rows) (worst_of q.k rows)) ≡ None)
 
 -- a listed station without a line is accepted by itself: it isn't a morsel
-abbrev pub IsAbsent : Asked → Contents → List Entry → Station → Type 0
+abbrev pub IsAbsent : Asked → Contents → List Line → Station → Type 0
 IsAbsent q c es st =
     list_any (λ e. same_id e.id st.id) es ≡ false → is_morsel q st (own_series q c st) ≡ false
 

@@ -10,8 +10,8 @@ use Rattle.ghcn_series.specs.Says.{data_of}
 use Rattle.rank_query.specs.Meaning.Asked.{Asked, IsAsked}
 use Rattle.rank_scores.specs.Cut.{IsCut, morsel_ids}
 use Rattle.rank_scores.specs.OneElement.{data_for}
-use Rattle.rank_papers.specs.Report.{IsReport}
-use Rattle.rank_papers.specs.Certificate.{IsCertificate}
+use Rattle.rank_papers.specs.Report.{IsFoundReport}
+use Rattle.rank_papers.specs.Certificate.{IsFoundCertificate}
 use Rattle.rank_parts.specs.declared.verdict.PartVerdict.TheVariants.{Accepted}
 use Rattle.rank_parts.specs.Parts.{part_verdict}
 
@@ -32,7 +32,7 @@ pub record AllAccept (q : Asked) (report certificate : List ℕ) (ds : List Cont
 abbrev pub PartsMakeTheWhole : Type 0
 PartsMakeTheWhole = (q : Asked) (c : Contents) (ds : List Contents) (report certificate : List ℕ) → IsAsked q
     → IsContents c → IsCut q c ds → 0 < length ds
-    → AllAccept q report certificate ds ↔ (IsReport q c report × IsCertificate q c certificate)
+    → AllAccept q report certificate ds ↔ (IsFoundReport q c report × IsFoundCertificate q c certificate)
 
 -- ---- parts of files
 
@@ -53,7 +53,7 @@ abbrev pub FilesMakeTheWhole : Type 0
 FilesMakeTheWhole = (q : Asked) (list : List ℕ) (stations : List Station) (parts : List (List (List ℕ)))
     (ds : List Contents) (c : Contents) (report certificate : List ℕ) → IsAsked q → listed list ≡ Ok stations
     → ArePartsOfData q stations parts ds c → 0 < length ds
-    → AllAccept q report certificate ds ↔ (IsReport q c report × IsCertificate q c certificate)
+    → AllAccept q report certificate ds ↔ (IsFoundReport q c report × IsFoundCertificate q c certificate)
 
 -- ---- one element
 

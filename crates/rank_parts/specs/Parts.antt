@@ -15,7 +15,7 @@ use Rattle.rank_scores.specs.Morsels.{morsels}
 use Rattle.rank_papers.specs.Report.{Named}
 use Rattle.rank_papers.specs.declared.fault.Paper.{Paper}
 use Rattle.rank_papers.specs.ReportLines.{Reported}
-use Rattle.rank_papers.specs.Certificate.{Entry, Certified, count_of}
+use Rattle.rank_papers.specs.Certificate.{Line, Certified, count_of}
 use Rattle.rank_papers.specs.Papers.{read_papers, of_rows}
 use Rattle.rank_head.specs.declared.fault.HeadFault.{HeadFault}
 use Rattle.rank_head.specs.declared.fault.HeadFault.TheVariants.{OtherReportQuery, OtherCertificateQuery, OutOfOrder}
@@ -51,7 +51,7 @@ is_own q d st = is_morsel q st (own_series q d st)
 
 -- why a line of this station is refused: by the first test that it fails, if the series is a morsel of these
 -- data; its count is the number of the station's rows, as the head has it
-abbrev pub why_at : Asked → Contents → List Named → Entry → Station → Option Why
+abbrev pub why_at : Asked → Contents → List Named → Line → Station → Option Why
 why_at q d rows e st =
     if is_own q d st
     then first_failing (piece_tests q st (own_series q d st) e (count_of (of_rows rows) e) (rows_with e.id rows)
@@ -59,11 +59,11 @@ why_at q d rows e st =
     else None
 
 -- why a line is refused, if it is; the line of a station that isn't listed isn't looked at
-abbrev pub why_of_line : Asked → Contents → List Named → Entry → Option Why
+abbrev pub why_of_line : Asked → Contents → List Named → Line → Option Why
 why_of_line q d rows e = option_and_then (why_at q d rows e) (find (is_station_of e.id) d.stations)
 
 -- the refusal of the first of these lines that has a reason, if the first of them has this number
-abbrev pub first_refused : (Entry → Option Why) → ℕ → List Entry → Option Refusal
+abbrev pub first_refused : (Line → Option Why) → ℕ → List Line → Option Refusal
 first_refused reason n [] = None
 first_refused reason n (e ∷ es) =
     option_or (option_map (refusal Certificate n) (reason e)) (first_refused reason (suc n) es)
@@ -71,15 +71,15 @@ first_refused reason n (e ∷ es) =
 -- ---- series without a line
 
 -- a line belongs to this station
-abbrev pub has_line : List Entry → StationId → Bool
+abbrev pub has_line : List Line → StationId → Bool
 has_line es id = list_any (λ e. same_id e.id id) es
 
 -- each morsel of these data has a line
-abbrev pub have_lines : Asked → Contents → List Entry → Bool
+abbrev pub have_lines : Asked → Contents → List Line → Bool
 have_lines q d es = list_all (λ st. not (is_own q d st) || has_line es st.id) d.stations
 
 -- the refusal of lines among which one of a morsel is missing: it is reported at the line after them
-abbrev pub missing_refused : Asked → Contents → List Entry → Option Refusal
+abbrev pub missing_refused : Asked → Contents → List Line → Option Refusal
 missing_refused q d es =
     if have_lines q d es then None else Some (refusal Certificate (length es + 4) why.OtherSeries)
 

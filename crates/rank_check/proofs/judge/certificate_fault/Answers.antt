@@ -5,7 +5,7 @@ use Rattle.std.proofs.lemmas.List.{length-map}
 use Rattle.ghcn_fields.specs.Faults.{first_failing}
 use Rattle.rank_scores.specs.Morsels.{morsels, kth_of_query}
 use Rattle.rank_scores.specs.declared.candidate.Candidate.{Candidate}
-use Rattle.rank_papers.specs.Certificate.{Entry}
+use Rattle.rank_papers.specs.Certificate.{Line}
 use Rattle.rank_papers.specs.CertificateLines.{certified_in}
 use Rattle.rank_papers.specs.Papers.{same_query, candidates_of}
 use Rattle.rank_check.specs.declared.survey.Top.{Top}
@@ -30,7 +30,7 @@ returns c = λ dataset kth tops.
     let few =
     c.length_fault-few.ensures
     ∙ ap (λ (n : ℕ). first_failing (length_test n (length c.as_slice-lines.result.now) ∷ [])) long
-    ∙ ap (λ (es : List Entry). first_failing (length_test (length (morsels q dataset)) (length es) ∷ []))
+    ∙ ap (λ (es : List Line). first_failing (length_test (length (morsels q dataset)) (length es) ∷ []))
     c.as_slice-lines.ensures.value in
     c.or.ensures ∙ certificate_decided q dataset rows (certified_in z) c.lines_fault.result c.length_fault-few.result
     same
@@ -38,5 +38,5 @@ returns c = λ dataset kth tops.
     (c.lines_fault.ensures rows counted q dataset found
     ∙ ap (λ (ns : List ℕ). first_failing (tests_of_lines q dataset z.kth rows ns c.as_slice-lines.result.now))
     c.as_slice-counts.ensures.value
-    ∙ ap (λ (es : List Entry). first_failing (tests_of_lines q dataset z.kth rows z.counts.items es))
+    ∙ ap (λ (es : List Line). first_failing (tests_of_lines q dataset z.kth rows z.counts.items es))
     c.as_slice-lines.ensures.value) few

@@ -1,7 +1,7 @@
 use Rattle.std.proofs.Common.{◌≡◌, List, true, false, Some, None, arith, sym, subst, ◌∙◌}
 use Rattle.std.proofs.lemmas.List.{get_or_default}
 use Rattle.rank_papers.specs.declared.paper.Row.{Row}
-use Rattle.rank_papers.specs.Certificate.{Entry}
+use Rattle.rank_papers.specs.Certificate.{Line}
 use Rattle.rank_papers.specs.ReportLines.{named_in}
 use Rattle.rank_head.specs.HeadTests.{is_scanned}
 use Rattle.rank_head.proofs.FirstPlaces.{first_place, first_place-map}
@@ -29,7 +29,7 @@ count_row-requires-clause-few c = λ k.
 pub returns-then-not-count_row-clause-place : goal.returns-then-not-count_row-clause-place
 returns-then-not-count_row-clause-place c =
     let rows : List Row = c.args.rows.now in
-    let lines : List Entry = c.args.lines.now in
+    let lines : List Line = c.args.lines.now in
     first_place-map named_in (λ row. is_scanned lines row.0.id) rows (Some c.loop-place.place)
     (first_place (λ (row : Row). is_scanned lines row.candidate.id) rows (Some c.loop-place.place) (
       c.loop-place-test.true,
@@ -44,7 +44,7 @@ returns-then-not-count_row-clause-place c =
 pub loop-place-preserved : goal.loop-place-preserved
 loop-place-preserved c =
     let rows : List Row = c.args.rows.now in
-    let lines : List Entry = c.args.lines.now in record {
+    let lines : List Line = c.args.lines.now in record {
       scanned = one_further (λ row. is_scanned lines row.candidate.id ≡ true) rows c.loop-place.place
           c.index-rows-place.result c.loop-place-test.true c.index-rows-place.is
           (sym c.count_row.ensures.scanned ∙ c.if-not-count_row.false) c.loop-place.invariant.scanned;
@@ -57,7 +57,7 @@ loop-place-preserved c =
 pub returns-clause-place : goal.returns-clause-place
 returns-clause-place c =
     let rows : List Row = c.args.rows.now in
-    let lines : List Entry = c.args.lines.now in
+    let lines : List Line = c.args.lines.now in
     first_place-map named_in (λ row. is_scanned lines row.0.id) rows None
     (first_place (λ (row : Row). is_scanned lines row.candidate.id) rows None
     (λ k d low high. c.loop-place.invariant.scanned k d low (omega (arith, high, c.loop-place-test.false))))

@@ -1,4 +1,4 @@
-use Rattle.rank_merge.proofs.Cited.{◌≡◌, drop, ◌∙◌, rules, tests, option_map, Entry, behind_first, twice}
+use Rattle.rank_merge.proofs.Cited.{◌≡◌, drop, ◌∙◌, rules, tests, option_map, Line, behind_first, twice}
 use Rattle.std.proofs.lemmas.Iterator.{YieldsList-from_slice, YieldsList-from_zip}
 use Rattle.std.proofs.lemmas.Iterator.Consumers.{YieldsList-at}
 use Rattle.std.proofs.lemmas.Iterator.Search.{find_from_yields_List}
@@ -8,7 +8,7 @@ use Rattle.rank_merge.proofs.lines.twice.Goals as goal
 
 -- the ID that the search finds is the first that two lines have
 found : (c : After-find)
-    → option_map (λ (two : Entry × Entry). two.0.id) (option_map (λ p. (p.0.now, p.1.now)) c.find.result)
+    → option_map (λ (two : Line × Line). two.0.id) (option_map (λ p. (p.0.now, p.1.now)) c.find.result)
     ≡ twice c.args.lines.now
 found c =
     let lines = c.args.lines.now in

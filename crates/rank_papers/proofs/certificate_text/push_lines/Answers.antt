@@ -6,22 +6,22 @@ use Rattle.std.proofs.lemmas.List.{take_more, length-take-le}
 use Rattle.rank_sched.proofs.Lists.{each-append}
 use Rattle.rank_papers.specs.declared.counted.Counted.{Counted}
 use Rattle.rank_papers.specs.Meaning.Certificate.{entry_line}
-use Rattle.rank_papers.specs.Certificate.{Entry, AreInRange, counted}
+use Rattle.rank_papers.specs.Certificate.{Line, AreInRange, counted}
 use Rattle.rank_papers.proofs.Counts.{counted-more}
 use Rattle.rank_papers.proofs.certificate_text.push_lines.Goals as goal
 
 -- entries and counts up to one more
-counted-to : (es : List Entry) (ns : List ℕ) (i : ℕ) (e : Entry) (n : ℕ) → length ns ≡ length es → i < length es
+counted-to : (es : List Line) (ns : List ℕ) (i : ℕ) (e : Line) (n : ℕ) → length ns ≡ length es → i < length es
     → counted (take (i + 1) es) (take (i + 1) ns)
     ≡ counted (take i es) (take i ns) ++ record { entry = get_or es i e; count = get_or ns i n } ∷ []
 counted-to es ns i e n h below =
-    ap (λ (xs : List Entry). counted xs (take (i + 1) ns)) (take_more es i e below)
+    ap (λ (xs : List Line). counted xs (take (i + 1) ns)) (take_more es i e below)
     ∙ ap (counted (take i es ++ get_or es i e ∷ [])) (take_more ns i n (omega (arith, h)))
     ∙ counted-more (take i es) (take i ns) (get_or es i e) (get_or ns i n)
     (length-take-le i ns (omega (arith, h)) ∙ sym (length-take-le i es (omega arith)))
 
 -- the line of one entry more, with its count
-text-more : (es : List Entry) (ns : List ℕ) (i : ℕ) (e : Entry) (n : ℕ) (before paper : List ℕ)
+text-more : (es : List Line) (ns : List ℕ) (i : ℕ) (e : Line) (n : ℕ) (before paper : List ℕ)
     → length ns ≡ length es → i < length es
     → paper ≡ before ++ flat_map (entry_line 2) (counted (take i es) (take i ns))
     → paper ++ entry_line 2 (record { entry = get_or es i e; count = get_or ns i n })
@@ -38,11 +38,11 @@ text-more es ns i e n before paper many below h =
     ap (λ (p : List ℕ). p ++ line) h ∙ append_assoc before lines line ∙ ap (λ (t : List ℕ). before ++ t) more
 
 -- one entry more in range
-in_range-more : (es : List Entry) (i : ℕ) (e : Entry) → i < length es → AreInRange (take i es)
+in_range-more : (es : List Line) (i : ℕ) (e : Line) → i < length es → AreInRange (take i es)
     → FitsSigned w64 (get_or es i e).bound → AreInRange (take (i + 1) es)
 in_range-more es i e below h fits =
     subst AreInRange (sym (take_more es i e below))
-    (each-append (λ (x : Entry). FitsSigned w64 x.bound) (take i es) (get_or es i e ∷ []) h (fits, tt))
+    (each-append (λ (x : Line). FitsSigned w64 x.bound) (take i es) (get_or es i e ∷ []) h (fits, tt))
 
 -- one line more
 pub loop-place-preserved : goal.loop-place-preserved

@@ -2,7 +2,7 @@ use Rattle.std.proofs.Common.{◌≡◌, ◌∙◌, List, map, sym, subst, IfOk,
 use Rattle.std.specs.List.Sorted.{IsPermutation}
 use Rattle.ghcn_files.specs.declared.station.StationId.{StationId}
 use Rattle.rank_scores.specs.declared.candidate.Candidate.{Candidate}
-use Rattle.rank_papers.specs.Certificate.{Entry, count_of}
+use Rattle.rank_papers.specs.Certificate.{Line, count_of}
 use Rattle.rank_papers.specs.StationRows.{count_in}
 use Rattle.rank_papers.proofs.StationRows.{counts-rows}
 use Rattle.rank_papers.proofs.station_rows.row_counts.Goals as goal
@@ -11,7 +11,7 @@ use Rattle.rank_papers.proofs.station_rows.row_counts.Goals as goal
 pub returns : goal.returns
 returns c =
     let rows : List Candidate = c.args.rows.now in
-    let lines : List Entry = c.args.lines.now in
+    let lines : List Line = c.args.lines.now in
     let ids : List StationId = c.as_slice.result.now in
     let turned : IsPermutation (map (λ x. x.id) rows) ids =
     subst (IsPermutation (map (λ (x : Candidate). x.id) rows)) (sym c.as_slice.ensures.value) c.in_ok-ids.ensures.all in
