@@ -16,12 +16,12 @@ use Rattle.ghcn_series.specs.Gathered.{HasReadByRows}
 use Rattle.ghcn_series.specs.Kept.{HoldFiles, kept}
 use Rattle.ghcn_series.specs.SaidLists.{stations_said}
 use Rattle.ghcn_series.specs.Says.{data_of}
-use Rattle.ghcn_series.specs.Series.{Contents}
+use Rattle.ghcn_series.specs.Series.{Data}
 use Rattle.ghcn_series.proofs.SaidLines.{held-said, listed-said}
-use Rattle.rank_query.specs.Meaning.Asked.{Asked, score_element}
+use Rattle.rank_query.specs.Meaning.Asked.{Query, score_element}
 use Rattle.rank_query.specs.Meaning.Asks.{Asks}
 use Rattle.rank_scores.specs.OneElement.{KeptAreEnough, MorselsStay, data_for}
-use Rattle.rank_sched.specs.Plan.{Planned, planned}
+use Rattle.rank_sched.specs.Plan.{Plan, planned}
 use Rattle.rank_papers.specs.OneElement.{MeasuredStays}
 use Rattle.rank_papers.specs.RightLaws.{CertificatesAreSaid, ReportsAreSaid, RightCertificateStays, RightReportStays}
 use Rattle.rank_input.specs.declared.intake.Intake.{Intake}
@@ -42,7 +42,7 @@ use Rattle.extremes.proofs.RightAnswers.{right_answers}
 -- ---- the data of one element among those of others
 
 module _ (reports : RightReportStays) (certificates : RightCertificateStays) (measures : MeasuredStays)
-    (morsels : MorselsStay) (q : Asked) (c whole : Contents) (same : data_for q c ≡ data_for q whole) where
+    (morsels : MorselsStay) (q : Query) (c whole : Data) (same : data_for q c ≡ data_for q whole) where
   -- a report and a certificate that are right for data are so for other data of which the query needs the same
   papers_among : (papers : Papers) → AreRightFor q c papers → AreRightFor q whole papers
   papers_among papers are = papers_for q (data_for q c) whole papers reports certificates same (record {
@@ -61,13 +61,13 @@ module _ (reports : RightReportStays) (certificates : RightCertificateStays) (me
     right = papers_among papers are.right;
     bounds = measured_for q (data_for q c) whole papers.certificate.items measures same
         ((measures q c papers.certificate.items).1 are.bounds);
-    crew = subst (λ (p : Planned). IsOfCrew p None workers papers.certificate.items) plans_among are.crew;
+    crew = subst (λ (p : Plan). IsOfCrew p None workers papers.certificate.items) plans_among are.crew;
   }
 
 -- ---- texts that denote the queries
 
 module _ (reports : ReportsAreSaid) (certificates : CertificatesAreSaid) (stations : List ℕ) (list : List Station)
-    (files : List (List ℕ)) (whole : Contents) (lists : listed stations ≡ Ok list) (read : data_of list files ≡ Ok whole)
+    (files : List (List ℕ)) (whole : Data) (lists : listed stations ≡ Ok list) (read : data_of list files ≡ Ok whole)
   where
     -- the data are those of the stations that the list says
     whole_said : data_of (stations_said stations) files ≡ Ok whole
@@ -75,7 +75,7 @@ module _ (reports : ReportsAreSaid) (certificates : CertificatesAreSaid) (statio
         subst (λ (ss : List Station). data_of ss files ≡ Ok whole) (listed-said stations list lists) read
 
     -- what is ranked over all data of some texts answers these
-    ranked_by : (workers : ℕ) (query : List ℕ) (q : Asked) (papers : Papers) → Asks query q
+    ranked_by : (workers : ℕ) (query : List ℕ) (q : Query) (papers : Papers) → Asks query q
         → IsRankedOver workers whole q papers → IsRankedBy workers stations files query papers
     ranked_by workers query q papers asks are = record {
       answers = right_answers query stations files list papers lists q asks
@@ -166,10 +166,10 @@ ends-for workers stations files lines folder stores (Err (NotWritten path)) ok s
 
 module _ (enough : KeptAreEnough) (reports : RightReportStays) (certificates : RightCertificateStays)
     (measures : MeasuredStays) (morsels : MorselsStay) (reports_said : ReportsAreSaid)
-    (certificates_said : CertificatesAreSaid) (t : Intake RowReader) (made : Contents × Warnings)
+    (certificates_said : CertificatesAreSaid) (t : Intake RowReader) (made : Data × Warnings)
     (makes : MakesTaken HasReadByRows HoldFiles t made) where
   -- what is ranked over what an intake kept answers texts that denote the queries
-  ranked_taken : (s : FileInput) (taken : HasTaken HasReadByRows t s) (workers : ℕ) (line : List ℕ) (q : Asked)
+  ranked_taken : (s : FileInput) (taken : HasTaken HasReadByRows t s) (workers : ℕ) (line : List ℕ) (q : Query)
       (papers : Papers) → Asks line q → is_kept s.keep (score_element q.score) ≡ true
       → IsRankedOver workers made.0 q papers → IsRankedBy workers s.stations (files_of s.files) line papers
   ranked_taken s taken workers line q papers asks own are =
@@ -181,13 +181,13 @@ module _ (enough : KeptAreEnough) (reports : RightReportStays) (certificates : R
       (ap (data_for q) held.is ∙ enough s.keep q held.whole own) workers papers are)
 
   -- so the rankings of the queries end for these texts
-  pub ends_taken : (queries : List Asked) (workers : ℕ) (folder : Option (List ℕ)) (stores : Storing) (answer : Reports)
+  pub ends_taken : (queries : List Query) (workers : ℕ) (folder : Option (List ℕ)) (stores : Storing) (answer : Reports)
       → IfOk answer (λ text. RanksAll (IsRankedOver workers made.0) queries folder 1 stores text.items)
       → IfErr answer (RankingStops (IsRankedOver workers made.0) queries folder 1 stores)
       → EndsTaken t queries workers folder stores answer
   ends_taken queries workers folder stores answer ok stopped = record {
     is = λ s taken keeps lines asks.
-        let own : Asked → Type 0 = λ q. is_kept s.keep (score_element q.score) ≡ true in
+        let own : Query → Type 0 = λ q. is_kept s.keep (score_element q.score) ≡ true in
         let step = ranked_taken s taken workers in
         let kept = recursion_from_All own queries keeps in
         let by = IsRankedBy workers s.stations (files_of s.files) in
@@ -199,7 +199,7 @@ module _ (enough : KeptAreEnough) (reports : RightReportStays) (certificates : R
   }
 
 -- what is warned of is so, and the lines of unlisted stations are counted
-pub warns_of_taken : (t : Intake RowReader) (made : Contents × Warnings) (warnings : Warnings) (unlisted : ℕ)
+pub warns_of_taken : (t : Intake RowReader) (made : Data × Warnings) (warnings : Warnings) (unlisted : ℕ)
     → MakesTaken HasReadByRows HoldFiles t made → warnings ≡ made.1 → unlisted ≡ made.0.unlisted
     → WarnsOfTaken t warnings unlisted
 warns_of_taken t made warnings unlisted makes same counted = record {
@@ -207,15 +207,15 @@ warns_of_taken t made warnings unlisted makes same counted = record {
       let all = makes.is s taken in
       let held = all.made.held in (
         same ∙ all.made.warned,
-        counted ∙ ap (λ (c : Contents). c.unlisted) held.is
-            ∙ ap (λ (c : Contents). c.unlisted) (held-said (stations_said s.stations) (files_of s.files) held.whole
+        counted ∙ ap (λ (c : Data). c.unlisted) held.is
+            ∙ ap (λ (c : Data). c.unlisted) (held-said (stations_said s.stations) (files_of s.files) held.whole
             (subst (λ (ss : List Station). data_of ss (files_of s.files) ≡ Ok held.whole)
             (listed-said s.stations all.list all.lists) held.read)),
       );
 }
 
 -- an error of the files ends the rankings before anything is put
-pub refuses_taken : (t : Intake RowReader) (queries : List Asked) (workers : ℕ) (folder : Option (List ℕ))
+pub refuses_taken : (t : Intake RowReader) (queries : List Query) (workers : ℕ) (folder : Option (List ℕ))
     (stores : Storing) (fault : Fault) → RefusesTaken HasReadByRows t fault → stores [] None
     → EndsTaken t queries workers folder stores (Err (Input fault))
 refuses_taken t queries workers folder stores fault refuses none = record {

@@ -10,7 +10,7 @@ use Rattle.ghcn_files.specs.declared.element.Keep.{Keep}
 use Rattle.ghcn_series.specs.declared.counts.Warnings.{Warnings}
 use Rattle.ghcn_series.specs.declared.rows.RowReader.{RowReader}
 use Rattle.ghcn_series.specs.Gathered.{HasReadByRows}
-use Rattle.rank_query.specs.Meaning.Asked.{Asked}
+use Rattle.rank_query.specs.Meaning.Asked.{Query}
 use Rattle.rank_query.specs.Meaning.Asks.{Asks}
 use Rattle.rank_query.proofs.Asks.{asks_read}
 use Rattle.rank_input.specs.declared.fault.Fault.{Fault}
@@ -51,7 +51,7 @@ module _ (workers ran : ℕ) (stations : List ℕ) (files : List (List ℕ)) (cr
 
   -- an error of the files is that of the ranking of each query
   each_refused : (fault : Fault) → IsRefusal is_memory fault (read_files stations files) → (lines : List (List ℕ))
-      (queries : List Asked) → AllZip Asks lines queries
+      (queries : List Query) → AllZip Asks lines queries
       → AllByRecursion (λ query. IsRanked workers None query stations files (Err fault)) lines
   each_refused fault is [] [] all = tt
   each_refused fault is [] (q ∷ qs) all = absurd all
@@ -74,7 +74,7 @@ module _ (workers ran : ℕ) (stations : List ℕ) (files : List (List ℕ)) (cr
     step query other p same kept is = ranked_some query p (subst (λ (l : List ℕ). by l p) same is)
 
     -- rankings that end so for some texts are those of a run
-    pub are_ranked : (queries : List Asked) → AllZip Asks lines queries → (answer : Reports)
+    pub are_ranked : (queries : List Query) → AllZip Asks lines queries → (answer : Reports)
         → EndsFor ran stations files lines folder stores answer
         → AreRanked workers lines folder stores stations files answer
     are_ranked queries asks (Ok text) ends =
@@ -102,7 +102,7 @@ opened-unless opens paths (Err (NotWritten path)) are = are
 module _ (bytes_of : Known) (opens : Opening) (stores : Storing) (r : EachRanking) (list stations : List ℕ)
     (same : list ≡ string_bytes r.stations) (whole : AreAllOf (bytes_of list) stations) where
   -- the ranking by an intake that was given all files that are named, and kept the elements of the queries
-  pub ranks-each : (t : Intake RowReader) (queries : List Asked) (keep : Keep) (ran : ℕ) (answer : Reports)
+  pub ranks-each : (t : Intake RowReader) (queries : List Query) (keep : Keep) (ran : ℕ) (answer : Reports)
       (warnings : Warnings) (unlisted : ℕ) → AreKeptFor queries keep → is_crew r.workers ≡ true → ran ≤ r.workers
       → TakesWhole HasReadByRows bytes_of opens keep stations r.files.items t
       → EndsTaken t queries ran (folder_of r) stores answer

@@ -14,8 +14,8 @@ use Rattle.ghcn_series.specs.Fed.{files_of}
 use Rattle.ghcn_series.specs.Gathered.{HasReadByRows}
 use Rattle.ghcn_series.specs.Kept.{HoldFiles, kept}
 use Rattle.ghcn_series.specs.SaidLists.{stations_said}
-use Rattle.ghcn_series.specs.Series.{Contents}
-use Rattle.rank_query.specs.Meaning.Asked.{Asked, score_element}
+use Rattle.ghcn_series.specs.Series.{Data}
+use Rattle.rank_query.specs.Meaning.Asked.{Query, score_element}
 use Rattle.rank_query.specs.Meaning.Asks.{Asks}
 use Rattle.rank_query.proofs.Asks.{asks_read}
 use Rattle.rank_scores.specs.OneElement.{KeptAreEnough, data_for}
@@ -123,8 +123,8 @@ module _ {Q : Type 0} (judges : ℕ → Q → Judgement → Type 0) where
 -- ---- the data of one element among those of others
 
 module _ (reports : RightReportStays) (certificates : RightCertificateStays) (reports_said : ReportsAreSaid)
-    (certificates_said : CertificatesAreSaid) (verdicts : VerdictStays) (parts : PartVerdictStays) (q : Asked)
-    (c whole : Contents) (same : data_for q c ≡ data_for q whole) (query stations : List ℕ) (files : List (List ℕ))
+    (certificates_said : CertificatesAreSaid) (verdicts : VerdictStays) (parts : PartVerdictStays) (q : Query)
+    (c whole : Data) (same : data_for q c ≡ data_for q whole) (query stations : List ℕ) (files : List (List ℕ))
     (read : IsReadOf query stations files q whole) where
   -- a verdict over data is that on the texts of other data of which the query needs the same
   verdict-among : (papers : Texts) (v : Verdict) → IsVerdictOver q c papers v
@@ -139,7 +139,7 @@ module _ (reports : RightReportStays) (certificates : RightCertificateStays) (re
         dataset = whole;
         read = read;
         verdict = is.verdict ∙ sym (verdicts q c papers.0 papers.1)
-            ∙ ap (λ (h : Contents). verdict q h papers.0 papers.1) same ∙ verdicts q whole papers.0 papers.1;
+            ∙ ap (λ (h : Data). verdict q h papers.0 papers.1) same ∙ verdicts q whole papers.0 papers.1;
         accepted = (
           λ a. said.0 (among.0 (within.1 (is.accepted.0 a))),
           λ r. is.accepted.1 (within.0 (among.1 (said.1 r))),
@@ -157,7 +157,7 @@ module _ (reports : RightReportStays) (certificates : RightCertificateStays) (re
     dataset = whole;
     read = read;
     verdict = is ∙ sym (parts q c papers.0 papers.1)
-        ∙ ap (λ (h : Contents). part_verdict q h papers.0 papers.1) same ∙ parts q whole papers.0 papers.1;
+        ∙ ap (λ (h : Data). part_verdict q h papers.0 papers.1) same ∙ parts q whole papers.0 papers.1;
   }
 
   -- of the report and the certificate of a query in a folder
@@ -202,7 +202,7 @@ as-many P (x ∷ xs) (y ∷ ys) p = ap suc (as-many P xs ys p.1)
 -- ---- what an intake was given
 
 module _ (part : Bool) (bytes_of : Known) (opens : Opening) (folder : List ℕ) (t : Intake RowReader)
-    (queries : List Asked) where
+    (queries : List Query) where
   -- an error of the files is that of each query's
   pub refused-taken : (fault : Fault) → RefusesTaken HasReadByRows t fault
       → JudgesTaken part bytes_of opens folder t queries (Err (Input fault))
@@ -227,7 +227,7 @@ module _ (part : Bool) (bytes_of : Known) (opens : Opening) (folder : List ℕ) 
 
   module _ (enough : KeptAreEnough) (reports : RightReportStays) (certificates : RightCertificateStays)
       (reports_said : ReportsAreSaid) (certificates_said : CertificatesAreSaid) (verdicts : VerdictStays)
-      (parts : PartVerdictStays) (made : Contents × Warnings) (makes : MakesTaken HasReadByRows HoldFiles t made) where
+      (parts : PartVerdictStays) (made : Data × Warnings) (makes : MakesTaken HasReadByRows HoldFiles t made) where
     -- verdicts over what an intake kept are those on the texts
     pub judged-taken : (found : Verdicts) (warnings : Warnings) → warnings ≡ made.1
         → HasVerdictsOf (JudgesOver part bytes_of opens folder made.0) queries found

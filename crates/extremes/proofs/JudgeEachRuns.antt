@@ -7,7 +7,7 @@ use Rattle.ghcn_fields.specs.declared.memory.Memory.{Memory as WantOfMemory}
 use Rattle.ghcn_files.specs.declared.element.Keep.{Keep}
 use Rattle.ghcn_series.specs.declared.rows.RowReader.{RowReader}
 use Rattle.ghcn_series.specs.Gathered.{HasReadByRows}
-use Rattle.rank_query.specs.Meaning.Asked.{Asked}
+use Rattle.rank_query.specs.Meaning.Asked.{Query}
 use Rattle.rank_query.specs.Meaning.Asks.{Asks}
 use Rattle.rank_input.specs.declared.fault.Fault.{Fault}
 use Rattle.rank_input.specs.declared.fault.Fault.TheVariants.{Memory, StationLine, TooManyStations, DailyLine}
@@ -33,7 +33,7 @@ use Rattle.extremes.proofs.FedRuns.{some_files}
 module _ (bytes_of : Known) (opens : Opening) (j : EachJudging) (list stations : List ℕ)
     (same : list ≡ string_bytes j.stations) (whole : AreAllOf (bytes_of list) stations) where
   -- the judgements by an intake that was given all files that are named, and kept the elements of the queries
-  pub judges-each : (t : Intake RowReader) (queries : List Asked) (keep : Keep) (part : Bool) (folder : List ℕ)
+  pub judges-each : (t : Intake RowReader) (queries : List Query) (keep : Keep) (part : Bool) (folder : List ℕ)
       (answer : Judged) → part ≡ j.part → folder ≡ string_bytes j.folder → AreKeptFor queries keep
       → TakesWhole HasReadByRows bytes_of opens keep stations j.files.items t
       → JudgesTaken part bytes_of opens folder t queries answer → opens list true → (lines : List (List ℕ))

@@ -7,8 +7,8 @@ use Rattle.ghcn_files.specs.Listed.{listed}
 use Rattle.ghcn_series.specs.Laws.{DataAreRight}
 use Rattle.ghcn_series.specs.SaidLists.{said_by, stations_said}
 use Rattle.ghcn_series.specs.Says.{data_of}
-use Rattle.ghcn_series.specs.Series.{Contents}
-use Rattle.rank_query.specs.Meaning.Asked.{Asked}
+use Rattle.ghcn_series.specs.Series.{Data}
+use Rattle.rank_query.specs.Meaning.Asked.{Query}
 use Rattle.rank_papers.specs.RightLaws.{ReportsAreFound, CertificatesAreFound, ReportsAreSaid, CertificatesAreSaid}
 use Rattle.rank_parts.specs.Parts.{part_verdict}
 use Rattle.rank_parts.specs.Laws as parts
@@ -27,7 +27,7 @@ length-said : (stations : List ℕ) (ps : List JudgedPart) → length (said_by_p
 length-said stations [] = refl
 length-said stations (p ∷ ps) = omega (arith, length-said stations ps)
 
-module _ (stations report certificate : List ℕ) (q : Asked) where
+module _ (stations report certificate : List ℕ) (q : Query) where
   -- each part's verdict is about this report and this certificate
   abbrev All : List JudgedPart → Type 0
   All ps = AllByRecursion (IsJudgedFor q stations report certificate) ps
@@ -38,9 +38,9 @@ module _ (stations report certificate : List ℕ) (q : Asked) where
   verdict-is p is =
       let j = is.judged in
       j.verdict
-      ∙ ap (λ (a : Asked). part_verdict a j.dataset report certificate)
+      ∙ ap (λ (a : Query). part_verdict a j.dataset report certificate)
       (one_query p.query j.asked q j.read.asks is.asks)
-      ∙ ap (λ (d : Contents). part_verdict q d report certificate)
+      ∙ ap (λ (d : Data). part_verdict q d report certificate)
       (held_is_said p.query stations p.files j.asked j.dataset j.read)
 
   -- what the files of the parts say are their data
@@ -49,7 +49,7 @@ module _ (stations report certificate : List ℕ) (q : Asked) where
   each-holds list lists [] all = tt
   each-holds list lists (p ∷ ps) all =
       let j = all.0.judged in (
-        subst (λ (d : Contents). data_of list p.files ≡ Ok d)
+        subst (λ (d : Data). data_of list p.files ≡ Ok d)
             (held_is_said p.query stations p.files j.asked j.dataset j.read)
             (subst (λ (l : List Station). data_of l p.files ≡ Ok j.dataset) (one_value _ _ _ j.read.lists lists)
             j.read.holds),

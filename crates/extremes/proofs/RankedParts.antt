@@ -9,8 +9,8 @@ use Rattle.ghcn_files.specs.Listed.{listed}
 use Rattle.ghcn_series.specs.Laws.{DataAreRight}
 use Rattle.ghcn_series.specs.SaidLists.{said_by, stations_said}
 use Rattle.ghcn_series.specs.Says.{data_of}
-use Rattle.ghcn_series.specs.Series.{Contents}
-use Rattle.rank_query.specs.Meaning.Asked.{Asked}
+use Rattle.ghcn_series.specs.Series.{Data}
+use Rattle.rank_query.specs.Meaning.Asked.{Query}
 use Rattle.rank_query.proofs.Asks.{asks_read}
 use Rattle.rank_scores.specs.Cut.{Filed}
 use Rattle.rank_scores.specs.Morsels.{best_of_query, kth_of_query}
@@ -32,21 +32,21 @@ use Rattle.extremes.specs.RankedInParts.{IsRankedPart, MergedIsRanked}
 said_read : (query stations : List ℕ) (files : List (List ℕ)) (list : List Station) → listed stations ≡ Ok list
     → IsFaultless query stations files → data_of list files ≡ Ok (said_by (stations_said stations) files)
 said_read query stations files list lists f =
-    subst (λ (c : Contents). data_of list files ≡ Ok c) (held_is_said query stations files f.asked f.dataset f.read)
+    subst (λ (c : Data). data_of list files ≡ Ok c) (held_is_said query stations files f.asked f.dataset f.read)
     (subst (λ (l : List Station). data_of l files ≡ Ok f.dataset) (one_value _ _ _ f.read.lists lists) f.read.holds)
 
 -- so it is for the stations that the list says
 said_held : (query stations : List ℕ) (files : List (List ℕ)) → IsFaultless query stations files
     → data_of (stations_said stations) files ≡ Ok (said_by (stations_said stations) files)
 said_held query stations files f =
-    subst (λ (c : Contents). data_of (stations_said stations) files ≡ Ok c)
+    subst (λ (c : Data). data_of (stations_said stations) files ≡ Ok c)
     (held_is_said query stations files f.asked f.dataset f.read)
     (data_is_said query stations files f.asked f.dataset f.read)
 
 -- ---- the version of what is merged
 
 -- the certificate that is merged begins as one of version 2
-begins_as_two : (q : Asked) (parts : Result (List Part) MergeFault) (papers : Texts) → papers_of q parts ≡ Ok papers
+begins_as_two : (q : Query) (parts : Result (List Part) MergeFault) (papers : Texts) → papers_of q parts ≡ Ok papers
     → (rest : List ℕ) × (papers.1 ≡ title_line 2 ++ rest)
 begins_as_two q (Err why) papers e = absurd cc
 begins_as_two q (Ok ps) papers e = by (twice (merged_entries ps)) e
@@ -63,7 +63,7 @@ begins_as_two q (Ok ps) papers e = by (twice (merged_entries ps)) e
         )
 
 -- so a certificate that begins so is of version 2
-of_version_two : (q : Asked) (c : Contents) (bytes other : List ℕ) (h : IsFoundCertificate q c bytes)
+of_version_two : (q : Query) (c : Data) (bytes other : List ℕ) (h : IsFoundCertificate q c bytes)
     → bytes ≡ title_line 2 ++ other → h.version ≡ 2
 of_version_two q c bytes other h begins = by h.known
   where
@@ -90,7 +90,7 @@ of_version_two q c bytes other h begins = by h.known
 module _ (are_right : DataAreRight) (reports : ReportsAreFound) (certificates : CertificatesAreFound)
     (reports_said : ReportsAreSaid) (certificates_said : CertificatesAreSaid) where
   -- a report and a certificate that a ranking returns for a part's files are right for them
-  ranked-right : (stations : List ℕ) (q : Asked) (list : List Station) (p : Filed) → listed stations ≡ Ok list
+  ranked-right : (stations : List ℕ) (q : Query) (list : List Station) (p : Filed) → listed stations ≡ Ok list
       → IsRankedPart q stations p → ArePapersOf q list p.0 p.1
   ranked-right stations q list p lists is =
       let a = is.answer in
@@ -108,14 +108,14 @@ module _ (are_right : DataAreRight) (reports : ReportsAreFound) (certificates : 
       record {
         dataset = dataset;
         read = holds;
-        report = subst (λ (x : Asked). IsFoundReport x dataset p.1.0) same
+        report = subst (λ (x : Query). IsFoundReport x dataset p.1.0) same
             (subst (IsFoundReport a.asked dataset) (sym (ap (λ (t : List ℕ × List ℕ). t.0) is.texts)) report);
-        certificate = subst (λ (x : Asked). IsFoundCertificate x dataset p.1.1) same
+        certificate = subst (λ (x : Query). IsFoundCertificate x dataset p.1.1) same
             (subst (IsFoundCertificate a.asked dataset) (sym (ap (λ (t : List ℕ × List ℕ). t.1) is.texts)) certificate.0);
       }
 
   -- so are those of all parts
-  all-ranked-right : (stations : List ℕ) (q : Asked) (list : List Station) (parts : List Filed)
+  all-ranked-right : (stations : List ℕ) (q : Query) (list : List Station) (parts : List Filed)
       → listed stations ≡ Ok list → AllByRecursion (IsRankedPart q stations) parts
       → AllByRecursion (λ p. ArePapersOf q list p.0 p.1) parts
   all-ranked-right stations q list [] lists are = tt
@@ -140,16 +140,16 @@ module _ (are_right : DataAreRight) (reports : ReportsAreFound) (certificates : 
       (answers_right query stations files r.list whole r.lists answer).report) in
       let same : is.asked ≡ answer.asked = one_value _ _ _ is.read (asks_read merging answer.asked asks) in
       let ranked_for : AllByRecursion (IsRankedPart is.asked stations) parts =
-      subst (λ (q : Asked). AllByRecursion (IsRankedPart q stations) parts) (sym same) ranked in
+      subst (λ (q : Query). AllByRecursion (IsRankedPart q stations) parts) (sym same) ranked in
       let right = is.right stations r.list parts dataset r.lists refl
       (all-ranked-right stations is.asked r.list parts r.lists ranked_for) holds in
       let begins = begins_as_two is.asked (parts_from is.asked 1 (all_texts parts)) (merged.report.items, bytes)
       is.merged in
       let of_two : (h : IsFoundCertificate is.asked dataset bytes) × (h.version ≡ 2) =
       (right.1, of_version_two is.asked dataset bytes begins.0 right.1 begins.1) in
-      let found = subst (λ (q : Asked). (h : IsFoundCertificate q dataset bytes) × (h.version ≡ 2)) same of_two in (
+      let found = subst (λ (q : Query). (h : IsFoundCertificate q dataset bytes) × (h.version ≡ 2)) same of_two in (
         sym (right.0.1 whole.report.items
-            (subst (λ (q : Asked). IsFoundReport q dataset whole.report.items) (sym same) report)),
+            (subst (λ (q : Query). IsFoundReport q dataset whole.report.items) (sym same) report)),
         (certificates_said 2 answer.asked said files dataset bytes read).0
             ((certificates 2 answer.asked dataset bytes answer.asks.can contents).0 found),
       )

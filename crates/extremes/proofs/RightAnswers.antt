@@ -7,7 +7,7 @@ use Rattle.ghcn_series.specs.SaidLists.{stations_said, unlisted_said}
 use Rattle.ghcn_series.proofs.SaidLines.{listed-said}
 use Rattle.ghcn_series.proofs.SaidStations.{stations-said}
 use Rattle.ghcn_series.proofs.UnlistedLines.{unlisted-said}
-use Rattle.rank_query.specs.Meaning.Asked.{Asked}
+use Rattle.rank_query.specs.Meaning.Asked.{Query}
 use Rattle.rank_query.specs.Meaning.Asks.{Asks}
 use Rattle.rank_scores.specs.declared.candidate.Candidate.{Candidate}
 use Rattle.rank_papers.specs.Meaning.Right.{IsAdmittedSeries, IsCertificateOfBest}
@@ -18,7 +18,7 @@ use Rattle.extremes.specs.Meaning.Answer.{Answers}
 
 -- a report and a certificate are right for a query, some stations and what daily files say, each by itself, and the lines
 -- of other stations are counted
-pub record AreRight (q : Asked) (stations : List Station) (files : List (List ℕ)) (papers : Papers) : Type 0 where
+pub record AreRight (q : Query) (stations : List Station) (files : List (List ℕ)) (papers : Papers) : Type 0 where
   pub report : IsRightReport q stations (IsAdmittedSeries q stations files) papers.report.items
   pub certificate : IsRightCertificate 2 q (IsAdmittedSeries q stations files) papers.certificate.items
   pub unlisted : papers.unlisted ≡ unlisted_said stations files
@@ -26,7 +26,7 @@ pub record AreRight (q : Asked) (stations : List Station) (files : List (List �
 module _ (query stations : List ℕ) (files : List (List ℕ)) (list : List Station) (papers : Papers)
     (lists : listed stations ≡ Ok list) where
   -- if they are right for the stations of a list without an error, they answer the input
-  pub right_answers : (q : Asked) → Asks query q → AreRight q (stations_said stations) files papers
+  pub right_answers : (q : Query) → Asks query q → AreRight q (stations_said stations) files papers
       → Answers query stations files papers
   right_answers q asks right =
       let said : List Station = stations_said stations in

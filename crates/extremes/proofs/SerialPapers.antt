@@ -5,10 +5,10 @@ use Rattle.std.specs.List.{AllByRecursion}
 use Rattle.ghcn_files.specs.declared.station.Station.{Station}
 use Rattle.ghcn_files.specs.Meaning.Listed.{is_station_of}
 use Rattle.ghcn_series.specs.SaidLists.{said_by, stations_said}
-use Rattle.ghcn_series.specs.Series.{Contents}
-use Rattle.rank_query.specs.Meaning.Asked.{Asked}
+use Rattle.ghcn_series.specs.Series.{Data}
+use Rattle.rank_query.specs.Meaning.Asked.{Query}
 use Rattle.rank_scores.specs.declared.candidate.Candidate.{Candidate}
-use Rattle.rank_sched.specs.Plan.{Planned, planned}
+use Rattle.rank_sched.specs.Plan.{Plan, planned}
 use Rattle.rank_sched.specs.Task.{task_of}
 use Rattle.rank_sched.specs.Laws.{RecordsAloneAreOne}
 use Rattle.rank_papers.specs.Meaning.Report.{report_text}
@@ -37,7 +37,7 @@ one_rows stations (x ∷ xs) (y ∷ ys) e f g =
     λ i. (candidate i, other i) ∷ one_rows stations xs ys rest f.1 g.1 i
 
 -- the right report is one text
-one_report : (q : Asked) (stations : List Station) (files : List (List ℕ)) (bytes bytes' : List ℕ) → BestAreOne
+one_report : (q : Query) (stations : List Station) (files : List (List ℕ)) (bytes bytes' : List ℕ) → BestAreOne
     → IsRightReport q stations (IsAdmittedSeries q stations files) bytes
     → IsRightReport q stations (IsAdmittedSeries q stations files) bytes' → bytes ≡ bytes'
 one_report q stations files bytes bytes' best a b =
@@ -49,11 +49,11 @@ one_report q stations files bytes bytes' best a b =
 -- so an input determines the report and the number of lines of unlisted stations
 pub report_one : BestAreOne → ReportsAreOne
 report_one best query stations files faultless a b answer-a answer-b =
-    let q : Asked = answer-a.asked in
+    let q : Query = answer-a.asked in
     let list : List Station = stations_said stations in
     let own : AreRight q list files a =
     answers_right query stations files faultless.read.list a faultless.read.lists answer-a in
-    let right : AreRight q list files b = subst (λ (x : Asked). AreRight x list files b)
+    let right : AreRight q list files b = subst (λ (x : Query). AreRight x list files b)
     (one_query query answer-b.asked q answer-b.asks answer-a.asks)
     (answers_right query stations files faultless.read.list b faultless.read.lists answer-b) in (
       one_report q list files a.report.items b.report.items best own.report right.report,
@@ -61,7 +61,7 @@ report_one best query stations files faultless a b answer-a answer-b =
     )
 
 -- the certificate of one worker's run is one text
-one_certificate : (p : Planned) (guess : Option ℤ) (bytes bytes' : List ℕ) → RecordsAloneAreOne
+one_certificate : (p : Plan) (guess : Option ℤ) (bytes bytes' : List ℕ) → RecordsAloneAreOne
     → IsOfOneWorker p guess bytes → IsOfOneWorker p guess bytes' → bytes ≡ bytes'
 one_certificate p guess bytes bytes' one a b =
     a.printed ∙ ap (certificate_of_run p) (one (task_of p) guess a.records b.records a.alone b.alone)
@@ -70,13 +70,13 @@ one_certificate p guess bytes bytes' one a b =
 -- so an input and a guess determine all that one worker returns
 pub serial_one : BestAreOne → RecordsAloneAreOne → SerialPapersAreOne
 serial_one best one guess query stations files a b answer-a serial-a answer-b serial-b =
-    let q : Asked = answer-a.asked in
-    let c : Contents = said_by (stations_said stations) files in
+    let q : Query = answer-a.asked in
+    let c : Data = said_by (stations_said stations) files in
     let mine : IsOfOneWorker (planned q c) guess a.certificate.items =
-    subst (λ (x : Asked × Contents). IsOfOneWorker (planned x.0 x.1) guess a.certificate.items)
+    subst (λ (x : Query × Data). IsOfOneWorker (planned x.0 x.1) guess a.certificate.items)
     (one_saying query stations files (serial-a.asked, serial-a.dataset) q serial-a.read answer-a.asks) serial-a.alone in
     let other : IsOfOneWorker (planned q c) guess b.certificate.items =
-    subst (λ (x : Asked × Contents). IsOfOneWorker (planned x.0 x.1) guess b.certificate.items)
+    subst (λ (x : Query × Data). IsOfOneWorker (planned x.0 x.1) guess b.certificate.items)
     (one_saying query stations files (serial-b.asked, serial-b.dataset) q serial-b.read answer-a.asks) serial-b.alone in
     let same : (a.report.items ≡ b.report.items) × (a.unlisted ≡ b.unlisted) =
     report_one best query stations files (record {

@@ -10,8 +10,8 @@ use Rattle.ghcn_series.specs.declared.rows.RowReader.{RowReader}
 use Rattle.ghcn_series.specs.Gathered.{HasReadByRows}
 use Rattle.ghcn_series.specs.LineKinds.{warnings_of}
 use Rattle.ghcn_series.specs.SaidLists.{stations_said, unlisted_said}
-use Rattle.ghcn_series.specs.Series.{Contents}
-use Rattle.rank_query.specs.Meaning.Asked.{Asked, score_element}
+use Rattle.ghcn_series.specs.Series.{Data}
+use Rattle.rank_query.specs.Meaning.Asked.{Query, score_element}
 use Rattle.rank_query.specs.Meaning.Asks.{Asks}
 use Rattle.rank_sched.specs.Plan.{planned}
 use Rattle.rank_papers.specs.PlanPapers.{IsMeasuredCertificate}
@@ -71,7 +71,7 @@ pub record RanksOne (IsRankedSo : Papers → Type 0) (folder : Option (List ℕ)
 
 -- a report and a certificate are right for a query and data; the certificate is that of a sound run of that many
 -- workers over the plan of the two, and its bounds are those of the series
-pub record IsRankedOver (workers : ℕ) (c : Contents) (q : Asked) (papers : Papers) : Type 0 where
+pub record IsRankedOver (workers : ℕ) (c : Data) (q : Query) (papers : Papers) : Type 0 where
   pub right : AreRightFor q c papers
   pub bounds : IsMeasuredCertificate q c papers.certificate.items
   pub crew : IsOfCrew (planned q c) None workers papers.certificate.items
@@ -83,7 +83,7 @@ pub record IsRankedBy (workers : ℕ) (stations : List ℕ) (files : List (List 
   pub crew : IsCrewed workers None query stations files papers
 
 -- the values of the element of each of these queries are kept
-abbrev pub AreKeptFor : List Asked → Keep → Type 0
+abbrev pub AreKeptFor : List Query → Keep → Type 0
 AreKeptFor queries keep = All (λ q. is_kept keep (score_element q.score) ≡ true) queries
 
 -- so the rankings of these queries over these texts end: as above, by that many workers; or the texts have this error,
@@ -99,7 +99,7 @@ EndsFor workers stations files queries folder stores (Err (NotWritten path)) = (
 
 -- if an intake kept the elements of these queries, the rankings for what it was given end so, for any texts that denote
 -- these queries
-abbrev pub EndsTaken : Intake RowReader → List Asked → ℕ → Option (List ℕ) → Storing → Reports → Type 0
+abbrev pub EndsTaken : Intake RowReader → List Query → ℕ → Option (List ℕ) → Storing → Reports → Type 0
 EndsTaken t queries workers folder stores answer = IsTrueOf HasReadByRows t (λ keep stations files.
     AreKeptFor queries keep → (lines : List (List ℕ)) → AllZip Asks lines queries
     → EndsFor workers stations files lines folder stores answer)

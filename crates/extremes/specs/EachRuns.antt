@@ -8,7 +8,7 @@ use Rattle.ghcn_fields.specs.Refusals.{OrMemory}
 use Rattle.ghcn_series.specs.declared.counts.Warnings.{Warnings}
 use Rattle.ghcn_series.specs.LineKinds.{warnings_of}
 use Rattle.ghcn_series.specs.SaidLists.{stations_said, unlisted_said}
-use Rattle.rank_query.specs.Meaning.Asked.{Asked}
+use Rattle.rank_query.specs.Meaning.Asked.{Query}
 use Rattle.rank_query.specs.Meaning.Asks.{Asks}
 use Rattle.rank_input.specs.declared.fault.Fault.{Fault}
 use Rattle.rank_input.specs.declared.fault.Fault.TheVariants.{Memory}
@@ -78,7 +78,7 @@ pub record RanksEach (bytes_of : Known) (opens : Opening) (stores : Storing) (r 
       × (unlisted ≡ unlisted_said (stations_said stations) files))
 
 -- the same for any texts that denote these queries
-abbrev pub RanksEachOver : Known → Opening → Storing → EachRanking → List Asked → RankedEach → Type 0
+abbrev pub RanksEachOver : Known → Opening → Storing → EachRanking → List Query → RankedEach → Type 0
 RanksEachOver bytes_of opens stores r queries ranked = (lines : List (List ℕ)) → AllZip Asks lines queries
     → RanksEach bytes_of opens stores r lines ranked.reports ranked.warnings ranked.unlisted
 
@@ -98,7 +98,7 @@ RunsQueries e r files queries ending = (PutsNothing e.puts × EndsAtAFile e.open
     ⊎ PrintsEach e r files queries ending
 
 -- the same for any texts that denote these queries
-abbrev pub RunsAsked : Environment → EachRanking → NamedFiles → List Asked → Ending → Type 0
+abbrev pub RunsAsked : Environment → EachRanking → NamedFiles → List Query → Ending → Type 0
 RunsAsked e r files queries ending =
     (lines : List (List ℕ)) → AllZip Asks lines queries → RunsQueries e r files lines ending
 
@@ -123,7 +123,7 @@ RunsApart e r files queries ending =
     × RunsQueries e r files queries ending)
 
 -- the same for any texts that denote these queries
-abbrev pub RunsAskedApart : Environment → EachRanking → NamedFiles → List Asked → Ending → Type 0
+abbrev pub RunsAskedApart : Environment → EachRanking → NamedFiles → List Query → Ending → Type 0
 RunsAskedApart e r files queries ending =
     (lines : List (List ℕ)) → AllZip Asks lines queries → RunsApart e r files lines ending
 
@@ -133,7 +133,7 @@ RunsInto e r files queries ending = (PutsNothing e.puts × EndsUnfound e (folder
     ⊎ (HasFolder e.there (folder_of r) × RunsApart e r files queries ending)
 
 -- the same for any texts that denote these queries
-abbrev pub RunsAskedInto : Environment → EachRanking → NamedFiles → List Asked → Ending → Type 0
+abbrev pub RunsAskedInto : Environment → EachRanking → NamedFiles → List Query → Ending → Type 0
 RunsAskedInto e r files queries ending =
     (lines : List (List ℕ)) → AllZip Asks lines queries → RunsInto e r files lines ending
 
@@ -154,7 +154,7 @@ pub record EndsAtList (line : Fault → Line) (s : Streams) (path text : List �
 
 -- each line of a list denotes a query
 pub record AreQueries (lines : List (List ℕ)) : Type 0 where
-  pub queries : List Asked
+  pub queries : List Query
   pub asked : AllZip Asks lines queries
 
 -- how a run goes on that may have that many workers: it ends at its list of queries, whose text this is, or each line of

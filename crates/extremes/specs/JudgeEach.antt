@@ -7,8 +7,8 @@ use Rattle.ghcn_series.specs.declared.counts.Warnings.{Warnings}
 use Rattle.ghcn_series.specs.declared.rows.RowReader.{RowReader}
 use Rattle.ghcn_series.specs.Gathered.{HasReadByRows}
 use Rattle.ghcn_series.specs.LineKinds.{warnings_of}
-use Rattle.ghcn_series.specs.Series.{Contents}
-use Rattle.rank_query.specs.Meaning.Asked.{Asked}
+use Rattle.ghcn_series.specs.Series.{Data}
+use Rattle.rank_query.specs.Meaning.Asked.{Query}
 use Rattle.rank_query.specs.Meaning.Asks.{Asks}
 use Rattle.rank_papers.specs.RightLaws.{IsRightReportFor, IsRightCertificateFor}
 use Rattle.rank_check.specs.declared.verdict.Verdict.{Verdict}
@@ -98,21 +98,21 @@ pub record IsJudgedIn (bytes_of : Known) (opens : Opening) (folder : List ℕ) (
   pub judged : judges papers j
 
 -- a verdict is that on a report and a certificate for a query and data: accepted if and only if both are right
-pub record IsVerdictOver (q : Asked) (c : Contents) (papers : Texts) (v : Verdict) : Type 0 where
+pub record IsVerdictOver (q : Query) (c : Data) (papers : Texts) (v : Verdict) : Type 0 where
   pub verdict : v ≡ verdict q c papers.0 papers.1
   pub accepted : (v ≡ Accepted) ↔ (IsRightReportFor q c papers.0
       × (version : ℕ) × IsRightCertificateFor version q c papers.1)
 
 -- a judgement for a query and data is a part's verdict if the files are a part of those that the report and the
 -- certificate cover, and a verdict if they aren't
-abbrev pub IsJudgedOver : Bool → Asked → Contents → Texts → Judgement → Type 0
+abbrev pub IsJudgedOver : Bool → Query → Data → Texts → Judgement → Type 0
 IsJudgedOver false q c papers (Whole v) = IsVerdictOver q c papers v
 IsJudgedOver false q c papers (Part v) = ⊥
 IsJudgedOver true q c papers (Whole v) = ⊥
 IsJudgedOver true q c papers (Part v) = v ≡ part_verdict q c papers.0 papers.1
 
 -- so the report and the certificate of the query of a number in a folder are judged over data
-abbrev pub JudgesOver : Bool → Known → Opening → List ℕ → Contents → ℕ → Asked → Judgement → Type 0
+abbrev pub JudgesOver : Bool → Known → Opening → List ℕ → Data → ℕ → Query → Judgement → Type 0
 JudgesOver part bytes_of opens folder c number q j =
     IsJudgedIn bytes_of opens folder (IsJudgedOver part q c) number j
 
@@ -143,7 +143,7 @@ AreJudged part bytes_of opens folder queries stations files (Err (NotRead path))
 
 -- if an intake kept the elements of these queries, the checks for what it was given end so, for any texts that denote
 -- these queries
-abbrev pub JudgesTaken : Bool → Known → Opening → List ℕ → Intake RowReader → List Asked → Judged → Type 0
+abbrev pub JudgesTaken : Bool → Known → Opening → List ℕ → Intake RowReader → List Query → Judged → Type 0
 JudgesTaken part bytes_of opens folder t queries answer = IsTrueOf HasReadByRows t (λ keep stations files.
     AreKeptFor queries keep → (lines : List (List ℕ)) → AllZip Asks lines queries
     → AreJudged part bytes_of opens folder lines stations files answer)

@@ -4,7 +4,7 @@ use Rattle.std.specs.Io.KnownBytes.{Appends}
 use Rattle.std.specs.List.{AllZip}
 use Rattle.command_line.specs.declared.asked.CheckEachArguments.{CheckEachArguments}
 use Rattle.command_line.specs.declared.asked.NamedFiles.{NamedFiles}
-use Rattle.rank_query.specs.Meaning.Asked.{Asked}
+use Rattle.rank_query.specs.Meaning.Asked.{Query}
 use Rattle.rank_query.specs.Meaning.Asks.{Asks}
 use Rattle.rank_input.specs.declared.fault.Fault.{Fault}
 use Rattle.rank_input.specs.declared.fault.Fault.TheVariants.{Memory}
@@ -53,7 +53,7 @@ pub record JudgesEach (bytes_of : Known) (opens : Opening) (j : EachJudging) (qu
   pub judged : AreJudged j.part bytes_of opens (string_bytes j.folder) queries stations files answer
 
 -- the same for any texts that denote these queries
-abbrev pub JudgesEachOver : Known → Opening → EachJudging → List Asked → Judged → Type 0
+abbrev pub JudgesEachOver : Known → Opening → EachJudging → List Query → Judged → Type 0
 JudgesEachOver bytes_of opens j queries answer = (lines : List (List ℕ)) → AllZip Asks lines queries
     → JudgesEach bytes_of opens j lines answer
 
@@ -118,7 +118,7 @@ RunsTried bytes_of opens line s j files queries ending =
     × RunsJudgingEach bytes_of opens line s j files queries ending)
 
 -- the same for any texts that denote these queries
-abbrev pub RunsAskedJudging : Known → Opening → (Fault → Line) → Streams → EachJudging → NamedFiles → List Asked
+abbrev pub RunsAskedJudging : Known → Opening → (Fault → Line) → Streams → EachJudging → NamedFiles → List Query
     → Ending → Type 0
 RunsAskedJudging bytes_of opens line s j files queries ending = (lines : List (List ℕ)) → AllZip Asks lines queries
     → RunsTried bytes_of opens line s j files lines ending

@@ -3,8 +3,8 @@ use Rattle.std.specs.Prelude.{◌≡◌, ◌↔◌, ℕ, ◌<◌, List, length, 
 use Rattle.std.specs.List.{sum, flat_map, AllByRecursion, AllZip, IsDistinct}
 use Rattle.ghcn_files.specs.Meaning.Ids.{same_id}
 use Rattle.ghcn_series.specs.SaidLists.{said_by, stations_said}
-use Rattle.ghcn_series.specs.Series.{Contents}
-use Rattle.rank_query.specs.Meaning.Asked.{Asked}
+use Rattle.ghcn_series.specs.Series.{Data}
+use Rattle.rank_query.specs.Meaning.Asked.{Query}
 use Rattle.rank_query.specs.Meaning.Asks.{Asks}
 use Rattle.rank_scores.specs.Cut.{morsel_ids}
 use Rattle.rank_parts.specs.declared.verdict.PartVerdict.{PartVerdict}
@@ -19,7 +19,7 @@ pub record JudgedPart : Type 0 where
   pub verdict : PartVerdict
 
 -- a part's text denotes this query, in its own spelling, and its verdict is that on this report and this certificate
-pub record IsJudgedFor (asked : Asked) (stations report certificate : List ℕ) (p : JudgedPart) : Type 0 where
+pub record IsJudgedFor (asked : Query) (stations report certificate : List ℕ) (p : JudgedPart) : Type 0 where
   pub asks : Asks p.query asked
   pub judged : IsJudgedByPart p.query stations p.files report certificate p.verdict
 
@@ -28,11 +28,11 @@ abbrev pub files_of_parts : List JudgedPart → List (List ℕ)
 files_of_parts parts = flat_map (λ p. p.files) parts
 
 -- what the files of each part say
-abbrev pub said_by_parts : List ℕ → List JudgedPart → List Contents
+abbrev pub said_by_parts : List ℕ → List JudgedPart → List Data
 said_by_parts stations parts = map (λ p. said_by (stations_said stations) p.files) parts
 
 -- no station has an admitted day in two parts
-abbrev pub ArePartsApart : Asked → List ℕ → List JudgedPart → Type 0
+abbrev pub ArePartsApart : Query → List ℕ → List JudgedPart → Type 0
 ArePartsApart asked stations parts = IsDistinct same_id (morsel_ids asked (said_by_parts stations parts))
 
 -- a part accepts: it has that many series, of that many lines
@@ -49,8 +49,8 @@ pub record AllFilesAccept (parts : List JudgedPart) : Type 0 where
 -- a report is the right one and a certificate a right one for the files of all parts, one part after the other, if and
 -- only if all parts accept them: there is a part, all files together have no error, and the parts are apart
 abbrev pub PartsJudgeTheWhole : Type 0
-PartsJudgeTheWhole = (query stations report certificate : List ℕ) (parts : List JudgedPart) (asked : Asked)
-    (dataset : Contents) → IsReadOf query stations (files_of_parts parts) asked dataset → 0 < length parts
+PartsJudgeTheWhole = (query stations report certificate : List ℕ) (parts : List JudgedPart) (asked : Query)
+    (dataset : Data) → IsReadOf query stations (files_of_parts parts) asked dataset → 0 < length parts
     → AllByRecursion (IsJudgedFor asked stations report certificate) parts → ArePartsApart asked stations parts
     → AllFilesAccept parts
     ↔ AreRightTexts asked (stations_said stations) (files_of_parts parts) report certificate

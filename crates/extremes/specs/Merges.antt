@@ -4,7 +4,7 @@ use Rattle.std.specs.List.{AllZip, flat_map}
 use Rattle.command_line.specs.declared.asked.Part.{Part}
 use Rattle.ghcn_fields.specs.Refusals.{IsRefusal, OrMemory}
 use Rattle.rank_query.specs.declared.fault.QueryFault.{QueryFault}
-use Rattle.rank_query.specs.Meaning.Asked.{Asked}
+use Rattle.rank_query.specs.Meaning.Asked.{Query}
 use Rattle.rank_query.specs.Reading.{read_query}
 use Rattle.rank_input.specs.Feeding.{AreAllOf, AreOpenedFor, Opening}
 use Rattle.rank_merge.specs.declared.fault.MergeFault.{MergeFault}
@@ -14,7 +14,8 @@ use Rattle.rank_merge.specs.Laws.{AreRightForAll, AreMeasuredForAll, IsOutcomeWh
 use Rattle.extremes.specs.declared.papers.Papers.{Papers}
 use Rattle.extremes.specs.declared.merge.PartTexts.{PartTexts}
 use Rattle.extremes.specs.declared.merge.MergingFault.{MergingFault}
-use Rattle.extremes.specs.declared.merge.MergingFault.TheVariants.{Query, Parts}
+use Rattle.extremes.specs.declared.merge.MergingFault.TheVariants as faults
+use Rattle.extremes.specs.declared.merge.MergingFault.TheVariants.{Parts}
 
 -- the texts of parts, those of a part side by side
 abbrev pub texts_of : List PartTexts → List Texts
@@ -26,9 +27,9 @@ of_parts (Ok papers) = Ok papers
 of_parts (Err why) = Err (Parts why)
 
 -- what is merged for a query that was read, or the query's error
-abbrev pub merged_for : Result Asked QueryFault → List Texts → Result Texts MergingFault
+abbrev pub merged_for : Result Query QueryFault → List Texts → Result Texts MergingFault
 merged_for (Ok asked) texts = of_parts (merge asked texts)
-merged_for (Err cause) texts = Err (Query cause)
+merged_for (Err cause) texts = Err (faults.Query cause)
 
 -- what is merged for the query of a text, or the first error: the query's, or that of the parts
 abbrev pub merged_of : List ℕ → List Texts → Result Texts MergingFault
@@ -36,14 +37,14 @@ merged_of query texts = merged_for (read_query query) texts
 
 -- memory ran out
 abbrev pub is_memory : MergingFault → Bool
-is_memory (Query cause) = false
+is_memory (faults.Query cause) = false
 is_memory (Parts why) = merging.is_memory why
 
 -- a report and a certificate are those that are merged of these texts for the query of a text; if each part's are right
 -- for its files, they are right for all files, with the bounds of the series if no station has series in two parts, and
 -- no station has morsels in two; no line is counted as one of an unlisted station
 pub record AreMerged (query : List ℕ) (texts : List Texts) (papers : Papers) : Type 0 where
-  pub asked : Asked
+  pub asked : Query
   pub read : read_query query ≡ Ok asked
   pub merged : merge asked texts ≡ Ok (papers.report.items, papers.certificate.items)
   pub right : AreRightForAll asked texts (papers.report.items, papers.certificate.items)
@@ -54,8 +55,8 @@ pub record AreMerged (query : List ℕ) (texts : List Texts) (papers : Papers) :
 -- reports and certificates that are right for the parts' files are refused only if a station has morsels in two parts,
 -- by an ID that is on two lines
 abbrev pub IsRefusedWhereRight : List ℕ → List Texts → MergingFault → Type 0
-IsRefusedWhereRight query texts (Query cause) = ⊤
-IsRefusedWhereRight query texts (Parts why) = (asked : Asked) → read_query query ≡ Ok asked
+IsRefusedWhereRight query texts (faults.Query cause) = ⊤
+IsRefusedWhereRight query texts (Parts why) = (asked : Query) → read_query query ≡ Ok asked
     → OrMemory merging.is_memory (λ fault. IsOutcomeWhereRight asked texts (Err fault)) why
 
 -- the report and the certificate that are merged of these texts, or the first error

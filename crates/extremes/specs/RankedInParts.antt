@@ -2,7 +2,7 @@
 use Rattle.std.specs.Prelude.{◌≡◌, ℕ, List}
 use Rattle.std.specs.List.{AllByRecursion}
 use Rattle.ghcn_series.specs.SaidLists.{stations_said}
-use Rattle.rank_query.specs.Meaning.Asked.{Asked}
+use Rattle.rank_query.specs.Meaning.Asked.{Query}
 use Rattle.rank_query.specs.Meaning.Asks.{Asks}
 use Rattle.rank_scores.specs.Cut.{Filed}
 use Rattle.rank_papers.specs.Meaning.Right.{IsAdmittedSeries}
@@ -15,7 +15,7 @@ use Rattle.extremes.specs.Merges.{AreMerged}
 
 -- the report and the certificate of a part are those that a ranking returns for its files, and for a text that denotes
 -- this query, in the part's own spelling
-pub record IsRankedPart (asked : Asked) (stations : List ℕ) (p : Filed) : Type 0 where
+pub record IsRankedPart (asked : Query) (stations : List ℕ) (p : Filed) : Type 0 where
   pub query : List ℕ
   pub asks : Asks query asked
   pub papers : Papers

@@ -18,7 +18,7 @@ use Rattle.ghcn_files.specs.declared.month.Reading.{Reading}
 use Rattle.ghcn_files.specs.Meaning.Ids.{same_id}
 use Rattle.ghcn_files.specs.Meaning.Elements.{elements, may_be_negative}
 use Rattle.ghcn_files.specs.Elements.{same_element}
-use Rattle.ghcn_series.specs.Meaning.Series.{DayValue, Usable}
+use Rattle.ghcn_series.specs.Meaning.Series.{DayValue, Series}
 use Rattle.ghcn_series.specs.DailyFaults.{is_listed}
 use Rattle.ghcn_series.specs.Meaning.Says.{Fact}
 use Rattle.ghcn_series.specs.Says.{fact_if, fact_of, is_usable, days_of, usable_of, all_series}
@@ -159,10 +159,10 @@ pub series-are : (facts : List Fact) (e : Element) (ss : List Station)
     → count_by (λ u. same_element u.element e) (all_series ss facts) ≡ count_by (λ s. has_fact facts s.id e) ss
 series-are facts e [] = refl
 series-are facts e (s ∷ ss) =
-    let of_it : Usable → Bool = λ u. same_element u.element e in
-    let with_day : Usable → Bool = λ u. not (length u.days == 0) in
-    let five : List Usable = map (usable_of facts s) elements in
-    let others : List Usable = flat_map (λ t. map (usable_of facts t) elements) ss in
+    let of_it : Series → Bool = λ u. same_element u.element e in
+    let with_day : Series → Bool = λ u. not (length u.days == 0) in
+    let five : List Series = map (usable_of facts s) elements in
+    let others : List Series = flat_map (λ t. map (usable_of facts t) elements) ss in
     let own : count_by of_it (filter with_day five) ≡ cond (has_fact facts s.id e) 1 0 =
     count-left of_it with_day five ∙ one-of-five e (λ x. not (length (days_of facts s.id x) == 0))
     ∙ ap (λ b. cond b 1 0) (has-days facts s.id e) in

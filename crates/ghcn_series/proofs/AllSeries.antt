@@ -19,8 +19,8 @@ use Rattle.ghcn_files.specs.Listed.{AreListed}
 use Rattle.ghcn_files.specs.Months.{IsMonth}
 use Rattle.ghcn_files.proofs.KeptElements.{is_kept-everything}
 use Rattle.ghcn_series.specs.declared.gathering.Gathering.{Gathering}
-use Rattle.ghcn_series.specs.Meaning.Series.{DayValue, Usable}
-use Rattle.ghcn_series.specs.Series.{Contents, IsSeries, by_day}
+use Rattle.ghcn_series.specs.Meaning.Series.{DayValue, Series}
+use Rattle.ghcn_series.specs.Series.{Data, IsSeries, by_day}
 use Rattle.ghcn_series.specs.DailyFaults.{is_listed}
 use Rattle.ghcn_series.specs.Meaning.Says.{Fact}
 use Rattle.ghcn_series.specs.Says.{facts_of, is_usable, days_of, usable_of, all_series}
@@ -54,9 +54,9 @@ from_gatherings : (id : StationId) (gs : List Gathering) → AllByRecursion IsRe
     → AllByRecursion (λ u. IsSeries u × (u.id ≡ id)) (filter_map (gathered_series id) gs)
 from_gatherings id [] ready = tt
 from_gatherings id (g ∷ gs) ready =
-    let made : Usable = record { id = id; element = g.element; days = sorted_by by_day (gathered_days g) } in
+    let made : Series = record { id = id; element = g.element; days = sorted_by by_day (gathered_days g) } in
     cond_both (length (gathered_days g) == 0) None (Some made)
-    (λ (o : Option Usable). AllByRecursion (λ u. IsSeries u × (u.id ≡ id))
+    (λ (o : Option Series). AllByRecursion (λ u. IsSeries u × (u.id ≡ id))
     (cons_option o (filter_map (gathered_series id) gs))) (λ is. from_gatherings id gs ready.1)
     (λ is. ((is_series id g _ ready.0 is refl, refl), from_gatherings id gs ready.1))
 
@@ -99,15 +99,15 @@ module _ (asked : Keep) (ms : List Month) (right : AllByRecursion IsMonth ms) wh
 -- ---- they are the series of the facts
 
 -- the series has a day
-abbrev pub has_days : Usable → Bool
+abbrev pub has_days : Series → Bool
 has_days s = not (length s.days == 0)
 
 -- the series of an element that is kept
-abbrev pub is_kept_series : Keep → Usable → Bool
+abbrev pub is_kept_series : Keep → Series → Bool
 is_kept_series asked u = is_kept asked u.element
 
 -- a series more is there if its element is kept and it has a day
-one_more : (p : Usable → Bool) (k b : Bool) (u : Usable) (us xs : List Usable) (o : Option Usable) → p u ≡ k
+one_more : (p : Series → Bool) (k b : Bool) (u : Series) (us xs : List Series) (o : Option Series) → p u ≡ k
     → o ≡ cond k (cond b None (Some u)) None → xs ≡ filter p us
     → cons_option o xs ≡ filter p (cond (not b) (u ∷ us) us)
 one_more p true true u us xs o is same rest = rw (same, rest)
@@ -116,7 +116,7 @@ one_more p false true u us xs o is same rest = rw (same, rest)
 one_more p false false u us xs o is same rest = rw (same, rest, is)
 
 -- the series of a station and an element that has these days, if there is one
-abbrev if_any : StationId → Element → List DayValue → Option Usable
+abbrev if_any : StationId → Element → List DayValue → Option Series
 if_any id e days = cond (length days == 0) None (Some (record { id = id; element = e; days = days }))
 
 module _ (asked : Keep) (stations : List Station) (ms : List Month) where
@@ -175,7 +175,7 @@ module _ (asked : Keep) (stations : List Station) (ms : List Month) where
   series_are [] [] listed are = refl
   series_are (s ∷ ss) (gs ∷ all) listed are =
       let own = filter has_days (map (usable_of facts s) elements) in
-      ap₂ (λ (us more : List Usable). us ++ more) (station_series-are s gs listed.0 are.0)
+      ap₂ (λ (us more : List Series). us ++ more) (station_series-are s gs listed.0 are.0)
       (series_are ss all listed.1 are.1)
       ∙ sym (filter-append (is_kept_series asked) own (all_series ss facts))
       ∙ ap (filter (is_kept_series asked)) (sym (filter-append has_days (map (usable_of facts s) elements)
@@ -198,12 +198,12 @@ pub are_by_station : (asked : Keep) (ms : List Month) (ss : List Station) (all :
     → AreListed ss → AllByRecursion IsMonth ms → AllZip (IsStationOf asked ms) ss all
     → AreByStation ss (series_by_place ss all)
 are_by_station asked ms ss all listed right are =
-    let P : Station → Usable → Type 0 = λ s u. IsSeries u × (u.id ≡ s.id) in
+    let P : Station → Series → Type 0 = λ s u. IsSeries u × (u.id ≡ s.id) in
     let lists = series_by_place ss all in
     let made = made_right asked ms right ss all are in
     record {
-      own = zip-weaker (λ (s : Station) (us : List Usable). AllByRecursion (P s) us)
-          (λ s us. AllByRecursion (λ (u : Usable). u.id ≡ s.id) us) ss lists
+      own = zip-weaker (λ (s : Station) (us : List Series). AllByRecursion (P s) us)
+          (λ s us. AllByRecursion (λ (u : Series). u.id ≡ s.id) us) ss lists
           (λ s us. each-weaker (P s) (λ u. u.id ≡ s.id) us (λ u is. is.1)) made;
       listed = listed;
       series = record {
@@ -219,12 +219,12 @@ are_by_station asked ms ss all listed right are =
 -- ---- what is kept of them
 
 -- a test that each passes leaves all
-all_passed : (test : Usable → Bool) (us : List Usable) → ((u : Usable) → test u ≡ true) → filter test us ≡ us
+all_passed : (test : Series → Bool) (us : List Series) → ((u : Series) → test u ≡ true) → filter test us ≡ us
 all_passed test [] each = refl
 all_passed test (u ∷ us) each = rw (each u, all_passed test us each)
 
 -- if all elements are kept, data stay as they are
-pub kept-everything : (held : Contents) → kept everything held ≡ held
+pub kept-everything : (held : Data) → kept everything held ≡ held
 kept-everything held =
-    ap (λ (us : List Usable). record held { series = us })
+    ap (λ (us : List Series). record held { series = us })
     (all_passed (λ u. is_kept everything u.element) held.series (λ u. is_kept-everything u.element))

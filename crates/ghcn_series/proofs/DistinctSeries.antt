@@ -8,7 +8,7 @@ use Rattle.ghcn_files.specs.declared.element.Element.TheVariants.{Prcp, Snow, Sn
 use Rattle.ghcn_files.specs.Meaning.Ids.{same_id}
 use Rattle.ghcn_files.specs.Meaning.Elements.{elements}
 use Rattle.ghcn_files.specs.Elements.{same_element}
-use Rattle.ghcn_series.specs.Meaning.Series.{Usable}
+use Rattle.ghcn_series.specs.Meaning.Series.{Series}
 use Rattle.ghcn_series.specs.Meaning.Says.{Fact}
 use Rattle.ghcn_series.specs.Says.{usable_of}
 use Rattle.ghcn_series.specs.Held.{same_series}
@@ -27,11 +27,11 @@ elements_apart facts s =
     )
 
 -- all that may be said of these stations
-abbrev pub all_said : List Fact → List Station → List Usable
+abbrev pub all_said : List Fact → List Station → List Series
 all_said facts ss = flat_map (λ s. map (usable_of facts s) elements) ss
 
 -- a series is none of those of stations with other IDs
-ids_apart : (facts : List Fact) (u : Usable) (ss : List Station) → AllByRecursion (λ i. same_id u.id i ≡ false) (ids ss)
+ids_apart : (facts : List Fact) (u : Series) (ss : List Station) → AllByRecursion (λ i. same_id u.id i ≡ false) (ids ss)
     → AllByRecursion (λ v. same_series u v ≡ false) (all_said facts ss)
 ids_apart facts u [] other = tt
 ids_apart facts u (s ∷ ss) other =

@@ -17,8 +17,8 @@ use Rattle.ghcn_files.specs.Listed.{listed}
 use Rattle.ghcn_files.specs.Months.{days_of_group}
 use Rattle.ghcn_series.specs.declared.fault.DailyWhy.TheVariants.{Line, DuplicateMonth}
 use Rattle.ghcn_series.specs.declared.fault.DataFault.TheVariants.{DailyLine, TooManyFiles}
-use Rattle.ghcn_series.specs.Meaning.Series.{DayValue, Usable, value_on}
-use Rattle.ghcn_series.specs.Series.{Contents, series_of}
+use Rattle.ghcn_series.specs.Meaning.Series.{DayValue, Series, value_on}
+use Rattle.ghcn_series.specs.Series.{Data, series_of}
 use Rattle.ghcn_series.specs.DailyFaults.{file_line, file_lines, daily_lines}
 use Rattle.ghcn_series.specs.Says.{in_64_bits, data_of}
 use Rattle.ghcn_series.specs.Meaning.Said.{IsMadeOf, IsSaid, SaysStations, is_unlisted}
@@ -72,11 +72,11 @@ abbrev july : List ℕ
 july = codes "ZZA00000001202007TMAX"
 
 -- the series of a station and element with these days
-abbrev series : Station → Element → List DayValue → Usable
+abbrev series : Station → Element → List DayValue → Series
 series s e days = record { id = s.id; element = e; days = days }
 
 -- what files hold that have these series, and no line of an unlisted station
-abbrev held : List Usable → Contents
+abbrev held : List Series → Data
 held all = record { stations = both; series = all; unlisted = 0 }
 
 -- ---- the lines of files
@@ -199,7 +199,7 @@ too_many = (few_files (2 ^ 20) refl, many_files (2 ^ 20 + 1) (codes "x") refl)
 -- ---- what is kept
 
 -- some data
-abbrev some : Contents
+abbrev some : Data
 some = record (held (series bravo Tmax ((pos 18444, pos 311) ∷ []) ∷ series alpha Snow ((pos 18444, pos 5) ∷ [])
     ∷ series alpha Tmax ((pos 18444, pos 300) ∷ (pos 18446, pos 305) ∷ []) ∷ [])) { unlisted = 7 }
 

@@ -12,7 +12,7 @@ use Rattle.ghcn_files.specs.Meaning.Ids.{same_id}
 use Rattle.ghcn_files.specs.Meaning.Elements.{elements}
 use Rattle.ghcn_files.specs.Elements.{same_element}
 use Rattle.ghcn_files.proofs.IdLaws.{same_id-is}
-use Rattle.ghcn_series.specs.Meaning.Series.{Usable}
+use Rattle.ghcn_series.specs.Meaning.Series.{Series}
 use Rattle.ghcn_series.specs.Series.{series_of, is_series_of}
 use Rattle.ghcn_series.specs.DailyFaults.{is_listed}
 use Rattle.ghcn_series.specs.Meaning.Says.{Fact}
@@ -24,7 +24,7 @@ use Rattle.ghcn_series.proofs.ListFacts.{each-append}
 use Rattle.ghcn_series.proofs.JoinedFiles.{contents_in}
 
 -- the series, if it has a day
-abbrev pub if_it_has_days : Usable → Option Usable
+abbrev pub if_it_has_days : Series → Option Series
 if_it_has_days u = cond (length u.days == 0) None (Some u)
 
 module _ {X : Type 0} (test empty : X → Bool) (u : X) where
@@ -49,16 +49,16 @@ module _ {X : Type 0} (test empty : X → Bool) (u : X) where
 
 module _ (facts : List Fact) where
   -- what may be said of a station
-  abbrev station_said : Station → List Usable
+  abbrev station_said : Station → List Series
   station_said s = map (usable_of facts s) elements
 
   module _ (id : StationId) (e : Element) where
     -- the series of a station and element
-    abbrev pub series_made : Usable
+    abbrev pub series_made : Series
     series_made = record { id = id; element = e; days = days_of facts id e }
 
     -- whatever series has the station and element is this one
-    abbrev IsTheOne : Usable → Type 0
+    abbrev IsTheOne : Series → Type 0
     IsTheOne u = is_series_of id e u ≡ true → u ≡ series_made
 
     -- a series that is said is
@@ -92,7 +92,7 @@ module _ (facts : List Fact) where
         → find (is_series_of id e) (all_series ss facts) ≡ if_it_has_days series_made
     series_found ss listed =
         rw (listed_said ss, listed)
-        at (find-kept (is_series_of id e) (λ (u : Usable). length u.days == 0) series_made (flat_map station_said ss)
+        at (find-kept (is_series_of id e) (λ (u : Series). length u.days == 0) series_made (flat_map station_said ss)
         (stations_said ss))
 
 -- the series of a listed station and an element in what files hold is made of their facts, if it has a day

@@ -18,7 +18,7 @@ use Rattle.ghcn_files.specs.Elements.{same_element}
 use Rattle.ghcn_series.specs.declared.fault.DataFault.{DataFault}
 use Rattle.ghcn_series.specs.declared.fault.DataFault.TheVariants.{TooManyFiles}
 use Rattle.ghcn_series.specs.Meaning.Series.{DayValue}
-use Rattle.ghcn_series.specs.Series.{Contents, by_day}
+use Rattle.ghcn_series.specs.Series.{Data, by_day}
 use Rattle.ghcn_series.specs.DailyFaults.{FileLine, daily_lines, daily_fault, month_on}
 use Rattle.ghcn_series.specs.Meaning.Says.{Fact}
 use Rattle.ghcn_series.specs.Says.{contents, contents_unless}
@@ -55,18 +55,18 @@ facts_joined stations parts =
 -- ---- what files hold
 
 -- the contents of the lines of files
-abbrev pub contents_in : List Station → List (List ℕ) → Contents
+abbrev pub contents_in : List Station → List (List ℕ) → Data
 contents_in stations files = contents stations (daily_lines files)
 
 -- what lines hold, unless one has an error or there are too many files
-held_if_few : (b : Bool) (o : Option (FileLine × DataFault)) (c d : Contents)
+held_if_few : (b : Bool) (o : Option (FileLine × DataFault)) (c d : Data)
     → cond b (contents_unless o c) (Err TooManyFiles) ≡ Ok d → c ≡ d
 held_if_few true None c d e = cc
 held_if_few true (Some f) c d e = absurd cc
 held_if_few false o c d e = absurd cc
 
 -- the data of files without an error are what their lines hold
-pub data-held : (stations : List Station) (files : List (List ℕ)) (d : Contents) → HaveData stations files d
+pub data-held : (stations : List Station) (files : List (List ℕ)) (d : Data) → HaveData stations files d
     → contents_in stations files ≡ d
 data-held stations files d e =
     held_if_few (nat_le (length files) (2 ^ 20)) (first_fault (daily_fault stations) (daily_lines files))
@@ -74,13 +74,13 @@ data-held stations files d e =
 
 -- so it is with those of all parts
 pub all_data-held : {P : Type 0} (stations : List Station) (files : P → List (List ℕ)) (parts : List P)
-    (ds : List Contents) → AllZip (λ p d. HaveData stations (files p) d) parts ds
+    (ds : List Data) → AllZip (λ p d. HaveData stations (files p) d) parts ds
     → map (λ p. contents_in stations (files p)) parts ≡ ds
 all_data-held stations files [] [] h = refl
 all_data-held stations files [] (d ∷ ds) h = absurd h
 all_data-held stations files (p ∷ parts) [] h = absurd h
 all_data-held stations files (p ∷ parts) (d ∷ ds) h =
-    ap₂ (λ (c : Contents) (l : List Contents). c ∷ l) (data-held stations (files p) d h.0)
+    ap₂ (λ (c : Data) (l : List Data). c ∷ l) (data-held stations (files p) d h.0)
     (all_data-held stations files parts ds h.1)
 
 -- ---- the days of facts

@@ -11,7 +11,7 @@ use Rattle.ghcn_files.specs.Meaning.Ids.{same_id}
 use Rattle.ghcn_files.specs.Meaning.Elements.{elements}
 use Rattle.ghcn_files.specs.Elements.{same_element, element_index}
 use Rattle.ghcn_files.proofs.IdLaws.{same_id-turned}
-use Rattle.ghcn_series.specs.Meaning.Series.{Usable}
+use Rattle.ghcn_series.specs.Meaning.Series.{Series}
 use Rattle.ghcn_series.specs.Meaning.Says.{Fact}
 use Rattle.ghcn_series.specs.Says.{usable_of}
 use Rattle.ghcn_series.specs.Held.{same_series}
@@ -43,7 +43,7 @@ abbrev Place : Type 0
 Place = Station × Element
 
 -- the series of a station and element
-abbrev said_at : List Fact → Place → Usable
+abbrev said_at : List Fact → Place → Series
 said_at facts x = usable_of facts x.0 x.1
 
 -- the stations with each of the five elements
@@ -54,7 +54,7 @@ places ss = flat_map (λ s. map (λ e. (s, e)) elements) ss
 places_said : (facts : List Fact) (ss : List Station)
     → map (said_at facts) (places ss) ≡ flat_map (λ s. map (usable_of facts s) elements) ss
 places_said facts [] = refl
-places_said facts (s ∷ ss) = ap (λ (l : List Usable). map (usable_of facts s) elements ++ l) (places_said facts ss)
+places_said facts (s ∷ ss) = ap (λ (l : List Series). map (usable_of facts s) elements ++ l) (places_said facts ss)
 
 -- series join if facts do: whatever the facts, the series has the same station and element
 series_join : Joins said_at has_days same_series
@@ -70,7 +70,7 @@ series_join = record {
 
 module _ (stations : List Station) where
   -- the series that some facts give all stations
-  abbrev series_said : List Fact → List Usable
+  abbrev series_said : List Fact → List Series
   series_said facts = filter has_days (map (said_at facts) (places stations))
 
   -- the series of what files hold are those that their facts give
@@ -82,7 +82,7 @@ module _ (stations : List Station) where
       ≡ flat_map series_said (map (facts_in stations) parts)
   all_series_held [] = refl
   all_series_held (p ∷ parts) =
-      ap₂ (λ (one rest : List Usable). one ++ rest) (series_held p) (all_series_held parts)
+      ap₂ (λ (one rest : List Series). one ++ rest) (series_held p) (all_series_held parts)
 
   -- if no two series of all parts have the same station and element, those of all files are these
   series_together : (parts : List (List (List ℕ)))

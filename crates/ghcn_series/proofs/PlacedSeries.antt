@@ -8,7 +8,7 @@ use Rattle.std.proofs.lemmas.List.{length-set, length-map, get_or-set_same, get_
 use Rattle.ghcn_files.specs.declared.station.Station.{Station}
 use Rattle.ghcn_series.specs.declared.gathering.Gathering.{Gathering}
 use Rattle.ghcn_series.specs.declared.station.StationGathering.{StationGathering}
-use Rattle.ghcn_series.specs.Meaning.Series.{Usable}
+use Rattle.ghcn_series.specs.Meaning.Series.{Series}
 use Rattle.ghcn_series.specs.ByPlace.{numbered, by_place, ArePlaced}
 use Rattle.ghcn_series.specs.Gathered.{station_series, series_by_place}
 use Rattle.ghcn_series.proofs.PlacedStations.{at_place, at_most_all}
@@ -38,14 +38,14 @@ series_at (x ∷ xs) (gs ∷ all) zero s at lt = let this : x ≡ s = cc in rw t
 series_at (x ∷ xs) (gs ∷ all) (suc k) s at lt = series_at xs all k s at (omega (arith, lt))
 
 -- lists of nothing have nothing at each place
-pub empty_at : {V : Type 0} (items : V → List Usable) (vs : List V) (k : ℕ) → AllByRecursion (λ v. items v ≡ []) vs
+pub empty_at : {V : Type 0} (items : V → List Series) (vs : List V) (k : ℕ) → AllByRecursion (λ v. items v ≡ []) vs
     → get_or (map items vs) k [] ≡ []
 empty_at items [] k all = refl
 empty_at items (v ∷ vs) zero all = all.0
 empty_at items (v ∷ vs) (suc k) all = empty_at items vs k all.1
 
 -- the stations that come before the rest of those that are held have their series, and the others have none
-pub record HaveSeries (ss : List Station) (all : List (List Gathering)) (series : List (List Usable))
+pub record HaveSeries (ss : List Station) (all : List (List Gathering)) (series : List (List Series))
     (rest : List StationGathering) : Type 0 where
   pub n : ℕ
   pub numbers : List ℕ
@@ -56,7 +56,7 @@ pub record HaveSeries (ss : List Station) (all : List (List Gathering)) (series 
   pub done : (k : ℕ) → get_or numbers k 0 ≤ n → get_or series k [] ≡ get_or (series_by_place ss all) k []
   pub long : length series ≡ length ss
 
-module _ (ss : List Station) (all : List (List Gathering)) (series : List (List Usable)) where
+module _ (ss : List Station) (all : List (List Gathering)) (series : List (List Series)) where
   -- none has series yet
   pub none_have : (numbers : List ℕ) (held rest : List StationGathering) → ArePlaced numbers held
       → by_place held numbers ≡ all → rest ≡ held → length series ≡ length ss → ((k : ℕ) → get_or series k [] ≡ [])
@@ -89,7 +89,7 @@ module _ (ss : List Station) (all : List (List Gathering)) (series : List (List 
     next_gathered = next.gathered
 
     -- so it has its series too
-    pub one_has : (s : Station) (own : List Usable) → length all ≡ length ss → slice_get ss g.place ≡ Some s
+    pub one_has : (s : Station) (own : List Series) → length all ≡ length ss → slice_get ss g.place ≡ Some s
         → own ≡ station_series s.id g.by_element.items → HaveSeries ss all (set series g.place own) rest
     one_has s own same at made = record {
       n = suc is.n;

@@ -26,8 +26,8 @@ use Rattle.ghcn_series.specs.Held.{IsContents, same_series}
 use Rattle.ghcn_series.specs.Laws.{DataAreRight, ListsAreRight}
 use Rattle.ghcn_series.specs.SaidLists.{facts_said, months_said}
 use Rattle.ghcn_series.specs.Says.{all_series, data_of, usable_of}
-use Rattle.ghcn_series.specs.Meaning.Series.{DayValue, Usable}
-use Rattle.ghcn_series.specs.Series.{Contents, IsSeries, by_day}
+use Rattle.ghcn_series.specs.Meaning.Series.{DayValue, Series}
+use Rattle.ghcn_series.specs.Series.{Data, IsSeries, by_day}
 use Rattle.ghcn_series.proofs.AllSeries.{right_of}
 use Rattle.ghcn_series.proofs.DistinctSeries.{stations_apart}
 use Rattle.ghcn_series.proofs.FactsOfMonths.{selected-months}
@@ -75,10 +75,10 @@ lists-are-right text stations is =
 
 -- ---- series
 
-module _ (stations : List Station) (files : List (List ℕ)) (held : Contents)
+module _ (stations : List Station) (files : List (List ℕ)) (held : Data)
     (is : data_of stations files ≡ Ok held) (listed : AreListed stations) where
   -- what the files say of these stations
-  abbrev said : List Usable
+  abbrev said : List Series
   said = all_series stations (facts_said stations files)
 
   -- each month that the files say is right
@@ -103,7 +103,7 @@ module _ (stations : List Station) (files : List (List ℕ)) (held : Contents)
       }
 
   -- each series belongs to a listed station, and is right
-  each_right : (u : Usable) → In said u → (is_listed stations u.id ≡ true) × IsSeries u
+  each_right : (u : Series) → In said u → (is_listed stations u.id ≡ true) × IsSeries u
   each_right u has =
       let made = usable_of (facts_said stations files) in
       let kept = kept_in (λ s. not (length s.days == 0)) (flat_map (λ s. map (made s) elements) stations) u has in

@@ -36,7 +36,7 @@ use Rattle.ghcn_series.specs.Meaning.Said.{IsSaid, SaysFact}
 use Rattle.ghcn_series.specs.SaidLists.{facts_said, month_said, months_said}
 use Rattle.ghcn_series.specs.Meaning.Says.{Fact}
 use Rattle.ghcn_series.specs.Says.{data_of, fact_of, facts_of, is_usable}
-use Rattle.ghcn_series.specs.Series.{Contents}
+use Rattle.ghcn_series.specs.Series.{Data}
 use Rattle.ghcn_series.proofs.CountedLines.{blank_line}
 use Rattle.ghcn_series.proofs.FactsOfMonths.{fact_parts}
 use Rattle.ghcn_series.proofs.Members.{In, all_in, contains-in, in-contains, in_all, in_kept, in_made, in_map, kept_in}
@@ -171,7 +171,7 @@ month_parts : (o : Option Element) (line : List ℕ) (m : Month) → option_map 
 month_parts None line m is = absurd cc
 month_parts (Some e) line m is = (e, refl, same_Some (month_of e line) m is)
 
-module _ (stations : List Station) (files : List (List ℕ)) (held : Contents)
+module _ (stations : List Station) (files : List (List ℕ)) (held : Data)
     (is : data_of stations files ≡ Ok held) where
   -- no line of an element fails a test
   line_fine : (line : List ℕ) → In (flat_map lines files) line → IsFineLine line

@@ -30,7 +30,7 @@ use Rattle.ghcn_series.specs.DailyFaults.{daily_fault, daily_why}
 use Rattle.ghcn_series.specs.LinesRead.{line_texts}
 use Rattle.ghcn_series.specs.SaidLists.{stations_said, month_said, months_said, said_by}
 use Rattle.ghcn_series.specs.Says.{contents, contents_unless, data_of}
-use Rattle.ghcn_series.specs.Series.{Contents}
+use Rattle.ghcn_series.specs.Series.{Data}
 use Rattle.ghcn_series.proofs.CountedLines.{blank_line}
 use Rattle.ghcn_series.proofs.JoinedFiles.{data-held}
 
@@ -142,12 +142,12 @@ left_out f p none (x ∷ xs) = grind (arith, none x, left_out f p none xs)
 -- ---- what is held
 
 -- no error is found if there is something
-none_of_few : (few : Bool) (o : Option (FileLine × DataFault)) (c d : Contents)
+none_of_few : (few : Bool) (o : Option (FileLine × DataFault)) (c d : Data)
     → cond few (contents_unless o c) (Err TooManyFiles) ≡ Ok d → o ≡ None
 none_of_few few o c d e = grind arith
 
 -- files that hold something have no line with an error
-pub no_fault : (stations : List Station) (files : List (List ℕ)) (held : Contents) → data_of stations files ≡ Ok held
+pub no_fault : (stations : List Station) (files : List (List ℕ)) (held : Data) → data_of stations files ≡ Ok held
     → first_fault (daily_fault stations) (daily_lines files) ≡ None
 no_fault stations files held is =
     none_of_few (nat_le (length files) (2 ^ 20)) (first_fault (daily_fault stations) (daily_lines files))
@@ -162,7 +162,7 @@ months-are stations files none =
     ∙ ap (filter_map month_said) (files-shown 1 files) ∙ left_out month_said is_blank blank_said (flat_map lines files)
 
 -- files without an error hold what they say
-pub held-said : (stations : List Station) (files : List (List ℕ)) (held : Contents)
+pub held-said : (stations : List Station) (files : List (List ℕ)) (held : Data)
     → data_of stations files ≡ Ok held → held ≡ said_by stations files
 held-said stations files held is =
     sym (data-held stations files held is) ∙ rw (months-are stations files (no_fault stations files held is)) refl

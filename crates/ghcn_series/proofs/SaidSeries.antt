@@ -27,8 +27,8 @@ use Rattle.ghcn_series.specs.Meaning.Said.{IsMadeOf, IsSaid}
 use Rattle.ghcn_series.specs.SaidLists.{facts_said, months_said}
 use Rattle.ghcn_series.specs.Meaning.Says.{Fact}
 use Rattle.ghcn_series.specs.Says.{data_of}
-use Rattle.ghcn_series.specs.Meaning.Series.{DayValue, Usable}
-use Rattle.ghcn_series.specs.Series.{Contents, by_day, series_of}
+use Rattle.ghcn_series.specs.Meaning.Series.{DayValue, Series}
+use Rattle.ghcn_series.specs.Series.{Data, by_day, series_of}
 use Rattle.ghcn_series.specs.declared.fault.DailyWhy.TheVariants.{DuplicateMonth}
 use Rattle.ghcn_series.specs.declared.fault.DataFault.TheVariants.{DailyLine}
 use Rattle.ghcn_series.specs.Gathered.{same_time, months_of}
@@ -104,7 +104,7 @@ module _ (stations : List Station) where
         ] refl)
 
     -- so no day that is said of a listed station and an element occurs twice
-    pub said-distinct : (files : List (List ℕ)) (held : Contents) → HaveData stations files held
+    pub said-distinct : (files : List (List ℕ)) (held : Data) → HaveData stations files held
         → IsDistinct int_eq (keys_of (days_said (facts_said stations files) id e))
     unfolding IsDistinct
     said-distinct files held is =
@@ -180,9 +180,9 @@ module _ (facts : List Fact) (IsFact : Fact → Type 0) (id : StationId) (e : El
       (said-are day value)
 
   -- a series that has a day is made of the facts of its station and element
-  made-from : (s : Usable) → if_it_has_days (series_made facts id e) ≡ Some s → IsMadeOf IsFact s
+  made-from : (s : Series) → if_it_has_days (series_made facts id e) ≡ Some s → IsMadeOf IsFact s
   made-from s is =
-      let made : Usable = series_made facts id e in
+      let made : Series = series_made facts id e in
       let found = unless_so (length made.days == 0) made s is in
       subst (IsMadeOf IsFact) found.1 (record {
         some = omega (arith, eqb-false (length made.days) 0 found.0);
@@ -205,15 +205,15 @@ module _ (facts : List Fact) (IsFact : Fact → Type 0) (id : StationId) (e : El
 -- ---- the series of files
 
 -- the series of a listed station and an element in what files hold are those that the files say
-pub series_said : (stations : List Station) (files : List (List ℕ)) (held : Contents)
-    → data_of stations files ≡ Ok held → (s : Usable) → is_listed stations s.id ≡ true
+pub series_said : (stations : List Station) (files : List (List ℕ)) (held : Data)
+    → data_of stations files ≡ Ok held → (s : Series) → is_listed stations s.id ≡ true
     → (series_of held s.id s.element ≡ Some s) ↔ IsMadeOf (IsSaid files) s
 series_said stations files held is s listed =
     let facts : List Fact = facts_said stations files in
     let distinct = said-distinct stations s.id s.element listed files held is in
     let said = λ (day value : ℤ). facts-said stations files held is (fact_on s.id s.element day value) listed in
     let found : series_of held s.id s.element ≡ if_it_has_days (series_made facts s.id s.element) =
-    ap (λ (c : Contents). series_of c s.id s.element) (held-said stations files held is)
+    ap (λ (c : Data). series_of c s.id s.element) (held-said stations files held is)
     ∙ series_found facts s.id s.element stations listed in (
       λ of. made-from facts (IsSaid files) s.id s.element distinct said s (sym found ∙ of),
       λ made. found ∙ made-found facts (IsSaid files) s.id s.element distinct said s.days made,

@@ -17,8 +17,8 @@ use Rattle.ghcn_files.specs.declared.element.Element.{Element}
 use Rattle.ghcn_files.specs.Meaning.Ids.{same_id}
 use Rattle.ghcn_files.specs.Meaning.Listed.{is_station_of}
 use Rattle.ghcn_files.specs.Listed.{place_of}
-use Rattle.ghcn_series.specs.Meaning.Series.{Usable}
-use Rattle.ghcn_series.specs.Series.{Contents, is_series_of, series_of}
+use Rattle.ghcn_series.specs.Meaning.Series.{Series}
+use Rattle.ghcn_series.specs.Series.{Data, is_series_of, series_of}
 use Rattle.ghcn_series.specs.Held.{all_of, is_of_element}
 use Rattle.ghcn_series.proofs.Places.{ids, first_place, listed-is}
 use Rattle.ghcn_files.proofs.IdLaws.{same_id-is, same_id-turned, no_place}
@@ -26,24 +26,24 @@ use Rattle.ghcn_files.proofs.Ordered.{each-mapped}
 use Rattle.ghcn_series.proofs.ListFacts.{each-append, each-weaker}
 
 -- of the series of one station, an element's is the station's and the element's
-find_own : (id own : StationId) (e : Element) (us : List Usable) → same_id own id ≡ true
+find_own : (id own : StationId) (e : Element) (us : List Series) → same_id own id ≡ true
     → AllByRecursion (λ u. u.id ≡ own) us → find (is_series_of id e) us ≡ find (is_of_element e) us
 find_own id own e [] is all = refl
 find_own id own e (u ∷ us) is all = rw (all.0, is, find_own id own e us is all.1)
 
 -- among the series of other stations there is none
-find_none : (id : StationId) (e : Element) (us : List Usable) → AllByRecursion (λ u. same_id u.id id ≡ false) us
+find_none : (id : StationId) (e : Element) (us : List Series) → AllByRecursion (λ u. same_id u.id id ≡ false) us
     → find (is_series_of id e) us ≡ None
 find_none id e [] other = refl
 find_none id e (u ∷ us) other = rw other.0 (find_none id e us other.1)
 
 -- each list has the series of its station
-abbrev pub AreOwn : List Station → List (List Usable) → Type 0
+abbrev pub AreOwn : List Station → List (List Series) → Type 0
 AreOwn stations lists = AllZip (λ s series. AllByRecursion (λ u. u.id ≡ s.id) series) stations lists
 
 -- what follows for the series of each station is true of all series
-pub in_all : (S : Station → Type 0) (P : Station → Usable → Type 0) (Q : Usable → Type 0) (ss : List Station)
-    (lists : List (List Usable)) → ((s : Station) (u : Usable) → S s → P s u → Q u) → AllByRecursion S ss
+pub in_all : (S : Station → Type 0) (P : Station → Series → Type 0) (Q : Series → Type 0) (ss : List Station)
+    (lists : List (List Series)) → ((s : Station) (u : Series) → S s → P s u → Q u) → AllByRecursion S ss
     → AllZip (λ s us. AllByRecursion (P s) us) ss lists → AllByRecursion Q (all_of lists)
 in_all S P Q ss [] follows each own = tt
 in_all S P Q [] (us ∷ lists) follows each own = absurd own
@@ -52,7 +52,7 @@ in_all S P Q (s ∷ ss) (us ∷ lists) follows each own =
     (in_all S P Q ss lists follows each.1 own.1)
 
 -- the series of stations of other IDs
-all_other : (id : StationId) (ss : List Station) (lists : List (List Usable))
+all_other : (id : StationId) (ss : List Station) (lists : List (List Series))
     → AllByRecursion (λ i. same_id id i ≡ false) (ids ss) → AreOwn ss lists
     → AllByRecursion (λ u. same_id u.id id ≡ false) (all_of lists)
 all_other id ss lists other own =
@@ -61,7 +61,7 @@ all_other id ss lists other own =
     (each-mapped (λ (s : Station). s.id) (λ (i : StationId). same_id id i ≡ false) ss other) own
 
 -- the series of a station and an element is found in the list at the station's place
-pub found_by_place : (id : StationId) (e : Element) (ss : List Station) (lists : List (List Usable))
+pub found_by_place : (id : StationId) (e : Element) (ss : List Station) (lists : List (List Series))
     → IsDistinct same_id (ids ss) → AreOwn ss lists
     → option_and_then (find (is_of_element e)) (slice_get lists (position_or_len (is_station_of id) ss))
     ≡ find (is_series_of id e) (all_of lists)
@@ -77,7 +77,7 @@ found_by_place id e (s ∷ ss) (us ∷ lists) apart own =
           rw (find_none id e (all_of lists) others, find_own id s.id e us is own.0)
           (sym (or_none (find (is_of_element e) us)))
       | false ↦ λ is.
-          let others = each-weaker (λ (u : Usable). u.id ≡ s.id) (λ (u : Usable). same_id u.id id ≡ false) us
+          let others = each-weaker (λ (u : Series). u.id ≡ s.id) (λ (u : Series). same_id u.id id ≡ false) us
           (λ u of. rw of is) own.0 in
           let next : 1 + place ≡ suc place = omega arith in
           rw (next, find_none id e us others) (found_by_place id e ss lists apart.1 own.1)
@@ -88,7 +88,7 @@ found_by_place id e _ _ apart own = absurd own
 -- ---- as a list at a place is looked up
 
 -- a station that isn't listed has no series
-pub none-unlisted : (id : StationId) (e : Element) (ss : List Station) (lists : List (List Usable))
+pub none-unlisted : (id : StationId) (e : Element) (ss : List Station) (lists : List (List Series))
     → IsDistinct same_id (ids ss) → AreOwn ss lists → place_of ss id ≡ None
     → None ≡ find (is_series_of id e) (all_of lists)
 none-unlisted id e ss lists apart own none =
@@ -104,7 +104,7 @@ none_past (x ∷ xs) zero none = absurd cc
 none_past (x ∷ xs) (suc k) none = omega (arith, none_past xs k none)
 
 -- the series of the station at a place are in the list there
-pub found-at : (e : Element) (ss : List Station) (lists : List (List Usable)) (k : ℕ) (us : Option (List Usable))
+pub found-at : (e : Element) (ss : List Station) (lists : List (List Series)) (k : ℕ) (us : Option (List Series))
     → IsDistinct same_id (ids ss) → AreOwn ss lists → us ≡ slice_get lists k
     → option_and_then (find (is_of_element e)) us
     ≡ option_and_then (λ (s : Station). find (is_series_of s.id e) (all_of lists)) (slice_get ss k)
@@ -120,23 +120,23 @@ found-at e ss lists k us apart own is =
     ] refl
 
 -- the series of the station at a place
-abbrev pub at_place : Contents → Element → ℕ → Option Usable
+abbrev pub at_place : Data → Element → ℕ → Option Series
 at_place all e k = option_and_then (λ (s : Station). series_of all s.id e) (slice_get all.stations k)
 
 -- at the place of an ID they are that ID's
-pub listed-at : (all : Contents) (id : StationId) (e : Element) (k : ℕ) → place_of all.stations id ≡ Some k
+pub listed-at : (all : Data) (id : StationId) (e : Element) (k : ℕ) → place_of all.stations id ≡ Some k
     → at_place all e k ≡ series_of all id e
 listed-at all id e k place =
     let at = listed-is all.stations id k place in
     rw at.0.1 (ap (λ (i : StationId). series_of all i e) at.0.2)
 
 -- what is found at a place of a list of lists
-pub list-there : {V : Type 0} (items : V → List Usable) (vs : List V) (k : ℕ) (v : V) → nat_lt k (length vs) ≡ true
+pub list-there : {V : Type 0} (items : V → List Series) (vs : List V) (k : ℕ) (v : V) → nat_lt k (length vs) ≡ true
     → v ≡ get_or vs k v → Some (items v) ≡ slice_get (map items vs) k
 list-there items vs k v lt is =
     rw (slice_get-map items vs k, slice_get-get_or vs k v (ltb-true k (length vs) lt), ← is)
 
 -- no list is past the last
-pub list-missing : {V : Type 0} (items : V → List Usable) (vs : List V) (k : ℕ) → nat_lt k (length vs) ≡ false
+pub list-missing : {V : Type 0} (items : V → List Series) (vs : List V) (k : ℕ) → nat_lt k (length vs) ≡ false
     → None ≡ slice_get (map items vs) k
 list-missing items vs k lt = sym (slice_get_past (map items vs) k (grind (arith, nat_tests, length-map vs items)))

@@ -22,7 +22,7 @@ use Rattle.ghcn_series.specs.declared.reader.Reader.{Reader}
 use Rattle.ghcn_series.specs.declared.rows.RowReader.{RowReader}
 use Rattle.ghcn_series.specs.declared.fault.DataFault.{DataFault}
 use Rattle.ghcn_series.specs.declared.fault.DataFault.TheVariants.{TooManyFiles, DailyLine, Memory}
-use Rattle.ghcn_series.specs.Meaning.Series.{DayValue, Usable, value_on}
+use Rattle.ghcn_series.specs.Meaning.Series.{DayValue, Series, value_on}
 use Rattle.ghcn_series.specs.Series.{by_day}
 use Rattle.ghcn_series.specs.Parts.{AreParts, days_held}
 use Rattle.ghcn_series.specs.SeenMonths.{has_month}
@@ -111,17 +111,17 @@ pub record IsReady (g : Gathering) : Type 0 where
   pub right : AllByRecursion (λ m. IsMonth m × (m.element ≡ g.element)) months
 
 -- the series of a station's gathering, if it has a usable day
-abbrev pub gathered_series : StationId → Gathering → Option Usable
+abbrev pub gathered_series : StationId → Gathering → Option Series
 gathered_series id g =
     if length (gathered_days g) == 0 then None
     else Some (record { id = id; element = g.element; days = sorted_by by_day (gathered_days g) })
 
 -- the series of a station, by element
-abbrev pub station_series : StationId → List Gathering → List Usable
+abbrev pub station_series : StationId → List Gathering → List Series
 station_series id gs = filter_map (gathered_series id) gs
 
 -- the series of each station, by element
-abbrev pub series_by_place : List Station → List (List Gathering) → List (List Usable)
+abbrev pub series_by_place : List Station → List (List Gathering) → List (List Series)
 series_by_place [] all = []
 series_by_place (s ∷ ss) [] = []
 series_by_place (s ∷ ss) (gs ∷ all) = station_series s.id gs ∷ series_by_place ss all

@@ -3,8 +3,8 @@ use Rattle.std.specs.Prelude.{◌≡◌, ℕ, List, Ok}
 use Rattle.std.specs.List.{flat_map, IsDistinct, AllZip}
 use Rattle.std.specs.List.Sorted.{IsPermutation}
 use Rattle.ghcn_files.specs.declared.station.Station.{Station}
-use Rattle.ghcn_series.specs.Meaning.Series.{Usable}
-use Rattle.ghcn_series.specs.Series.{Contents}
+use Rattle.ghcn_series.specs.Meaning.Series.{Series}
+use Rattle.ghcn_series.specs.Series.{Data}
 use Rattle.ghcn_series.specs.DailyFaults.{daily_lines}
 use Rattle.ghcn_series.specs.Meaning.Says.{Fact}
 use Rattle.ghcn_series.specs.Says.{usable_facts, data_of}
@@ -19,11 +19,11 @@ abbrev pub files_together : List (List (List ℕ)) → List (List ℕ)
 files_together parts = flat_map (λ files. files) parts
 
 -- the files have no error, and these are their data
-abbrev pub HaveData : List Station → List (List ℕ) → Contents → Type 0
+abbrev pub HaveData : List Station → List (List ℕ) → Data → Type 0
 HaveData stations files held = data_of stations files ≡ Ok held
 
 -- the series of some data, one after the other
-abbrev pub all_their_series : List Contents → List Usable
+abbrev pub all_their_series : List Data → List Series
 all_their_series ds = flat_map (λ d. d.series) ds
 
 -- what files say that counts is what their parts say, one part after the other
@@ -33,6 +33,6 @@ FactsOfParts = (stations : List Station) (parts : List (List (List ℕ)))
 
 -- if no station and element has a series in two parts, the series of all files are those of the parts
 abbrev pub SeriesOfParts : Type 0
-SeriesOfParts = (stations : List Station) (parts : List (List (List ℕ))) (ds : List Contents) (held : Contents)
+SeriesOfParts = (stations : List Station) (parts : List (List (List ℕ))) (ds : List Data) (held : Data)
     → AllZip (HaveData stations) parts ds → HaveData stations (files_together parts) held
     → IsDistinct same_series (all_their_series ds) → IsPermutation (all_their_series ds) held.series

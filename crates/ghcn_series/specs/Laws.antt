@@ -5,8 +5,8 @@ use Rattle.ghcn_fields.specs.Meaning.Lines.{lines}
 use Rattle.ghcn_files.specs.declared.station.Station.{Station}
 use Rattle.ghcn_files.specs.Listed.{listed, AreListed}
 use Rattle.ghcn_series.specs.DailyFaults.{is_listed}
-use Rattle.ghcn_series.specs.Meaning.Series.{Usable}
-use Rattle.ghcn_series.specs.Series.{Contents, series_of}
+use Rattle.ghcn_series.specs.Meaning.Series.{Series}
+use Rattle.ghcn_series.specs.Series.{Data, series_of}
 use Rattle.ghcn_series.specs.Held.{IsContents}
 use Rattle.ghcn_series.specs.JoinedFiles.{files_together}
 use Rattle.ghcn_series.specs.Meaning.Said.{IsMadeOf, IsSaid, SaysStations, is_unlisted}
@@ -19,7 +19,7 @@ ListsAreRight = (text : List ℕ) (stations : List Station) → listed text ≡ 
 
 -- what is true of all data is true of what daily files without an error hold of its stations
 abbrev pub DataAreRight : Type 0
-DataAreRight = (text : List ℕ) (stations : List Station) (files : List (List ℕ)) (held : Contents)
+DataAreRight = (text : List ℕ) (stations : List Station) (files : List (List ℕ)) (held : Data)
     → listed text ≡ Ok stations → data_of stations files ≡ Ok held → IsContents held
 
 -- a list without an error says the stations that are read of it, in this order, and no others
@@ -29,13 +29,13 @@ StationsAreSaid = (text : List ℕ) (stations : List Station) → listed text �
 
 -- of a listed station, the series that files without an error hold are those that are made of the facts that they say
 abbrev pub SeriesAreSaid : Type 0
-SeriesAreSaid = (stations : List Station) (files : List (List ℕ)) (held : Contents) → data_of stations files ≡ Ok held
-    → (s : Usable) → is_listed stations s.id ≡ true
+SeriesAreSaid = (stations : List Station) (files : List (List ℕ)) (held : Data) → data_of stations files ≡ Ok held
+    → (s : Series) → is_listed stations s.id ≡ true
     → (series_of held s.id s.element ≡ Some s) ↔ IsMadeOf (IsSaid files) s
 
 -- so many of their lines are of unlisted stations, up to 2^64 - 1
 abbrev pub UnlistedAreSaid : Type 0
-UnlistedAreSaid = (stations : List Station) (files : List (List ℕ)) (held : Contents) → data_of stations files ≡ Ok held
+UnlistedAreSaid = (stations : List Station) (files : List (List ℕ)) (held : Data) → data_of stations files ≡ Ok held
     → held.unlisted ≡ min (count_by (is_unlisted stations) (flat_map lines files)) (2 ^ 64 - 1)
 
 -- the numbers of lines of unlisted stations in the parts of some files add up to that in all of them, up to 2^64 - 1

@@ -14,7 +14,7 @@ use Rattle.ghcn_files.specs.StationLines.{station_of}
 use Rattle.ghcn_series.specs.DailyFaults.{is_listed}
 use Rattle.ghcn_series.specs.Meaning.Says.{Fact}
 use Rattle.ghcn_series.specs.Says.{facts_of, is_usable, all_series, in_64_bits}
-use Rattle.ghcn_series.specs.Series.{Contents}
+use Rattle.ghcn_series.specs.Series.{Data}
 
 -- the stations of a list, in its order: one for each line that isn't blank
 abbrev pub stations_said : List ℕ → List Station
@@ -37,7 +37,7 @@ abbrev pub unlisted_said : List Station → List (List ℕ) → ℕ
 unlisted_said stations files = in_64_bits (count_by (λ m. not (is_listed stations m.id)) (months_said files))
 
 -- what daily files say of stations, and how many months of other stations
-abbrev pub said_by : List Station → List (List ℕ) → Contents
+abbrev pub said_by : List Station → List (List ℕ) → Data
 said_by stations files = record {
   stations = stations;
   series = all_series stations (facts_said stations files);

@@ -15,8 +15,8 @@ use Rattle.ghcn_files.specs.Meaning.Elements.{elements, may_be_negative}
 use Rattle.ghcn_files.specs.Elements.{same_element}
 use Rattle.ghcn_series.specs.declared.fault.DataFault.{DataFault}
 use Rattle.ghcn_series.specs.declared.fault.DataFault.TheVariants.{TooManyFiles}
-use Rattle.ghcn_series.specs.Meaning.Series.{DayValue, Usable}
-use Rattle.ghcn_series.specs.Series.{Contents}
+use Rattle.ghcn_series.specs.Meaning.Series.{DayValue, Series}
+use Rattle.ghcn_series.specs.Series.{Data}
 use Rattle.ghcn_series.specs.DailyFaults.{FileLine, daily_lines, month_on, is_listed, daily_fault}
 use Rattle.ghcn_series.specs.Meaning.Says.{Fact}
 
@@ -52,11 +52,11 @@ days_of facts id e =
     (map (λ f. (f.day, f.value)) (filter (λ f. same_id f.id id && same_element f.element e) facts))
 
 -- the series of a station and element
-abbrev pub usable_of : List Fact → Station → Element → Usable
+abbrev pub usable_of : List Fact → Station → Element → Series
 usable_of facts s e = record { id = s.id; element = e; days = days_of facts s.id e }
 
 -- the series that have a day, by station in file order and then by element
-abbrev pub all_series : List Station → List Fact → List Usable
+abbrev pub all_series : List Station → List Fact → List Series
 all_series stations facts =
     filter (λ s. not (length s.days == 0)) (flat_map (λ s. map (usable_of facts s) elements) stations)
 
@@ -69,7 +69,7 @@ abbrev pub unlisted : List Station → List FileLine → ℕ
 unlisted stations ls = in_64_bits (count_by (λ m. not (is_listed stations m.id)) (filter_map month_on ls))
 
 -- what lines without an error hold
-abbrev pub contents : List Station → List FileLine → Contents
+abbrev pub contents : List Station → List FileLine → Data
 contents stations ls = record {
   stations = stations;
   series = all_series stations (usable_facts stations ls);
@@ -77,12 +77,12 @@ contents stations ls = record {
 }
 
 -- that, unless a line has an error: then the first error
-abbrev pub contents_unless : Option (FileLine × DataFault) → Contents → Result Contents DataFault
+abbrev pub contents_unless : Option (FileLine × DataFault) → Data → Result Data DataFault
 contents_unless None held = Ok held
 contents_unless (Some f) held = Err f.1
 
 -- the data of some files, or the first error
-abbrev pub data_of : List Station → List (List ℕ) → Result Contents DataFault
+abbrev pub data_of : List Station → List (List ℕ) → Result Data DataFault
 data_of stations files =
     if nat_le (length files) (2 ^ 20)
     then contents_unless (first_fault (daily_fault stations) (daily_lines files))

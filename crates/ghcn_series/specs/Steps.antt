@@ -12,7 +12,7 @@ use Rattle.ghcn_files.specs.Months.{IsMonth}
 use Rattle.ghcn_files.specs.Rows.{IsRowOf}
 use Rattle.ghcn_series.specs.declared.gathering.Gathering.{Gathering}
 use Rattle.ghcn_series.specs.declared.reader.Reader.{Reader}
-use Rattle.ghcn_series.specs.Series.{Contents}
+use Rattle.ghcn_series.specs.Series.{Data}
 use Rattle.ghcn_series.specs.DailyFaults.{FileLine, same_month, is_listed}
 use Rattle.ghcn_series.specs.Says.{contents}
 use Rattle.ghcn_series.specs.Kept.{kept}
@@ -154,5 +154,5 @@ abbrev pub HasSomeLines : Reader → Type 0
 HasSomeLines r = (ls : List FileLine) × HasReadLines r ls
 
 -- what is kept of all that a reader has read is held
-pub record HoldsAll (r : Reader) (held : Contents) : Type 0 where
+pub record HoldsAll (r : Reader) (held : Data) : Type 0 where
   pub is : (ls : List FileLine) → HasReadLines r ls → held ≡ kept r.keep (contents r.stations ls)

@@ -30,10 +30,10 @@ pub struct Data {
 
 impl Model for Data {
     ghost use Rattle.std.specs.Prelude.{map};
-    ghost use Rattle.ghcn_series.specs.Series.{Contents};
+    ghost use Rattle.ghcn_series.specs.Series.{Data};
     ghost use Rattle.ghcn_series.specs.Held.{AreByStation, contents_of};
 
-    ghost Value = { Contents };
+    ghost Value = { Data };
 
     ghost view = { λ d. contents_of d.stations (map (λ s. s.items) d.series.items) d.unlisted };
 

@@ -24,10 +24,10 @@ pub struct Series {
 }
 
 impl Model for Series {
-    ghost use Rattle.ghcn_series.specs.Meaning.Series.{Usable};
+    ghost use Rattle.ghcn_series.specs.Meaning.Series.{Series};
     ghost use Rattle.ghcn_series.specs.Series.{IsSeries};
 
-    ghost Value = { Usable };
+    ghost Value = { Series };
 
     ghost view = { λ s. record { id = s.id; element = s.element; days = s.columns } };
 

@@ -2,8 +2,8 @@
 use Rattle.rank_blocks.proofs.Cited.{◌≡◌, ℕ, ◌*◌, ◌<◌, ◌≤◌, Bool, true, List, [], ◌∷◌, map, filter, Option, Some, refl}
 use Rattle.rank_blocks.proofs.Cited.{ap, ◌∙◌, subst, arith, ℤ, pos, neg_ℤ, ◌≤ℤ◌, ◌+ℤ◌, ◌*ℤ◌, ◌&&◌, ◌-ℤ◌, Contains}
 use Rattle.rank_blocks.proofs.Cited.{filter_map, option_map, AllByRecursion, ints, clamps, All-contains, block_of}
-use Rattle.rank_blocks.proofs.Cited.{is_day, Element, DayValue, Usable, IsSeries, is_value, Score, Highest, Lowest, Sum}
-use Rattle.rank_blocks.proofs.Cited.{Dry, Wet, Hot, Cold, Asked, score_element, IsAsked, admits_day, Days, Windows, Spells}
+use Rattle.rank_blocks.proofs.Cited.{is_day, Element, DayValue, Series, IsSeries, is_value, Score, Highest, Lowest, Sum}
+use Rattle.rank_blocks.proofs.Cited.{Dry, Wet, Hot, Cold, Query, score_element, IsAsked, admits_day, Days, Windows, Spells}
 use Rattle.rank_blocks.proofs.Cited.{shape, test_of, is_such, window_total, begun, candidate, contenders_among}
 use Rattle.rank_blocks.proofs.Cited.{admitted, run_from, run_len, calendar_len, counted, total, blocks_total, is_among_blocks}
 use Rattle.rank_blocks.proofs.Cited.{is_reached, days_reached, blocks_of_window, holds_such, IsGreatest, IsDayScore}
@@ -33,14 +33,14 @@ candidates-below id f bound (x ∷ xs) below =
 -- ---- single days
 
 -- what is made of the value of an admitted day is at most the greatest of the days reached
-below-greatest : (f : ℤ → ℤ) (q : Asked) (s : Usable) (z : ℤ) → IsGreatest (IsDayScore f (days_reached q s)) z
+below-greatest : (f : ℤ → ℤ) (q : Query) (s : Series) (z : ℤ) → IsGreatest (IsDayScore f (days_reached q s)) z
     → (x : DayValue) → Contains (admitted q s) x → f x.1 ≤ℤ z
 below-greatest f q s z of_z x has =
     let day = of_kept (λ x. admits_day q x.0) s.days x has in
     of_z.is_most (f x.1) (in_kept (λ y. f y.1) _ s.days x day.0 (admitted-reached q x.0 day.1))
 
 -- a day's own score is at most the greatest
-pub days-below : (f : ℤ → ℤ) (q : Asked) (s : Usable) (z : ℤ) → IsGreatest (IsDayScore f (days_reached q s)) z
+pub days-below : (f : ℤ → ℤ) (q : Query) (s : Series) (z : ℤ) → IsGreatest (IsDayScore f (days_reached q s)) z
     → AllByRecursion (λ c. c.score ≤ℤ z) (contenders_among s.id (Days f) (admitted q s))
 days-below f q s z of_z = candidates-below s.id (λ x. Some (x.0, f x.1)) z (admitted q s) (λ x has e is.
     grind (arith, ints, same_Some (x.0, f x.1) e is, below-greatest f q s z of_z x has))
@@ -53,13 +53,13 @@ pub run-at_least : (such : ℤ → Bool) (len n : ℕ) (a : ℤ) → len ≤ n �
 run-at_least such len n a le pass = grind (arith, ints, counted such n a, pass (run_from such n a))
 
 -- such an admitted day is such a day of those reached
-reached-such : (test : ℤ → Bool) (q : Asked) (s : Usable) (d : ℤ) → is_such test (admitted q s) d ≡ true
+reached-such : (test : ℤ → Bool) (q : Query) (s : Series) (d : ℤ) → is_such test (admitted q s) d ≡ true
     → is_such test (days_reached q s) d ≡ true
 reached-such test q s d e =
     such-wider test (admits_day q) (λ n. is_reached q.period (block_of n)) s.days d (admitted-reached q) e
 
 -- a spell is no longer than the longest run of a wider kind
-spells-under : (test wide : ℤ → Bool) (q : Asked) (s : Usable) (z : ℤ)
+spells-under : (test wide : ℤ → Bool) (q : Query) (s : Series) (z : ℤ)
     → ((d : ℤ) → is_such test (admitted q s) d ≡ true → wide d ≡ true) → IsGreatest (IsRunLength wide) z
     → AllByRecursion (λ c. c.score ≤ℤ z) (contenders_among s.id (Spells test) (admitted q s))
 spells-under test wide q s z wider of_z =
@@ -70,7 +70,7 @@ spells-under test wide q s z wider of_z =
     of_z.is_most e.1 (run_len such x.0, x.0, score, λ i lt. wider (x.0 +ℤ pos i) (run.inside i lt)))
 
 -- or than the days of the most blocks in a row that hold such a day
-spells-in_blocks : (test : ℤ → Bool) (q : Asked) (s : Usable) (z : ℤ)
+spells-in_blocks : (test : ℤ → Bool) (q : Query) (s : Series) (z : ℤ)
     → IsBlocksBound (holds_such test (days_reached q s)) z → AllByRecursion (λ c. c.score ≤ℤ z)
     (contenders_among s.id (Spells test) (admitted q s))
 spells-in_blocks test q s z of_z =
@@ -107,7 +107,7 @@ window-blocks : (a : ℤ) (n : ℕ) (x : DayValue) → in_window a n x ≡ true
 window-blocks a n x e = grind (arith, ints, block-holds, block-rises)
 
 -- the sum of a window is at most the bound of sums
-pub windows-below : (n : ℕ) (q : Asked) (s : Usable) (z : ℤ) → IsSeries s → AreFallen s.days → IsSumBound q s n z
+pub windows-below : (n : ℕ) (q : Query) (s : Series) (z : ℤ) → IsSeries s → AreFallen s.days → IsSumBound q s n z
     → AllByRecursion (λ c. c.score ≤ℤ z) (contenders_among s.id (Windows n) (admitted q s))
 windows-below n q s z series falls of_z =
     candidates-below s.id (begun (Windows n) (admitted q s)) z (admitted q s) (λ x has e is.
@@ -131,21 +131,21 @@ windows-below n q s z series falls of_z =
 -- ---- falls
 
 -- each day of a series is one of the calendar, and its value one of the element
-pub days-valid : (s : Usable) → IsSeries s → (x : DayValue) → Contains s.days x
+pub days-valid : (s : Series) → IsSeries s → (x : DayValue) → Contains s.days x
     → (is_day x.0 ≡ true) × (is_value s.element x.1 ≡ true)
 days-valid s series x has = and_parts (is_day x.0) (is_value s.element x.1)
     (All-contains (λ x. (is_day x.0 && is_value s.element x.1) ≡ true) s.days x
     (AllPass-from_list_all (λ x. is_day x.0 && is_value s.element x.1) s.days series.values) has)
 
 -- the values of a series that a query sums up are at least zero
-pub sums-fall : (q : Asked) (s : Usable) (n : ℕ) (e : Element) → IsAsked q → IsSeries s
+pub sums-fall : (q : Query) (s : Series) (n : ℕ) (e : Element) → IsAsked q → IsSeries s
     → s.element ≡ score_element q.score → q.score ≡ Sum n e → AreFallen s.days
 sums-fall q s n e asked series element is =
     for_each (λ x. pos 0 ≤ℤ x.1) s.days (λ x has.
     grind (arith, ints, asked.score, element, is, days-valid s series x has))
 
 -- no contender has a score above the bound for a score, and so no candidate
-pub above-for : (score : Score) (q : Asked) (s : Usable) (z : ℤ) → IsSeries s
+pub above-for : (score : Score) (q : Query) (s : Series) (z : ℤ) → IsSeries s
     → ((n : ℕ) (e : Element) → score ≡ Sum n e → AreFallen s.days) → IsBoundFor score q s z
     → AllByRecursion (λ c. c.score ≤ℤ z) (contenders_among s.id (shape score) (admitted q s))
 above-for (Highest e) q s z series falls of_z = days-below (λ v. v) q s z of_z

@@ -1,7 +1,7 @@
 -- The bound of a series is found from its summaries.
 use Rattle.rank_blocks.proofs.Cited.{rules, ◌≡◌, ℕ, Bool, List, map, filter, sym, subst, arith, ℤ, pos, ◌≤ℤ◌, ◌*ℤ◌}
-use Rattle.rank_blocks.proofs.Cited.{unwrap_or, int_min, ints, block_of, greatest, Usable, Element, Score, Sum, Dry}
-use Rattle.rank_blocks.proofs.Cited.{Wet, Hot, Cold, Asked, IsAsked, test_of, Spell, BlockRange, Summary, days_reached}
+use Rattle.rank_blocks.proofs.Cited.{unwrap_or, int_min, ints, block_of, greatest, Series, Element, Score, Sum, Dry}
+use Rattle.rank_blocks.proofs.Cited.{Wet, Hot, Cold, Query, IsAsked, test_of, Spell, BlockRange, Summary, days_reached}
 use Rattle.rank_blocks.proofs.Cited.{is_reached, blocks_of_window, holds_such, bound, IsAskedOf, IsGreatest, IsDayScore}
 use Rattle.rank_blocks.proofs.Cited.{IsBlocksBound, IsBlocksTotal, IsRunLength, IsBoundFor, IsBound, IsRangeOf, in_range, summaries_in}
 use Rattle.rank_blocks.proofs.Cited.{IsTotalFrom, counts, days_in_range, AreOfBlocks, AreSummaries, HasDay, HasDays}
@@ -20,15 +20,15 @@ use Rattle.rank_blocks.proofs.HotBlocks.{days-greatest}
 use Rattle.rank_scores.specs.declared.spell.Spell.TheVariants as kinds
 
 -- its blocks are those of the period
-pub range-is : (r : BlockRange) (q : Asked) → IsRangeOf r q → in_range r ≡ is_reached q.period
+pub range-is : (r : BlockRange) (q : Query) → IsRangeOf r q → in_range r ≡ is_reached q.period
 range-is r q of = grind (arith, ints)
 
 -- the first block of its range isn't after the last
-pub range-rises : (r : BlockRange) (q : Asked) → IsRangeOf r q → IsAsked q → r.first ≤ℤ r.last
+pub range-rises : (r : BlockRange) (q : Query) → IsRangeOf r q → IsAsked q → r.first ≤ℤ r.last
 range-rises r q of asked = grind (arith, ints, block-rises)
 
 -- a bound for the query's score is the bound
-pub bound-for : (q : Asked) (s : Usable) (score : Score) (z : ℤ) → q.score ≡ score → IsBoundFor score q s z
+pub bound-for : (q : Query) (s : Series) (score : Score) (z : ℤ) → q.score ≡ score → IsBoundFor score q s z
     → IsBound q s z
 bound-for q s score z is of_z = subst (λ (k : Score). IsBoundFor k q s z) (sym is) of_z
 
@@ -39,7 +39,7 @@ score_of kinds.Wet = Wet
 score_of (kinds.Hot t) = Hot t
 score_of (kinds.Cold t) = Cold t
 
-module _ (r : BlockRange) (q : Asked) (s : Usable) (ms : List Summary) (of : IsRangeOf r q)
+module _ (r : BlockRange) (q : Query) (s : Series) (ms : List Summary) (of : IsRangeOf r q)
     (asked_of : IsAskedOf q s) where
   -- the greatest score of a day, from the summaries
   pub day-met : (f : ℤ → ℤ) (z : ℤ) → AreOfBlocks (HasDay f s.days) s ms
@@ -113,11 +113,11 @@ module _ (r : BlockRange) (q : Asked) (s : Usable) (ms : List Summary) (of : IsR
         })
 
 -- the bound by what it is greatest of is the one that is computed
-pub bound-computed : (q : Asked) (s : Usable) (z : ℤ) → IsAsked q → IsAskedOf q s → IsBound q s z → z ≡ bound q s
+pub bound-computed : (q : Query) (s : Series) (z : ℤ) → IsAsked q → IsAskedOf q s → IsBound q s z → z ≡ bound q s
 bound-computed q s z asked of of_z = unique-for q.score q s z (bound q s) of_z (computed-IsBound q s asked of)
 
 -- and no candidate's score is above it, since candidates are among the contenders
-pub bound-above : (q : Asked) (s : Usable) (z : ℤ) → IsAsked q → IsAskedOf q s → IsBound q s z → IsAbove q s z
+pub bound-above : (q : Query) (s : Series) (z : ℤ) → IsAsked q → IsAskedOf q s → IsBound q s z → IsAbove q s z
 bound-above q s z asked of of_z =
     all-filter (λ c. c.score ≤ℤ z) _ (contenders q s) (above-for q.score q s z of.series
     (λ n e is. sums-fall q s n e asked of.series of.element is) of_z)

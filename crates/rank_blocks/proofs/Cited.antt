@@ -29,12 +29,12 @@ pub use Rattle.ghcn_fields.specs.Sorting.{greatest}
 pub use Rattle.ghcn_files.specs.declared.element.Element.{Element}
 pub use Rattle.ghcn_series.proofs.ListFacts.{each-append}
 pub use Rattle.ghcn_series.proofs.Lookups.{block-holds, block-of_place, int_eq-no, int_eq-yes}
-pub use Rattle.ghcn_series.specs.Meaning.Series.{DayValue, Usable, value_on}
+pub use Rattle.ghcn_series.specs.Meaning.Series.{DayValue, Series, value_on}
 pub use Rattle.ghcn_series.specs.Packed.{AreRising, HasNone, IsBlockOf, block_days, day_from, next_block}
 unfoldable pub use Rattle.ghcn_series.specs.Packed.{days_from}
 pub use Rattle.ghcn_series.specs.Series.{IsSeries, is_value}
 pub use Rattle.rank_query.specs.Meaning.Admits.{admits_day}
-pub use Rattle.rank_query.specs.Meaning.Asked.{Asked, IsAsked, score_element}
+pub use Rattle.rank_query.specs.Meaning.Asked.{Query, IsAsked, score_element}
 pub use Rattle.rank_query.specs.declared.score.Score.{Score}
 pub use Rattle.rank_query.specs.declared.score.Score.TheVariants.{Cold, Dry, Highest, Hot, Lowest, Sum, Wet}
 pub use Rattle.rank_scores.proofs.Rising.{admitted-rise, from_both, from_each, rise-filter, rise-from_by_day, values_stand}

@@ -3,8 +3,8 @@ use Rattle.rank_blocks.proofs.Cited.{rules, ◌≡◌, ℕ, zero, suc, ◌<◌, 
 use Rattle.rank_blocks.proofs.Cited.{inr, refl, ◌∙◌, arith, ℤ, pos, neg_ℤ, ◌+ℤ◌, ◌-ℤ◌, ◌≤ℤ◌, ◌<ℤ◌, Contains}
 use Rattle.rank_blocks.proofs.Cited.{flat_map, AllByRecursion, range_with_len, ints, Contains-append_left}
 use Rattle.rank_blocks.proofs.Cited.{Contains-append_right, le-max_left, le-max_right, block_of, first_day, last_day}
-use Rattle.rank_blocks.proofs.Cited.{Element, DayValue, Usable, IsSeries, Score, Highest, Lowest, Sum, Dry, Wet, Hot, Cold}
-use Rattle.rank_blocks.proofs.Cited.{Asked, IsAsked, admits_day, test_of, is_such, admitted, run_len, longest_run}
+use Rattle.rank_blocks.proofs.Cited.{Element, DayValue, Series, IsSeries, Score, Highest, Lowest, Sum, Dry, Wet, Hot, Cold}
+use Rattle.rank_blocks.proofs.Cited.{Query, IsAsked, admits_day, test_of, is_such, admitted, run_len, longest_run}
 use Rattle.rank_blocks.proofs.Cited.{calendar_len, counted, days_reached, is_reached, blocks_total, is_among_blocks}
 use Rattle.rank_blocks.proofs.Cited.{greatest_by, blocks_of_window, first_blocks, greatest_total, spell_bound}
 use Rattle.rank_blocks.proofs.Cited.{blocks_bound, holds_such, bound_for, bound, IsAskedOf, IsGreatest, IsDayScore}
@@ -23,7 +23,7 @@ use Rattle.rank_scores.specs.declared.spell.Spell.TheVariants as spells
 -- ---- there is but one
 
 -- the same value and the same total make the same bound of sums
-sum-unique : (q : Asked) (s : Usable) (n : ℕ) (y z : ℤ) → IsSumBound q s n y → IsSumBound q s n z → y ≡ z
+sum-unique : (q : Query) (s : Series) (n : ℕ) (y z : ℤ) → IsSumBound q s n y → IsSumBound q s n z → y ≡ z
 sum-unique q s n y z of_y of_z =
     let value = greatest-unique _ of_y.value of_z.value of_y.greatest_value of_z.greatest_value in
     let most = greatest-unique _ of_y.most of_z.most of_y.greatest_total of_z.greatest_total in
@@ -36,7 +36,7 @@ blocks-unique such y z of_y of_z =
     omega (arith, ints, same, of_y.times, of_z.times)
 
 -- there is but one bound for a score
-pub unique-for : (score : Score) (q : Asked) (s : Usable) (y z : ℤ) → IsBoundFor score q s y → IsBoundFor score q s z
+pub unique-for : (score : Score) (q : Query) (s : Series) (y z : ℤ) → IsBoundFor score q s y → IsBoundFor score q s z
     → y ≡ z
 unique-for (Highest e) q s y z of_y of_z = greatest-unique _ y z of_y of_z
 unique-for (Lowest e) q s y z of_y of_z = greatest-unique _ y z of_y of_z
@@ -49,14 +49,14 @@ unique-for (Cold t) q s y z of_y of_z = blocks-unique _ y z of_y of_z
 -- ---- days
 
 -- if there is an admitted day, it is one of the days
-pub some_admitted : (q : Asked) (s : Usable) → 0 < length (admitted q s)
+pub some_admitted : (q : Query) (s : Series) → 0 < length (admitted q s)
     → (x : DayValue) × (Contains s.days x × (admits_day q x.0 ≡ true))
 some_admitted q s some =
     let first = Contains-get_or (admitted q s) 0 (pos 0, pos 0) some in
     (get_or (admitted q s) 0 (pos 0, pos 0), of_kept (λ x. admits_day q x.0) s.days _ first)
 
 -- the greatest score of the days reached, if there is one
-day-greatest : (f : ℤ → ℤ) (q : Asked) (s : Usable) → 0 < length (admitted q s)
+day-greatest : (f : ℤ → ℤ) (q : Query) (s : Series) → 0 < length (admitted q s)
     → IsGreatest (IsDayScore f (days_reached q s)) (greatest_by f (days_reached q s))
 day-greatest f q s some =
     let day = some_admitted q s some in
@@ -95,7 +95,7 @@ window-seen w first all [] h = inr refl
 window-seen w first all (x ∷ xs) h = grind (arith, ints, window-seen w first all xs h.1)
 
 -- the greatest total of windows that begin in the period
-total-greatest : (q : Asked) (s : Usable) (w : ℕ) → 0 < w → 0 < length (admitted q s) → AreFallen s.days
+total-greatest : (q : Query) (s : Series) (w : ℕ) → 0 < w → 0 < length (admitted q s) → AreFallen s.days
     → IsGreatest (IsBlocksTotal q.period s.days w) (greatest_total q s.days w)
 total-greatest q s w some_blocks some falls =
     let day = some_admitted q s some in
@@ -153,13 +153,13 @@ module _ (such : ℤ → Bool) (f : DayValue → ℤ) (days : List DayValue) (lo
       search (rules, arith, ints, somewhere, no_longer)
 
 -- a day that is reached is one of the calendar
-reached-valid : (q : Asked) (s : Usable) → IsSeries s → (x : DayValue) → Contains (days_reached q s) x
+reached-valid : (q : Query) (s : Series) → IsSeries s → (x : DayValue) → Contains (days_reached q s) x
     → (first_day ≤ℤ x.0) × (x.0 ≤ℤ last_day)
 reached-valid q s series x has =
     grind (arith, ints, days-valid s series x, of_kept (λ x. is_reached q.period (block_of x.0)) s.days x has)
 
 -- the longest run of days that pass, of those reached
-run-greatest : (test : ℤ → Bool) (q : Asked) (s : Usable) → IsSeries s → IsGreatest
+run-greatest : (test : ℤ → Bool) (q : Query) (s : Series) → IsSeries s → IsGreatest
     (IsRunLength (is_such test (days_reached q s))) (spell_bound test (days_reached q s))
 run-greatest test q s series =
     runs-greatest (is_such test (days_reached q s)) (λ x. x.0) (days_reached q s) first_day
@@ -167,7 +167,7 @@ run-greatest test q s series =
     (λ x has. let day = reached-valid q s series x has in (day.0, omega (arith, ints, day.1)))
 
 -- the most blocks in a row that hold a day which passes, of those reached
-blocks-greatest : (test : ℤ → Bool) (q : Asked) (s : Usable) → IsSeries s → IsGreatest
+blocks-greatest : (test : ℤ → Bool) (q : Query) (s : Series) → IsSeries s → IsGreatest
     (IsRunLength (holds_such test (days_reached q s)))
     (pos (longest_run (holds_such test (days_reached q s)) (map (λ x. block_of x.0) (days_reached q s))))
 blocks-greatest test q s series =
@@ -177,14 +177,14 @@ blocks-greatest test q s series =
     (block-rises first_day x.0 day.0, omega (arith, ints, block-rises x.0 last_day day.1)))
 
 -- 32 times the number of blocks is the bound of hot and of cold spells
-pub blocks-computed : (test : ℤ → Bool) (q : Asked) (s : Usable) → IsSeries s
+pub blocks-computed : (test : ℤ → Bool) (q : Query) (s : Series) → IsSeries s
     → IsBlocksBound (holds_such test (days_reached q s)) (blocks_bound test (days_reached q s))
 blocks-computed test q s series = grind (arith, ints, blocks-greatest test q s series)
 
 -- ---- the bound
 
 -- the bound for a score, as it is computed
-computed-for : (score : Score) (q : Asked) (s : Usable) → IsSeries s → 0 < length (admitted q s)
+computed-for : (score : Score) (q : Query) (s : Series) → IsSeries s → 0 < length (admitted q s)
     → ((n : ℕ) (e : Element) → score ≡ Sum n e → AreFallen s.days) → IsBoundFor score q s (bound_for score q s)
 computed-for (Highest e) q s series some falls = day-greatest (λ v. v) q s some
 computed-for (Lowest e) q s series some falls = day-greatest neg_ℤ q s some
@@ -201,5 +201,5 @@ computed-for (Hot t) q s series some falls = blocks-computed (test_of (spells.Ho
 computed-for (Cold t) q s series some falls = blocks-computed (test_of (spells.Cold t)) q s series
 
 -- the bound as it is computed is the bound by what it is greatest of
-pub computed-IsBound : (q : Asked) (s : Usable) → IsAsked q → IsAskedOf q s → IsBound q s (bound q s)
+pub computed-IsBound : (q : Query) (s : Series) → IsAsked q → IsAskedOf q s → IsBound q s (bound q s)
 computed-IsBound q s asked of = grind (arith, ints, computed-for, sums-fall)

@@ -1,16 +1,16 @@
 -- Worked bounds, by computation.
 use Rattle.rank_blocks.proofs.Cited.{◌≡◌, ℕ, zero, suc, List, [], ◌∷◌, refl, Some, None, Option, codes, ℤ, pos, neg_ℤ}
-use Rattle.rank_blocks.proofs.Cited.{◌+ℤ◌, Element, DayValue, Usable, Score, Highest, Lowest, Sum, Dry, Wet, Hot, Cold, Asked}
+use Rattle.rank_blocks.proofs.Cited.{◌+ℤ◌, Element, DayValue, Series, Score, Highest, Lowest, Sum, Dry, Wet, Hot, Cold, Query}
 use Rattle.rank_blocks.proofs.Cited.{run_from, bound}
 use Rattle.ghcn_files.specs.declared.element.Element.TheVariants.{Tmax, Tmin, Prcp}
 use Rattle.rank_query.specs.Asked.{top}
 
 -- a series of a station
-abbrev pub series : Element → List DayValue → Usable
+abbrev pub series : Element → List DayValue → Series
 series e days = record { id = record { 0 = codes "ZZA00000001" }; element = e; days = days }
 
 -- a query without a region
-abbrev pub ask : Score → Option (ℤ × ℤ) → Asked
+abbrev pub ask : Score → Option (ℤ × ℤ) → Query
 ask score period = record (top 1 score) { period = period }
 
 -- a value on each of n days from one on

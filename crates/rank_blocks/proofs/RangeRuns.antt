@@ -1,7 +1,7 @@
 -- The longest run of days in the blocks of a range, as a loop over the summaries finds it.
 use Rattle.rank_blocks.proofs.Cited.{◌≡◌, ℕ, zero, suc, ◌+◌, ◌*◌, ◌<◌, ◌≤◌, Bool, true, false, List, map, length, refl}
 use Rattle.rank_blocks.proofs.Cited.{sym, ap, ◌∙◌, arith, ℤ, pos, ◌≤ℤ◌, ◌<ℤ◌, ◌+ℤ◌, Contains, ints, All-from_recursion}
-use Rattle.rank_blocks.proofs.Cited.{All-get_or, All-from_get_or, recursion_from_All, block_of, Usable, Spell, Runs}
+use Rattle.rank_blocks.proofs.Cited.{All-get_or, All-from_get_or, recursion_from_All, block_of, Series, Spell, Runs}
 use Rattle.rank_blocks.proofs.Cited.{Summary, BlockRange, block_start, AreRuns, runs_before, NoneBetween, AllFrom}
 use Rattle.rank_blocks.proofs.Cited.{Continues, IsGreatest, IsRunLength, in_range, days_in_range, counts, AreOfBlocks}
 use Rattle.rank_blocks.proofs.Cited.{ArePossible, HasDays, false_from_ne_true, block-holds, block-of_place}
@@ -11,7 +11,7 @@ use Rattle.rank_blocks.proofs.Members.{pick}
 use Rattle.rank_blocks.proofs.HotBlocks.{counts-kept, counts-filter, counts-among}
 
 -- a day that counts for a spell among the usable days in the blocks of a range
-abbrev pub kind : BlockRange → Spell → Usable → ℤ → Bool
+abbrev pub kind : BlockRange → Spell → Series → ℤ → Bool
 kind r k s = counts k (days_in_range r s.days)
 
 -- the runs of the days before a block are noted, whatever the series; of the blocks of the range those that come before
@@ -21,7 +21,7 @@ pub record IsTold (r : BlockRange) (ms : List Summary) (i : ℕ) (runs : Runs) :
   pub before : (j : ℕ) → j < i → in_range r (block_at ms j).number ≡ true → (block_at ms j).number <ℤ runs.next
   pub ahead : (j : ℕ) → i ≤ j → j < length ms → in_range r (block_at ms j).number ≡ true
       → runs.next ≤ℤ (block_at ms j).number
-  pub told : (k : Spell) (s : Usable) → AreOfBlocks (HasDays k s.days) s ms → AreRuns (kind r k s) runs
+  pub told : (k : Spell) (s : Series) → AreOfBlocks (HasDays k s.days) s ms → AreRuns (kind r k s) runs
 
 -- before any block
 pub told-start : (r : BlockRange) (ms : List Summary) → IsTold r ms 0 (runs_before r.first)
@@ -34,7 +34,7 @@ told-start r ms = record {
 }
 
 -- the block of a day of the kind is one of the range and has a summary
-block-of_kind : (r : BlockRange) (k : Spell) (s : Usable) (ms : List Summary) → AreOfBlocks (HasDays k s.days) s ms
+block-of_kind : (r : BlockRange) (k : Spell) (s : Series) (ms : List Summary) → AreOfBlocks (HasDays k s.days) s ms
     → (d : ℤ) → kind r k s d ≡ true
     → (j : ℕ) × (j < length ms) × ((block_at ms j).number ≡ block_of d) × (in_range r (block_at ms j).number ≡ true)
 block-of_kind r k s ms are d e =
@@ -49,7 +49,7 @@ block-of_kind r k s ms are d e =
 module _ (r : BlockRange) (ms : List Summary) (i : ℕ) (runs : Runs) (far : IsTold r ms i runs) where
   module _ (possible : ArePossible ms) (lt : i < length ms) where
     -- no day of the kind lies between the block after those noted and that of the summary at the place
-    none-between : (k : Spell) (s : Usable) → AreOfBlocks (HasDays k s.days) s ms
+    none-between : (k : Spell) (s : Series) → AreOfBlocks (HasDays k s.days) s ms
         → NoneBetween (kind r k s) runs.next (block_at ms i).number
     none-between k s are d low high = false_from_ne_true (kind r k s d) (λ e.
         let at = block-of_kind r k s ms are d e in
@@ -77,7 +77,7 @@ module _ (r : BlockRange) (ms : List Summary) (i : ℕ) (runs : Runs) (far : IsT
   told-out out = grind (arith, ints, far)
 
   -- after the last block, the longest run is that of the range
-  pub told-end : length ms ≤ i → (k : Spell) (s : Usable) → AreOfBlocks (HasDays k s.days) s ms
+  pub told-end : length ms ≤ i → (k : Spell) (s : Series) → AreOfBlocks (HasDays k s.days) s ms
       → IsGreatest (IsRunLength (kind r k s)) (pos runs.longest)
   told-end end k s are =
       let told = far.told k s are in

@@ -1,7 +1,7 @@
 -- The days of the blocks of a range.
 use Rattle.rank_blocks.proofs.Cited.{◌≡◌, Bool, true, false, cond, List, [], ◌∷◌, map, filter, Option, Some, None, sym}
 use Rattle.rank_blocks.proofs.Cited.{ap, ◌∙◌, subst, arith, ℤ, Contains, int_eq, AllByRecursion, option_map_or}
-use Rattle.rank_blocks.proofs.Cited.{Decides-int_eq, ints, block_of, DayValue, Usable, value_on, Asked, admits_day}
+use Rattle.rank_blocks.proofs.Cited.{Decides-int_eq, ints, block_of, DayValue, Series, value_on, Query, admits_day}
 use Rattle.rank_blocks.proofs.Cited.{is_such, Summary, is_reached, IsGreatest, IsDayScore, AreOfBlocks, HasDay}
 use Rattle.rank_blocks.proofs.Members.{itself, of_each, of_kept, pick, in_kept, from_kept}
 use Rattle.rank_blocks.proofs.DaysInBlocks.{block-rises}
@@ -55,20 +55,20 @@ pub such-wider : (test : ℤ → Bool) (p q : ℤ → Bool) (days : List DayValu
 such-wider test p q days d wider e = grind (arith, ints, such-kept, such-filter)
 
 -- an admitted day lies in a block of the period
-pub admitted-reached : (q : Asked) (d : ℤ) → admits_day q d ≡ true → is_reached q.period (block_of d) ≡ true
+pub admitted-reached : (q : Query) (d : ℤ) → admits_day q d ≡ true → is_reached q.period (block_of d) ≡ true
 admitted-reached q d e = grind (arith, ints, block-rises)
 
 -- ---- the greatest score of a day, from the summaries
 
 -- the block of a day has a summary
-pub summary-of : (P : Summary → Type 0) (s : Usable) (ms : List Summary) → AreOfBlocks P s ms → (x : DayValue)
+pub summary-of : (P : Summary → Type 0) (s : Series) (ms : List Summary) → AreOfBlocks P s ms → (x : DayValue)
     → Contains s.days x → (m : Summary) × Contains ms m × (m.number ≡ block_of x.0)
 summary-of P s ms are x has =
     pick (λ m. m.number) (Contains ms) ms (block_of x.0) (itself ms)
     (of_each (λ x. Contains (map (λ m. m.number) ms) (block_of x.0)) s.days are.all x has)
 
 -- the greatest score of the summaries of the blocks that pass is the greatest of their days
-pub greatest-of_blocks : (f : ℤ → ℤ) (P : ℤ → Bool) (s : Usable) (ms : List Summary) (z : ℤ)
+pub greatest-of_blocks : (f : ℤ → ℤ) (P : ℤ → Bool) (s : Series) (ms : List Summary) (z : ℤ)
     → AreOfBlocks (HasDay f s.days) s ms → IsGreatest (Contains (map (λ m. m.day) (filter (λ m. P m.number) ms))) z
     → IsGreatest (IsDayScore f (filter (λ x. P (block_of x.0)) s.days)) z
 greatest-of_blocks f P s ms z are of_z =

@@ -3,7 +3,7 @@ use Rattle.rank_blocks.proofs.Cited.{◌≡◌, ℕ, ◌<◌, ◌^◌, true, Lis
 use Rattle.rank_blocks.proofs.Cited.{◌∙◌, subst, arith, ℤ, pos, ◌≤ℤ◌, ◌<ℤ◌, ◌+ℤ◌, w32, Contains, trailing_zeros}
 use Rattle.rank_blocks.proofs.Cited.{AllByRecursion, ints, by_lt_z, map-append, Contains-append_left, Contains-push}
 use Rattle.rank_blocks.proofs.Cited.{bit_at-trailing_zeros, block_of, is_day, IsBlock, AreRising, IsBlockOf, HasNone}
-use Rattle.rank_blocks.proofs.Cited.{next_block, DayValue, Usable, IsSeries, value_on, Score, Summary, IsSummary}
+use Rattle.rank_blocks.proofs.Cited.{next_block, DayValue, Series, IsSeries, value_on, Score, Summary, IsSummary}
 use Rattle.rank_blocks.proofs.Cited.{IsPossible, AreSummariesTo, AreSummariesUpTo, numbers_left, rise-from_by_day}
 use Rattle.rank_blocks.proofs.Cited.{from_each, each-append, values_stand, from_both, IsStrictlySortedBy}
 use Rattle.rank_blocks.proofs.Members.{contains-first, itself, of_each, for_each}
@@ -14,7 +14,7 @@ use Rattle.rank_blocks.proofs.BlockDays.{block-day}
 use Rattle.ghcn_series.proofs.FirstDays.{block-of_day}
 
 -- at first no block before that of the first day
-pub read-first : (score : Score) (s : Usable) (x : DayValue) (rest : List DayValue) → IsSeries s → s.days ≡ x ∷ rest
+pub read-first : (score : Score) (s : Series) (x : DayValue) (rest : List DayValue) → IsSeries s → s.days ≡ x ∷ rest
     → AreSummariesTo score s (block_of x.0) []
 unfolding IsStrictlySortedBy
 read-first score s x rest series split =
@@ -23,7 +23,7 @@ read-first score s x rest series split =
     grind (arith, ints, from_each, block-rises, days-valid s series x has)
 
 -- the block of a word with a day in it is one of the calendar
-pub block-IsBlock : (s : Usable) (b : ℤ) (word : ℕ) (values : List ℤ) → IsSeries s → word < 2 ^ 32
+pub block-IsBlock : (s : Series) (b : ℤ) (word : ℕ) (values : List ℤ) → IsSeries s → word < 2 ^ 32
     → IsBlockOf s.days b word values → IsBlock b
 block-IsBlock s b word values series fits of_block =
     let lowest = bit_at-trailing_zeros w32 word of_block.present fits in
@@ -33,7 +33,7 @@ block-IsBlock s b word values series fits of_block =
     block-of_day b (trailing_zeros w32 word) lowest.0 day
 
 -- with the summary of the block that is looked at
-pub read-more : (score : Score) (s : Usable) (n : ℤ) (ms : List Summary) (m : Summary) → AreSummariesTo score s n ms
+pub read-more : (score : Score) (s : Series) (n : ℤ) (ms : List Summary) (m : Summary) → AreSummariesTo score s n ms
     → m.number ≡ n → IsBlock n → IsSummary score s.days m → IsPossible m
     → AreSummariesTo score s (n +ℤ pos 1) (ms ++ m ∷ [])
 read-more score s n ms m so_far number block is possible =
@@ -72,7 +72,7 @@ next-none : (days : List DayValue) (b : ℤ) → next_block days b ≡ None → 
 next-none [] b e = tt
 next-none (x ∷ xs) b e = grind (arith, ints, next-none xs b)
 
-module _ (score : Score) (s : Usable) (n : ℤ) (ms : List Summary) (so_far : AreSummariesTo score s n ms)
+module _ (score : Score) (s : Series) (n : ℤ) (ms : List Summary) (so_far : AreSummariesTo score s n ms)
     (none : HasNone s.days n) where
   -- a block without a day is skipped, and a later one is next
   pub read-next : (next : Option ℤ) → next_block s.days n ≡ next → AreSummariesUpTo score s ms next

@@ -1,7 +1,7 @@
 -- Totals of days, block by block.
 use Rattle.rank_blocks.proofs.Cited.{rules, ◌≡◌, ℕ, Bool, false, cond, List, [], ◌∷◌, map, filter, inl, inr, refl, sym}
 use Rattle.rank_blocks.proofs.Cited.{ap, arith, ℤ, pos, ◌+ℤ◌, Contains, int_cmp, int_eq, Less, AllByRecursion}
-use Rattle.rank_blocks.proofs.Cited.{IsStrictlySortedBy, ints, block_of, DayValue, Usable, Summary, days_in, total}
+use Rattle.rank_blocks.proofs.Cited.{IsStrictlySortedBy, ints, block_of, DayValue, Series, Summary, days_in, total}
 use Rattle.rank_blocks.proofs.Cited.{blocks_total, is_among_blocks, summaries_total, AreOfBlocks, HasSum, from_each, int_eq-no}
 use Rattle.rank_blocks.proofs.Members.{of_each, contains-cases, total-cons}
 use Rattle.rank_blocks.proofs.PossibleBlocks.{int_cmp-less}
@@ -71,7 +71,7 @@ totals-summaries P days [] h = refl
 totals-summaries P days (m ∷ ms) h = grind (arith, ints, totals-summaries P days ms h.1)
 
 -- the total of some blocks is that of their days
-pub summaries_total-is : (s : Usable) (ms : List Summary) → AreOfBlocks (HasSum s.days) s ms → (w : ℕ) (first : ℤ)
+pub summaries_total-is : (s : Series) (ms : List Summary) → AreOfBlocks (HasSum s.days) s ms → (w : ℕ) (first : ℤ)
     → summaries_total ms w first ≡ blocks_total s.days w first
 summaries_total-is s ms are w first =
     grind (arith, ints, totals-summaries (is_among_blocks first w) s.days ms are.each, total-by_blocks)

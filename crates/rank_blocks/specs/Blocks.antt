@@ -5,8 +5,8 @@ use Rattle.std.specs.Ordering.{int_eq}
 use Rattle.ghcn_fields.specs.Meaning.Days.{first_day, last_day}
 use Rattle.ghcn_fields.specs.Days.{block_of}
 pub use Rattle.ghcn_series.specs.Packed.{block_start}
-use Rattle.ghcn_series.specs.Meaning.Series.{DayValue, Usable}
-use Rattle.rank_query.specs.Meaning.Asked.{Asked}
+use Rattle.ghcn_series.specs.Meaning.Series.{DayValue, Series}
+use Rattle.rank_query.specs.Meaning.Asked.{Query}
 
 -- the first day and the last day of the period, or of the calendar if there is none
 abbrev pub period_of : Option (ℤ × ℤ) → ℤ × ℤ
@@ -17,7 +17,7 @@ abbrev pub is_reached : Option (ℤ × ℤ) → ℤ → Bool
 is_reached p b = int_le (block_of (period_of p).0) b && int_le b (block_of (period_of p).1)
 
 -- the usable days in the blocks of the period
-abbrev pub days_reached : Asked → Usable → List DayValue
+abbrev pub days_reached : Query → Series → List DayValue
 days_reached q s = filter (λ x. is_reached q.period (block_of x.0)) s.days
 
 -- those of some days that lie in a block

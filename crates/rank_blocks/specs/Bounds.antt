@@ -7,10 +7,10 @@ use Rattle.std.specs.Int.{int_min}
 use Rattle.std.specs.Ordering.{int_eq}
 use Rattle.ghcn_fields.specs.Days.{block_of}
 use Rattle.ghcn_fields.specs.Sorting.{greatest}
-use Rattle.ghcn_series.specs.Meaning.Series.{DayValue, Usable}
+use Rattle.ghcn_series.specs.Meaning.Series.{DayValue, Series}
 use Rattle.rank_query.specs.declared.score.Score.{Score}
 use Rattle.rank_query.specs.declared.score.Score.TheVariants.{Highest, Lowest, Sum, Dry, Wet, Hot, Cold}
-use Rattle.rank_query.specs.Meaning.Asked.{Asked}
+use Rattle.rank_query.specs.Meaning.Asked.{Query}
 use Rattle.rank_scores.specs.Meaning.Candidates.{is_such}
 use Rattle.rank_scores.specs.Candidates.{test_of}
 use Rattle.rank_scores.specs.declared.spell.Spell.TheVariants as spells
@@ -26,16 +26,16 @@ abbrev pub blocks_of_window : ℕ → ℕ
 blocks_of_window n = (n + 30) / 32 + 1
 
 -- the blocks of the period from which w blocks hold a usable day
-abbrev pub first_blocks : Asked → List DayValue → ℕ → List ℤ
+abbrev pub first_blocks : Query → List DayValue → ℕ → List ℤ
 first_blocks q days w =
     filter (is_reached q.period) (flat_map (λ x. map (λ i. block_of x.0 -ℤ pos i) (range_with_len 0 w)) days)
 
 -- the greatest total of w blocks in a row that begin in the period, 0 if none of them holds a usable day
-abbrev pub greatest_total : Asked → List DayValue → ℕ → ℤ
+abbrev pub greatest_total : Query → List DayValue → ℕ → ℤ
 greatest_total q days w = unwrap_or (greatest (map (blocks_total days w) (first_blocks q days w))) (pos 0)
 
 -- the bound of sums: n times the greatest value, or the greatest total of that many blocks, whichever is smaller
-abbrev pub sum_bound : Asked → Usable → ℕ → ℤ
+abbrev pub sum_bound : Query → Series → ℕ → ℤ
 sum_bound q s n =
     int_min (pos n *ℤ greatest_by (λ v. v) (days_reached q s)) (greatest_total q s.days (blocks_of_window n))
 
@@ -52,7 +52,7 @@ abbrev pub blocks_bound : (ℤ → Bool) → List DayValue → ℤ
 blocks_bound test days = pos (32 * longest_run (holds_such test days) (map (λ x. block_of x.0) days))
 
 -- the bound of a score
-abbrev pub bound_for : Score → Asked → Usable → ℤ
+abbrev pub bound_for : Score → Query → Series → ℤ
 bound_for (Highest e) q s = greatest_by (λ v. v) (days_reached q s)
 bound_for (Lowest e) q s = greatest_by neg_ℤ (days_reached q s)
 bound_for (Sum n e) q s = sum_bound q s n
@@ -62,5 +62,5 @@ bound_for (Hot t) q s = blocks_bound (test_of (spells.Hot t)) (days_reached q s)
 bound_for (Cold t) q s = blocks_bound (test_of (spells.Cold t)) (days_reached q s)
 
 -- the bound of a series under a query
-abbrev pub bound : Asked → Usable → ℤ
+abbrev pub bound : Query → Series → ℤ
 bound q s = bound_for q.score q s

@@ -2,10 +2,10 @@
 use Rattle.std.specs.Prelude.{◌≡◌, ℕ, ◌*◌, ◌<◌, Bool, true, List, map, Option, ℤ, pos, neg_ℤ, ◌+ℤ◌, ◌*ℤ◌, ◌≤ℤ◌}
 use Rattle.std.specs.List.{Contains}
 use Rattle.std.specs.Int.{int_min}
-use Rattle.ghcn_series.specs.Meaning.Series.{DayValue, Usable}
+use Rattle.ghcn_series.specs.Meaning.Series.{DayValue, Series}
 use Rattle.rank_query.specs.declared.score.Score.{Score}
 use Rattle.rank_query.specs.declared.score.Score.TheVariants.{Highest, Lowest, Sum, Dry, Wet, Hot, Cold}
-use Rattle.rank_query.specs.Meaning.Asked.{Asked}
+use Rattle.rank_query.specs.Meaning.Asked.{Query}
 use Rattle.rank_scores.specs.Meaning.Candidates.{is_such}
 use Rattle.rank_scores.specs.Candidates.{test_of}
 use Rattle.rank_scores.specs.declared.spell.Spell.TheVariants as spells
@@ -31,7 +31,7 @@ abbrev pub IsRunLength : (ℤ → Bool) → ℤ → Type 0
 IsRunLength such y = (len : ℕ) × (first : ℤ) × (pos len ≡ y) × ((i : ℕ) → i < len → such (first +ℤ pos i) ≡ true)
 
 -- z is the smaller of n times the greatest value and the greatest total of the blocks that n days may lie in
-pub record IsSumBound (q : Asked) (s : Usable) (n : ℕ) (z : ℤ) : Type 0 where
+pub record IsSumBound (q : Query) (s : Series) (n : ℕ) (z : ℤ) : Type 0 where
   pub value : ℤ
   pub most : ℤ
   pub greatest_value : IsGreatest (IsDayScore (λ v. v) (days_reached q s)) value
@@ -45,7 +45,7 @@ pub record IsBlocksBound (such : ℤ → Bool) (z : ℤ) : Type 0 where
   pub times : pos (32 * blocks) ≡ z
 
 -- z is the bound for a score
-abbrev pub IsBoundFor : Score → Asked → Usable → ℤ → Type 0
+abbrev pub IsBoundFor : Score → Query → Series → ℤ → Type 0
 IsBoundFor (Highest e) q s z = IsGreatest (IsDayScore (λ v. v) (days_reached q s)) z
 IsBoundFor (Lowest e) q s z = IsGreatest (IsDayScore neg_ℤ (days_reached q s)) z
 IsBoundFor (Sum n e) q s z = IsSumBound q s n z
@@ -55,11 +55,11 @@ IsBoundFor (Hot t) q s z = IsBlocksBound (holds_such (test_of (spells.Hot t)) (d
 IsBoundFor (Cold t) q s z = IsBlocksBound (holds_such (test_of (spells.Cold t)) (days_reached q s)) z
 
 -- z is the bound of the series under the query
-abbrev pub IsBound : Asked → Usable → ℤ → Type 0
+abbrev pub IsBound : Query → Series → ℤ → Type 0
 IsBound q s z = IsBoundFor q.score q s z
 
 -- z is the series' bound as it is computed, and by what it is greatest of, and no candidate of the series is above it
-pub record IsSeriesBound (q : Asked) (s : Usable) (z : ℤ) : Type 0 where
+pub record IsSeriesBound (q : Query) (s : Series) (z : ℤ) : Type 0 where
   pub equals : z ≡ bound q s
   pub greatest : IsBound q s z
   pub above : IsAbove q s z

@@ -2,7 +2,7 @@
 use Rattle.std.specs.Prelude.{◌≡◌, ℕ, Bool, true, ◌&&◌, List, map, filter, ℤ, pos, neg_ℤ, ◌≤ℤ◌, int_le}
 use Rattle.ghcn_fields.specs.Days.{block_of}
 use Rattle.ghcn_series.specs.Meaning.Series.{DayValue}
-use Rattle.rank_query.specs.Meaning.Asked.{Asked}
+use Rattle.rank_query.specs.Meaning.Asked.{Query}
 use Rattle.rank_scores.specs.Candidates.{test_of}
 use Rattle.rank_scores.specs.Meaning.Candidates.{is_such}
 use Rattle.rank_scores.specs.declared.spell.Spell.{Spell}
@@ -23,7 +23,7 @@ pub record IsTotal (z : ℤ) : Type 0 where
   pub high : z ≤ℤ pos 68_719_476_736
 
 -- the range of the blocks of the query's period, or of the calendar if it has none
-pub record IsRangeOf (r : BlockRange) (q : Asked) : Type 0 where
+pub record IsRangeOf (r : BlockRange) (q : Query) : Type 0 where
   pub first : r.first ≡ block_of (period_of q.period).0
   pub last : r.last ≡ block_of (period_of q.period).1
 

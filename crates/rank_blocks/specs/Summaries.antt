@@ -5,7 +5,7 @@ use Rattle.std.specs.List.Sorted.{IsStrictlySortedBy}
 use Rattle.std.specs.Ordering.{int_cmp}
 use Rattle.ghcn_fields.specs.Meaning.Days.{first_day}
 use Rattle.ghcn_fields.specs.Days.{block_of}
-use Rattle.ghcn_series.specs.Meaning.Series.{DayValue, Usable}
+use Rattle.ghcn_series.specs.Meaning.Series.{DayValue, Series}
 use Rattle.ghcn_series.specs.Series.{IsSeries}
 use Rattle.rank_query.specs.declared.score.Score.{Score}
 use Rattle.rank_query.specs.declared.score.Score.TheVariants.{Highest, Lowest, Sum, Dry, Wet, Hot, Cold}
@@ -41,13 +41,13 @@ IsSummary (Hot t) days m = HasDays (spells.Hot t) days m
 IsSummary (Cold t) days m = HasDays (spells.Cold t) days m
 
 -- each block that holds a usable day has one summary, of which this is true, by block number
-pub record AreOfBlocks (P : Summary → Type 0) (s : Usable) (ms : List Summary) : Type 0 where
+pub record AreOfBlocks (P : Summary → Type 0) (s : Series) (ms : List Summary) : Type 0 where
   pub each : AllByRecursion P ms
   pub all : AllByRecursion (λ x. Contains (map (λ m. m.number) ms) (block_of x.0)) s.days
   pub by_number : IsStrictlySortedBy int_cmp (map (λ m. m.number) ms)
 
 -- these are the summaries of the blocks that hold a usable day, by what a score asks
-abbrev pub AreSummaries : Score → Usable → List Summary → Type 0
+abbrev pub AreSummaries : Score → Series → List Summary → Type 0
 AreSummaries score s ms = AreOfBlocks (IsSummary score s.days) s ms
 
 -- what is true of each summary, whatever its series
@@ -63,7 +63,7 @@ pub record ArePossible (ms : List Summary) : Type 0 where
   pub by_number : IsStrictlySortedBy int_cmp (map (λ m. m.number) ms)
 
 -- these are the summaries of the blocks of a series before one
-pub record AreSummariesTo (score : Score) (s : Usable) (end : ℤ) (ms : List Summary) : Type 0 where
+pub record AreSummariesTo (score : Score) (s : Series) (end : ℤ) (ms : List Summary) : Type 0 where
   pub series : IsSeries s
   pub low : block_of first_day ≤ℤ end
   pub high : end ≤ℤ pos 91_654
@@ -74,7 +74,7 @@ pub record AreSummariesTo (score : Score) (s : Usable) (end : ℤ) (ms : List Su
   pub by_number : IsStrictlySortedBy int_cmp (map (λ m. m.number) ms)
 
 -- these are the summaries of the blocks before the next one to look at, or all of them
-abbrev pub AreSummariesUpTo : Score → Usable → List Summary → Option ℤ → Type 0
+abbrev pub AreSummariesUpTo : Score → Series → List Summary → Option ℤ → Type 0
 AreSummariesUpTo score s ms (Some end) = AreSummariesTo score s end ms
 AreSummariesUpTo score s ms None = AreSummaries score s ms × ArePossible ms
 

@@ -2,7 +2,7 @@
 
 ghost use Rattle.std.specs.Prelude.{◌≡◌, ◌<◌, ◌+◌, ◌-ℤ◌, unsigned_abs, Some, IfOk};
 ghost use Rattle.ghcn_fields.specs.Days.{block_of};
-ghost use Rattle.ghcn_series.specs.Meaning.Series.{Usable};
+ghost use Rattle.ghcn_series.specs.Meaning.Series.{Series};
 ghost use Rattle.rank_query.specs.Meaning.Asked.{IsAsked};
 ghost use Rattle.rank_scores.specs.Morsels.{IsAskedOf};
 ghost use Rattle.rank_blocks.specs.Greatest.{IsBound, IsSeriesBound};
@@ -51,7 +51,7 @@ impl Blocks {
 
     /// The bound of the series under a query that asks about it, in the unit of the score.
     pub fn bound(&self, query: &Query) -> i64
-        ensures { (s : Usable) → AreSummaries query.now.score s self.now → IsAskedOf query.now s →
+        ensures { (s : Series) → AreSummaries query.now.score s self.now → IsAskedOf query.now s →
             IsSeriesBound query.now s result }
     {
         bound_of(self.summaries.as_slice(), query)
@@ -62,7 +62,7 @@ impl Blocks {
 fn bound_of(blocks: &[Summary], query: &Query) -> i64
     requires { ArePossible blocks.now }
     ensures asked { IsAsked query.now }
-    ensures bound { (s : Usable) → AreSummaries query.now.score s blocks.now → IsAskedOf query.now s →
+    ensures bound { (s : Series) → AreSummaries query.now.score s blocks.now → IsAskedOf query.now s →
         IsBound query.now s result }
 {
     let range = BlockRange::of(query);

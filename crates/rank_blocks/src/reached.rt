@@ -5,7 +5,7 @@ ghost use Rattle.std.specs.Prelude.{ℤ, pos, ◌≤ℤ◌, ◌*ℤ◌};
 ghost use Rattle.std.specs.Int.{int_min};
 ghost use Rattle.std.specs.List.{AllByRecursion};
 ghost use Rattle.ghcn_fields.specs.Sorting.{greatest};
-ghost use Rattle.ghcn_series.specs.Meaning.Series.{Usable};
+ghost use Rattle.ghcn_series.specs.Meaning.Series.{Series};
 ghost use Rattle.rank_blocks.specs.Bounds.{blocks_of_window};
 ghost use Rattle.rank_blocks.specs.Greatest.{IsGreatest, IsRunLength};
 ghost use Rattle.rank_blocks.specs.Reached as told;
@@ -97,7 +97,7 @@ fn window_total(blocks: &[Summary], window: Window) -> i64
 /// How many days that count for the spell follow one another at most in the blocks of a range.
 pub(crate) fn longest_run(blocks: &[Summary], range: BlockRange) -> i64
     requires { ArePossible blocks.now }
-    ensures { (spell : Spell) (s : Usable) → AreOfBlocks (HasDays spell s.days) s blocks.now →
+    ensures { (spell : Spell) (s : Series) → AreOfBlocks (HasDays spell s.days) s blocks.now →
         IsGreatest (IsRunLength (told.counts spell (told.days_in_range range s.days))) result }
 {
     let mut runs = Runs::before(range);

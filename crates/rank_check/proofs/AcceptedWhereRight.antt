@@ -6,9 +6,9 @@ use Rattle.std.specs.Prelude.{◌==◌}
 use Rattle.std.specs.List.{flat_map, enumerate_from, AllByRecursion, AllZip}
 use Rattle.std.proofs.lemmas.Bool.{leb-true}
 use Rattle.std.proofs.lemmas.Slice.Zip.{AllZip-long}
-use Rattle.ghcn_series.specs.Series.{Contents}
+use Rattle.ghcn_series.specs.Series.{Data}
 use Rattle.ghcn_series.specs.Held.{IsContents}
-use Rattle.rank_query.specs.Meaning.Asked.{Asked, IsAsked}
+use Rattle.rank_query.specs.Meaning.Asked.{Query, IsAsked}
 use Rattle.rank_scores.specs.QueryCandidates.{CandidatesAreApart}
 use Rattle.rank_scores.specs.declared.candidate.Candidate.{Candidate}
 use Rattle.rank_scores.specs.Morsels.{morsels, best_of_query, kth_of_query}
@@ -31,7 +31,7 @@ use Rattle.rank_check.proofs.RightRows.{rows_best, rows_named, best_pass}
 use Rattle.rank_check.proofs.RightLines.{AreCounted, are_counted, lines_right, counts_are}
 use Rattle.rank_check.proofs.RightLines.{right_pass}
 
-module _ (q : Asked) (c : Contents) (asked : IsAsked q) (right : IsContents c) (certificates : CertificatesAreRead)
+module _ (q : Query) (c : Data) (asked : IsAsked q) (right : IsContents c) (certificates : CertificatesAreRead)
     (apart : CandidatesAreApart) where
   -- the tests of the rows of a report
   abbrev tests_of_rows : Reported → List Test
@@ -50,7 +50,7 @@ module _ (q : Asked) (c : Contents) (asked : IsAsked q) (right : IsContents c) (
       let parts = each-parts Passes (tests_of_rows r) _ h.1 in
       let same : r.query ≡ q = one_query certificates r.query q is.can_be.asked asked h.0 in
       let few : length r.rows ≤ q.k =
-      subst (λ (a : Asked). length r.rows ≤ a.k) same (leb-true (length r.rows) r.query.k is.can_be.few) in
+      subst (λ (a : Query). length r.rows ≤ a.k) same (leb-true (length r.rows) r.query.k is.can_be.few) in
       record {
         asked = same;
         best = rows_best q c (apart q c right) r.rows few parts.0 parts.1.0;

@@ -6,10 +6,10 @@ use Rattle.jiff_core.specs.Calendar.{days_from_civil, day_count, days_of_years, 
 use Rattle.ghcn_fields.specs.Meaning.Dates.{year_and_rest, month_and_day}
 use Rattle.ghcn_files.specs.declared.element.Element.TheVariants.{Tmax}
 use Rattle.ghcn_files.specs.StationLines.{station_of}
-use Rattle.ghcn_series.specs.Meaning.Series.{DayValue, Usable}
-use Rattle.ghcn_series.specs.Series.{Contents}
+use Rattle.ghcn_series.specs.Meaning.Series.{DayValue, Series}
+use Rattle.ghcn_series.specs.Series.{Data}
 use Rattle.rank_query.specs.declared.score.Score.TheVariants.{Highest}
-use Rattle.rank_query.specs.Meaning.Asked.{Asked}
+use Rattle.rank_query.specs.Meaning.Asked.{Query}
 use Rattle.rank_query.specs.Asked.{top}
 use Rattle.rank_query.specs.Words.{says}
 use Rattle.rank_query.specs.Readers.{keyword}
@@ -26,11 +26,11 @@ use Rattle.rank_check.specs.declared.verdict.Verdict.TheVariants.{Accepted, Refu
 use Rattle.rank_check.specs.Tests.{verdict}
 
 -- a series of daily maxima
-abbrev pub warm : List ℕ → List DayValue → Usable
+abbrev pub warm : List ℕ → List DayValue → Series
 warm id days = record { id = record { 0 = id }; element = Tmax; days = days }
 
 -- three stations: two with the same greatest value, of which the first has one more day, and one below them
-abbrev dataset : Contents
+abbrev dataset : Data
 dataset = record {
   stations = station_of (codes "ZZA00000001  10.0000   20.0000  100.0    ALPHA")
       ∷ station_of (codes "ZZA00000002  11.0000   21.0000  100.0    BRAVO")
@@ -44,7 +44,7 @@ dataset = record {
 }
 
 -- the k highest of all
-abbrev pub ask : ℕ → Asked
+abbrev pub ask : ℕ → Query
 ask k = top k (Highest Tmax)
 
 -- lines, each with a line feed

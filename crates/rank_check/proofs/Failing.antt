@@ -23,9 +23,9 @@ use Rattle.rank_check.specs.Tests.{refusal}
 use Rattle.ghcn_files.specs.Meaning.Ids.{same_id}
 use Rattle.ghcn_files.proofs.IdLaws.{same_id-turned}
 use Rattle.rank_scores.specs.Morsels.{morsels}
-use Rattle.ghcn_series.specs.Meaning.Series.{Usable}
-use Rattle.ghcn_series.specs.Series.{Contents}
-use Rattle.rank_query.specs.Meaning.Asked.{Asked}
+use Rattle.ghcn_series.specs.Meaning.Series.{Series}
+use Rattle.ghcn_series.specs.Series.{Data}
+use Rattle.rank_query.specs.Meaning.Asked.{Query}
 use Rattle.rank_scores.specs.Candidates.{candidates}
 use Rattle.rank_scores.specs.Order.{bound_is_below}
 use Rattle.rank_papers.specs.Certificate.{Line, count_of}
@@ -140,8 +140,8 @@ watched_at cs rows found i m e lt is =
 -- ---- the tests of a line
 
 -- the error of a line is that of the line at its place
-pub fault-placed : (q : Asked) (kth : Option ℤ) (rows : List Candidate) (counts : List ℕ) (lines : List Line) (i : ℕ)
-    (line : Line) (count : Option ℕ) (s : Option Usable) (o : Option Refusal)
+pub fault-placed : (q : Query) (kth : Option ℤ) (rows : List Candidate) (counts : List ℕ) (lines : List Line) (i : ℕ)
+    (line : Line) (count : Option ℕ) (s : Option Series) (o : Option Refusal)
     → o ≡ first_failing (line_tests q kth rows (i + 4) line count s) → count ≡ slice_get counts i
     → slice_get lines i ≡ Some line
     → option_map (λ l. first_failing (line_tests q kth rows (i + 4) l (slice_get counts i) s)) (slice_get lines i) ≡
@@ -210,8 +210,8 @@ abbrev pub is_low : ℤ → Option ℤ → Bool
 is_low bound highest = option_map_or (λ score. int_le score bound) highest true
 
 -- the tests of a line by what was found of its morsel
-line_tests-top : (q : Asked) (kth : Option ℤ) (rows : List Candidate) (number : ℕ) (e : Line) (count : Option ℕ)
-    (t : Top) (s : Option Usable) → Some t ≡ option_map (top q) s
+line_tests-top : (q : Query) (kth : Option ℤ) (rows : List Candidate) (number : ℕ) (e : Line) (count : Option ℕ)
+    (t : Top) (s : Option Series) → Some t ≡ option_map (top q) s
     → first_failing (line_tests q kth rows number e count s)
     ≡ fault_by number (same_id e.id t.id) (is_low e.bound t.highest) (not e.skipped || bound_is_below kth e.bound)
     (is_counted rows e count)
@@ -223,8 +223,8 @@ line_tests-top q kth rows number e count t (Some u) f =
     ∙ ap (λ (x : Top). fault_by number (same_id e.id x.id) (is_low e.bound x.highest)
     (not e.skipped || bound_is_below kth e.bound) (is_counted rows e count)) same
 
-module _ (q : Asked) (kth : Option ℤ) (rows : List Candidate) (number : ℕ) (e : Line) (count : Option ℕ) (t : Top)
-    (s : Option Usable) (made : Some t ≡ option_map (top q) s) (named : same_id t.id e.id ≡ true) where
+module _ (q : Query) (kth : Option ℤ) (rows : List Candidate) (number : ℕ) (e : Line) (count : Option ℕ) (t : Top)
+    (s : Option Series) (made : Some t ≡ option_map (top q) s) (named : same_id t.id e.id ≡ true) where
   -- the error by three tests, once the ID is right
   by_three : (above below counted : Bool) → is_low e.bound t.highest ≡ above
       → (not e.skipped || bound_is_below kth e.bound) ≡ below → is_counted rows e count ≡ counted
@@ -256,12 +256,12 @@ module _ (q : Asked) (kth : Option ℤ) (rows : List Candidate) (number : ℕ) (
   none_fails_there f g h = sym (by_three true true true f g h)
 
 -- the error of a line by its number and its place
-abbrev fault_at : Asked → Contents → Option ℤ → List Candidate → List ℕ → Line → ℕ → ℕ → Option Refusal
+abbrev fault_at : Query → Data → Option ℤ → List Candidate → List ℕ → Line → ℕ → ℕ → Option Refusal
 fault_at q c kth rows counts e number place =
     first_failing (line_tests q kth rows number e (slice_get counts place) (slice_get (morsels q c) place))
 
 -- what is said of the line at a place
-pub line_there : (q : Asked) (c : Contents) (kth : Option ℤ) (rows : List Candidate) (counts : List ℕ)
+pub line_there : (q : Query) (c : Data) (kth : Option ℤ) (rows : List Candidate) (counts : List ℕ)
     (es : List Line) (i : ℕ) (o : Option Refusal)
     → option_map (λ e. first_failing (line_tests q kth rows (i + 4) e (slice_get counts i) (slice_get (morsels q c) i)))
     (slice_get es i) ≡ Some o

@@ -8,11 +8,11 @@ use Rattle.ghcn_fields.specs.Faults.{first_failing}
 use Rattle.ghcn_files.specs.declared.element.Element.TheVariants.{Tmax}
 use Rattle.ghcn_files.specs.declared.station.Station.{Station}
 use Rattle.ghcn_files.specs.StationLines.{station_of}
-use Rattle.ghcn_series.specs.Meaning.Series.{DayValue, Usable}
-use Rattle.ghcn_series.specs.Series.{Contents}
+use Rattle.ghcn_series.specs.Meaning.Series.{DayValue, Series}
+use Rattle.ghcn_series.specs.Series.{Data}
 use Rattle.rank_query.specs.declared.per.Per.TheVariants.{Station as ByStation}
 use Rattle.rank_query.specs.declared.score.Score.TheVariants.{Highest}
-use Rattle.rank_query.specs.Meaning.Asked.{Asked}
+use Rattle.rank_query.specs.Meaning.Asked.{Query}
 use Rattle.rank_query.specs.Asked.{top}
 use Rattle.rank_query.specs.Words.{says}
 use Rattle.rank_query.specs.Readers.{keyword}
@@ -29,7 +29,7 @@ use Rattle.rank_check.specs.Tests.{verdict}
 use Rattle.rank_check.specs.Pieces.{is_morsel, piece_tests}
 
 -- the two hottest days, of each station the best alone
-abbrev hottest : Asked
+abbrev hottest : Query
 hottest = record (top 2 (Highest Tmax)) { per = ByStation }
 
 -- the stations
@@ -43,21 +43,21 @@ abbrev at_charlie : Station
 at_charlie = station_of (codes "ZZA00000003  12.0000   22.0000  100.0    CHARLIE")
 
 -- a series of daily maxima
-abbrev warm : Station → List DayValue → Usable
+abbrev warm : Station → List DayValue → Series
 warm st days = record { id = st.id; element = Tmax; days = days }
 
 -- the heat of the first on 2019-07-02, 2020-07-01 and 2021-01-01, of the second on 2020-07-01 and the day after, and of
 -- the third on 2020-07-01
-abbrev of_alpha : Usable
+abbrev of_alpha : Series
 of_alpha = warm at_alpha ((pos 18079, pos 311) ∷ (pos 18444, pos 311) ∷ (pos 18628, pos 70) ∷ [])
 
-abbrev of_bravo : Usable
+abbrev of_bravo : Series
 of_bravo = warm at_bravo ((pos 18444, pos 320) ∷ (pos 18445, pos 318) ∷ [])
 
-abbrev of_charlie : Usable
+abbrev of_charlie : Series
 of_charlie = warm at_charlie ((pos 18444, pos 250) ∷ [])
 
-abbrev dataset : Contents
+abbrev dataset : Data
 dataset = record {
   stations = at_alpha ∷ at_bravo ∷ at_charlie ∷ [];
   series = of_alpha ∷ of_bravo ∷ of_charlie ∷ [];

@@ -9,9 +9,9 @@ use Rattle.std.proofs.lemmas.Bool.{leb-true, leb-false, le-leb, lt-leb, and_part
 use Rattle.std.proofs.lemmas.List.{length-map}
 use Rattle.ghcn_fields.specs.Faults.{first_failing}
 use Rattle.ghcn_files.specs.declared.station.Station.{Station}
-use Rattle.ghcn_series.specs.Series.{Contents}
+use Rattle.ghcn_series.specs.Series.{Data}
 use Rattle.ghcn_series.specs.Says.{in_64_bits}
-use Rattle.rank_query.specs.Meaning.Asked.{Asked}
+use Rattle.rank_query.specs.Meaning.Asked.{Query}
 use Rattle.rank_scores.specs.declared.candidate.Candidate.{Candidate}
 use Rattle.rank_scores.specs.Morsels.{all_candidates, morsels, kth_of_query}
 use Rattle.rank_papers.specs.declared.paper.Report.{Report as ReadReport}
@@ -56,7 +56,7 @@ few_rows r can =
 
 -- ---- a report, whose rows are lent
 
-module _ (q : Asked) (c : Contents) (own rows : List Row) (lent : rows ≡ own) (found : Findings)
+module _ (q : Query) (c : Data) (own rows : List Row) (lent : rows ≡ own) (found : Findings)
     (are : AreFindings q c (candidates_of own) found) where
   -- what the number of rows comes to
   pub number_decided : (few : Option Refusal) → length own ≤ 1000
@@ -76,7 +76,7 @@ module _ (q : Asked) (c : Contents) (own rows : List Row) (lent : rows ≡ own) 
       subst (λ (rs : List Row). IsFaultOfRows stations rs found fault) lent is q c listed are
 
 -- the error of the rows, or otherwise of their number, is that of the report
-pub report_decided : (q : Asked) (c : Contents) (r : Reported) (fault few : Option Refusal)
+pub report_decided : (q : Query) (c : Data) (r : Reported) (fault few : Option Refusal)
     → same_query r.query q ≡ true → fault ≡ first_failing (tests_of_rows q c r.rows)
     → few ≡ first_failing (number_test q.k (length (all_candidates q c)) (length r.rows) ∷ [])
     → option_or fault few ≡ first_failing (report_tests q c r)
@@ -96,7 +96,7 @@ not_denied true e = refl
 not_denied false e = absurd cc
 
 -- the error of the lines, or otherwise of their number, is that of the certificate
-pub certificate_decided : (q : Asked) (c : Contents) (rows : List Candidate) (z : Certified)
+pub certificate_decided : (q : Query) (c : Data) (rows : List Candidate) (z : Certified)
     (fault few : Option Refusal)
     → same_query z.query q ≡ true → option_eq int_eq z.kth (kth_of_query q c) ≡ true
     → fault ≡ first_failing (tests_of_lines q c z.kth rows z.counts z.entries)

@@ -5,8 +5,8 @@ use Rattle.std.specs.Prelude.{slice_get, nat_le}
 use Rattle.std.specs.Option.{option_map}
 use Rattle.std.proofs.lemmas.Bool.{leb-true, and_parts}
 use Rattle.ghcn_fields.specs.Faults.{first_failing}
-use Rattle.ghcn_series.specs.Series.{Contents}
-use Rattle.rank_query.specs.Meaning.Asked.{Asked, IsAsked}
+use Rattle.ghcn_series.specs.Series.{Data}
+use Rattle.rank_query.specs.Meaning.Asked.{Query, IsAsked}
 use Rattle.rank_scores.specs.declared.candidate.Candidate.{Candidate}
 use Rattle.rank_scores.specs.Order.{AreApart, best, kth_score}
 use Rattle.rank_scores.specs.Morsels.{all_candidates, kth_of_query}
@@ -42,7 +42,7 @@ kth-best (suc n) all apart some =
     (sym (of_rank-is all (in_order all) (ordered-permutation all) (ordered-descends all apart) n))
 
 -- so it is with the rows of a report none of whose tests fails
-pub kth_known : CertificatesAreRead → (q : Asked) (c : Contents) → IsAsked q → AreApart (all_candidates q c)
+pub kth_known : CertificatesAreRead → (q : Query) (c : Data) → IsAsked q → AreApart (all_candidates q c)
     → (r : Reported) → IsReported r → first_failing (report_tests q c r) ≡ None
     → kth_of_best q.k (map (λ row. row.0) r.rows) ≡ kth_of_query q c
 kth_known certificates q c asked apart r can none =
@@ -50,7 +50,7 @@ kth_known certificates q c asked apart r can none =
     let parts = each-parts Passes (tests_of_rows q c r.rows) _ pass.1 in
     let same : r.query ≡ q = one_query certificates r.query q can.asked asked pass.0 in
     let few : length r.rows ≤ q.k =
-    subst (λ (a : Asked). length r.rows ≤ a.k) same (leb-true (length r.rows) r.query.k can.few) in
+    subst (λ (a : Query). length r.rows ≤ a.k) same (leb-true (length r.rows) r.query.k can.few) in
     let some : 1 ≤ q.k = leb-true 1 q.k (and_parts (nat_le 1 q.k) (nat_le q.k 1000) asked.k).0 in
     ap (λ (l : List Candidate). kth_of_best q.k l) (rows_best q c apart r.rows few parts.0 parts.1.0)
     ∙ kth-best q.k (all_candidates q c) apart some

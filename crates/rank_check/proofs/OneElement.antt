@@ -5,8 +5,8 @@ use Rattle.std.specs.Option.{option_eq}
 use Rattle.std.specs.Ordering.{int_eq}
 use Rattle.std.proofs.Math.Path.{fun_ext}
 use Rattle.ghcn_fields.specs.Faults.{first_failing}
-use Rattle.ghcn_series.specs.Series.{Contents}
-use Rattle.rank_query.specs.Meaning.Asked.{Asked}
+use Rattle.ghcn_series.specs.Series.{Data}
+use Rattle.rank_query.specs.Meaning.Asked.{Query}
 use Rattle.rank_scores.specs.declared.candidate.Candidate.{Candidate}
 use Rattle.rank_scores.specs.Morsels.{all_candidates, morsels, kth_of_query}
 use Rattle.rank_scores.specs.OneElement.{data_for, CandidatesStay, MorselsStay, KthStays}
@@ -21,7 +21,7 @@ use Rattle.rank_check.specs.Tests.{row_tests, report_tests, entry_tests}
 use Rattle.rank_check.specs.Tests.{number_test, length_test, certificate_tests, refused, verdict_of}
 use Rattle.rank_check.specs.Laws.{VerdictStays}
 
-module _ (candidates : CandidatesStay) (series : MorselsStay) (score : KthStays) (q : Asked) (c : Contents) where
+module _ (candidates : CandidatesStay) (series : MorselsStay) (score : KthStays) (q : Query) (c : Data) where
   -- the tests of a report are the same
   reports_tested : (r : Reported) → report_tests q (data_for q c) r ≡ report_tests q c r
   reports_tested r =

@@ -6,8 +6,8 @@ use Rattle.jiff_core.specs.Calendar.{days_from_civil, day_count, days_of_years, 
 use Rattle.ghcn_fields.specs.Meaning.Dates.{year_and_rest, month_and_day}
 use Rattle.ghcn_files.specs.declared.element.Element.TheVariants.{Tmin}
 use Rattle.ghcn_files.specs.StationLines.{station_of}
-use Rattle.ghcn_series.specs.Meaning.Series.{DayValue, Usable}
-use Rattle.ghcn_series.specs.Series.{Contents}
+use Rattle.ghcn_series.specs.Meaning.Series.{DayValue, Series}
+use Rattle.ghcn_series.specs.Series.{Data}
 use Rattle.rank_query.specs.declared.score.Score.TheVariants.{Cold}
 use Rattle.rank_query.specs.Asked.{top}
 use Rattle.rank_query.specs.Words.{says}
@@ -42,13 +42,13 @@ abbrev at_charlie : Station
 at_charlie = station_of (codes "ZZA00000003  12.0000   22.0000  100.0    CHARLIE")
 
 -- their series
-abbrev of_alpha : Usable
+abbrev of_alpha : Series
 of_alpha = warm (codes "ZZA00000001") ((pos 18444, pos 311) ∷ (pos 18445, pos 305) ∷ [])
 
-abbrev of_bravo : Usable
+abbrev of_bravo : Series
 of_bravo = warm (codes "ZZA00000002") ((pos 18444, pos 311) ∷ [])
 
-abbrev of_charlie : Usable
+abbrev of_charlie : Series
 of_charlie = warm (codes "ZZA00000003") ((pos 18444, pos 250) ∷ [])
 
 -- the worst row, which is the only one
@@ -64,7 +64,7 @@ abbrev line : Bool → Station → ℤ → Line
 line skipped st bound = record { id = st.id; bound = bound; skipped = skipped }
 
 -- the judgement of a line by itself, of the highest one
-abbrev alone : Station → Usable → Line → ℕ → List Named → Option Why
+abbrev alone : Station → Series → Line → ℕ → List Named → Option Why
 alone st u e printed rows = first_failing (piece_tests (ask 1) st (Some u) e printed rows (Some worst))
 
 -- right lines; a row left out, without its count and with it; a bound that is too low; a skip at the k-th score
@@ -105,11 +105,11 @@ alone_in_turn = (refl, refl, refl, refl, refl)
 -- ---- cold spells
 
 -- a series of daily minima
-abbrev frost : List ℕ → List DayValue → Usable
+abbrev frost : List ℕ → List DayValue → Series
 frost id days = record { id = record { 0 = id }; element = Tmin; days = days }
 
 -- two stations: of one the third day isn't as cold as -10 degrees, and of the other two days are, from a leap day on
-abbrev frosts : Contents
+abbrev frosts : Data
 frosts = record {
   stations = station_of (codes "ZZA00000001  10.0000   20.0000  100.0    ALPHA")
       ∷ station_of (codes "ZZA00000002  11.0000   21.0000  100.0    BRAVO")

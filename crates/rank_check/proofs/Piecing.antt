@@ -12,9 +12,9 @@ use Rattle.ghcn_files.specs.declared.station.StationId.{StationId}
 use Rattle.ghcn_files.specs.Meaning.Ids.{same_id}
 use Rattle.ghcn_files.proofs.IdLaws.{same_id-is, same_id-laws}
 use Rattle.ghcn_files.proofs.Among.{each-weaker}
-use Rattle.ghcn_series.specs.Meaning.Series.{Usable}
+use Rattle.ghcn_series.specs.Meaning.Series.{Series}
 use Rattle.ghcn_series.proofs.Members.{contains-in, in-contains, of_each, itself}
-use Rattle.rank_query.specs.Meaning.Asked.{Asked}
+use Rattle.rank_query.specs.Meaning.Asked.{Query}
 use Rattle.rank_query.specs.Admits.{admits_station}
 use Rattle.rank_scores.specs.declared.candidate.Candidate.{Candidate}
 use Rattle.rank_scores.specs.Candidates.{candidates}
@@ -43,7 +43,7 @@ piece_by own counted candidates rest =
     cond own (cond counted (cond candidates rest (Some NotACandidate)) (Some NotCounted)) (Some OtherSeries)
 
 -- what these come to
-pub piece-by : (q : Asked) (st : Station) (u : Usable) (e : Line) (printed : ℕ) (rows : List Named)
+pub piece-by : (q : Query) (st : Station) (u : Series) (e : Line) (printed : ℕ) (rows : List Named)
     (worst : Option Candidate) (own counted candidates : Bool)
     → (same_id st.id e.id && is_morsel q st (Some u)) ≡ own → (printed == length rows) ≡ counted
     → list_all (is_row_of q st u) rows ≡ candidates
@@ -57,7 +57,7 @@ abbrev last_by : Bool → Bool → Bool → Option Why
 last_by all above low = cond all (cond above (cond low None (Some NotBelow)) (Some NoBound)) (Some NotBest)
 
 -- what these come to
-pub last-by : (q : Asked) (u : Usable) (e : Line) (rows : List Candidate) (worst : Option Candidate)
+pub last-by : (q : Query) (u : Series) (e : Line) (rows : List Candidate) (worst : Option Candidate)
     (all above low : Bool) → has_all q worst rows u ≡ all → is_low e.bound (top_score (candidates q u)) ≡ above
     → (not e.skipped || bound_is_below (score_of worst) e.bound) ≡ low
     → first_failing (last_tests q u e rows worst) ≡ last_by all above low
@@ -88,7 +88,7 @@ all_passes test (x ∷ xs) h = ap (λ (b : Bool). b && list_all test xs) h.0 ∙
 
 -- ---- rows
 
-module _ (q : Asked) (st : Station) (u : Usable) where
+module _ (q : Query) (st : Station) (u : Series) where
   -- the candidates of rows that pass are the series'
   rows_among : (rows : List Named) → AllByRecursion (λ row. is_row_of q st u row ≡ true) rows
       → AllByRecursion (λ c. is_one_of (candidates q u) c ≡ true) (of_rows rows)
@@ -129,10 +129,10 @@ or_made false p f = refl
 
 -- ---- both directions
 
-module _ (q : Asked) (st : Station) (e : Line) (printed : ℕ) (rows : List Named) (worst : Option Candidate)
+module _ (q : Query) (st : Station) (e : Line) (printed : ℕ) (rows : List Named) (worst : Option Candidate)
     (within : AreRowsWithin worst (of_rows rows)) where
   -- a line whose tests pass is right
-  right_from : (s : Option Usable) → AllByRecursion (λ t. t.0 ≡ true) (piece_tests q st s e printed rows worst)
+  right_from : (s : Option Series) → AllByRecursion (λ t. t.0 ≡ true) (piece_tests q st s e printed rows worst)
       → IsRightPiece q st s e printed rows worst
   right_from None h =
       let own = (and_parts (same_id st.id e.id) (is_morsel q st None) h.0).1 in
@@ -165,10 +165,10 @@ module _ (q : Asked) (st : Station) (e : Line) (printed : ℕ) (rows : List Name
       }
 
   -- the tests of a right line pass
-  passes_where : (s : Option Usable) → IsRightPiece q st s e printed rows worst
+  passes_where : (s : Option Series) → IsRightPiece q st s e printed rows worst
       → AllByRecursion (λ t. t.0 ≡ true) (piece_tests q st s e printed rows worst)
   passes_where s h =
-      let u : Usable = h.series in
+      let u : Series = h.series in
       let morsel : is_morsel q st (Some h.series) ≡ true =
       ap (is_morsel q st) (sym h.there) ∙ h.morsel in
       let own : same_id st.id e.id ≡ true = ap (λ (i : StationId). same_id st.id i) (sym h.named)
@@ -182,7 +182,7 @@ module _ (q : Asked) (st : Station) (e : Line) (printed : ℕ) (rows : List Name
       (λ c. (not (is_within_worst worst c) || is_one_of (of_rows rows) c) ≡ true) (candidates q h.series)
       (λ c k. or_made (is_within_worst worst c) (is_one_of (of_rows rows) c)
       (λ w. held_among (of_rows rows) c ((h.rows_are c).1 (k, w)))) (itself (candidates q h.series)) in
-      subst (λ (o : Option Usable). AllByRecursion (λ t. t.0 ≡ true) (piece_tests q st o e printed rows worst))
+      subst (λ (o : Option Series). AllByRecursion (λ t. t.0 ≡ true) (piece_tests q st o e printed rows worst))
       (sym h.there) (
         ap (λ (b : Bool). b && is_morsel q st (Some h.series)) own ∙ morsel,
         (
@@ -201,7 +201,7 @@ module _ (q : Asked) (st : Station) (e : Line) (printed : ℕ) (rows : List Name
       )
 
 -- no test of a line fails if and only if it is right
-pub right_piece : (q : Asked) (st : Station) (s : Option Usable) (e : Line) (printed : ℕ) (rows : List Named)
+pub right_piece : (q : Query) (st : Station) (s : Option Series) (e : Line) (printed : ℕ) (rows : List Named)
     (worst : Option Candidate) → AreRowsWithin worst (of_rows rows)
     → (first_failing (piece_tests q st s e printed rows worst) ≡ None) ↔ IsRightPiece q st s e printed rows worst
 right_piece q st s e printed rows worst within = (

@@ -11,9 +11,9 @@ use Rattle.std.proofs.lemmas.Int.{ints}
 use Rattle.ghcn_files.specs.declared.station.StationId.{StationId}
 use Rattle.ghcn_files.specs.Meaning.Ids.{same_id}
 use Rattle.ghcn_files.proofs.IdLaws.{same_id-is, same_id-laws}
-use Rattle.ghcn_series.specs.Meaning.Series.{Usable}
-use Rattle.ghcn_series.specs.Series.{Contents}
-use Rattle.rank_query.specs.Meaning.Asked.{Asked}
+use Rattle.ghcn_series.specs.Meaning.Series.{Series}
+use Rattle.ghcn_series.specs.Series.{Data}
+use Rattle.rank_query.specs.Meaning.Asked.{Query}
 use Rattle.rank_scores.specs.declared.candidate.Candidate.{Candidate}
 use Rattle.rank_scores.specs.Candidates.{candidates}
 use Rattle.rank_scores.specs.Order.{bound_is_below}
@@ -83,7 +83,7 @@ pub are_counted : (rows : List Candidate) (es : List Line) → AreCounted rows (
 are_counted rows [] = tt
 are_counted rows (e ∷ es) = (refl, are_counted rows es)
 
-module _ (q : Asked) (c : Contents) (kth : Option ℤ) (rows : List Candidate) (counts : List ℕ) where
+module _ (q : Query) (c : Data) (kth : Option ℤ) (rows : List Candidate) (counts : List ℕ) where
   -- the places of the rest
   places_behind : {X : Type 0} (n : ℕ) (x : X) (xs all : List X)
       → ((j : ℕ) → slice_get all (n + j) ≡ slice_get (x ∷ xs) j)
@@ -92,12 +92,12 @@ module _ (q : Asked) (c : Contents) (kth : Option ℤ) (rows : List Candidate) (
       ap (slice_get all) next ∙ there (suc j)
 
   -- the morsel of the line after that many
-  morsel_here : (n : ℕ) (ss : List Usable) → ((j : ℕ) → slice_get (morsels q c) (n + j) ≡ slice_get ss j)
+  morsel_here : (n : ℕ) (ss : List Series) → ((j : ℕ) → slice_get (morsels q c) (n + j) ≡ slice_get ss j)
       → slice_get (morsels q c) (n + 1 - 1) ≡ slice_get ss 0
   morsel_here n ss there = let same : n + 1 - 1 ≡ n + 0 = omega arith in ap (slice_get (morsels q c)) same ∙ there 0
 
   -- lines whose tests pass are right entries of the morsels from a place on
-  entries_right : (n : ℕ) (es : List Line) (ss : List Usable)
+  entries_right : (n : ℕ) (es : List Line) (ss : List Series)
       → ((j : ℕ) → slice_get (morsels q c) (n + j) ≡ slice_get ss j) → length ss ≤ length es
       → AllByRecursion IsEntry es
       → AllByRecursion Passes (flat_map (entry_tests q c kth rows counts) (enumerate_from (n + 1) es))
@@ -106,15 +106,15 @@ module _ (q : Asked) (c : Contents) (kth : Option ℤ) (rows : List Candidate) (
   entries_right n [] (s ∷ ss) there few can h = absurd (omega arith)
   entries_right n (e ∷ es) [] there few can h =
       let none : option_map_or (λ s. same_id e.id s.id) (slice_get (morsels q c) (n + 1 - 1)) false ≡ false =
-      ap (λ (o : Option Usable). option_map_or (λ s. same_id e.id s.id) o false) (morsel_here n [] there) in
+      ap (λ (o : Option Series). option_map_or (λ s. same_id e.id s.id) o false) (morsel_here n [] there) in
       let one : option_map_or (λ s. same_id e.id s.id) (slice_get (morsels q c) (n + 1 - 1)) false ≡ true = h.0 in
       absurd cc
   entries_right n (e ∷ es) (s ∷ ss) there few can h =
       let here : slice_get (morsels q c) (n + 1 - 1) ≡ Some s = morsel_here n (s ∷ ss) there in
       let named : same_id e.id s.id ≡ true =
-      ap (λ (o : Option Usable). option_map_or (λ t. same_id e.id t.id) o false) (sym here) ∙ h.0 in
+      ap (λ (o : Option Series). option_map_or (λ t. same_id e.id t.id) o false) (sym here) ∙ h.0 in
       let above : is_above q e.bound s ≡ true =
-      ap (λ (o : Option Usable). option_map_or (is_above q e.bound) o true) (sym here) ∙ h.1.0 in (
+      ap (λ (o : Option Series). option_map_or (is_above q e.bound) o true) (sym here) ∙ h.1.0 in (
         record {
           named = same_id-is e.id s.id named;
           above = above_from e.bound (candidates q s) above;
@@ -156,7 +156,7 @@ module _ (q : Asked) (c : Contents) (kth : Option ℤ) (rows : List Candidate) (
   none_counted n e there = ap (is_counted rows e) (count_here n [] there)
 
   -- the tests of one right entry, before those of the others
-  entry_pass : (n : ℕ) (e : Line) (s : Usable) (ss : List Usable) (es : List Line)
+  entry_pass : (n : ℕ) (e : Line) (s : Series) (ss : List Series) (es : List Line)
       → ((j : ℕ) → slice_get (morsels q c) (n + j) ≡ slice_get (s ∷ ss) j) → IsRightEntry q kth e s
       → is_counted rows e (slice_get counts (n + 1 - 1)) ≡ true
       → AllByRecursion Passes (flat_map (entry_tests q c kth rows counts) (enumerate_from (n + 1 + 1) es))
@@ -165,16 +165,16 @@ module _ (q : Asked) (c : Contents) (kth : Option ℤ) (rows : List Candidate) (
       let here : slice_get (morsels q c) (n + 1 - 1) ≡ Some s = morsel_here n (s ∷ ss) there in
       let own : same_id e.id s.id ≡ true =
       ap (λ (i : StationId). same_id i s.id) h.named ∙ same_id-laws.refl s.id in (
-        ap (λ (o : Option Usable). option_map_or (λ t. same_id e.id t.id) o false) here ∙ own,
+        ap (λ (o : Option Series). option_map_or (λ t. same_id e.id t.id) o false) here ∙ own,
         (
-          ap (λ (o : Option Usable). option_map_or (is_above q e.bound) o true) here
+          ap (λ (o : Option Series). option_map_or (is_above q e.bound) o true) here
               ∙ above_to e.bound (candidates q s) h.above,
           (below_to e.skipped (bound_is_below kth e.bound) h.passed_over, (counted, rest)),
         ),
       )
 
   -- the tests of right entries pass
-  entries_pass : (n : ℕ) (es : List Line) (ss : List Usable) (ns : List ℕ)
+  entries_pass : (n : ℕ) (es : List Line) (ss : List Series) (ns : List ℕ)
       → ((j : ℕ) → slice_get (morsels q c) (n + j) ≡ slice_get ss j)
       → ((j : ℕ) → slice_get counts (n + j) ≡ slice_get ns j)
       → AllZip (IsRightEntry q kth) es ss → AreCounted rows ns es
@@ -191,7 +191,7 @@ module _ (q : Asked) (c : Contents) (kth : Option ℤ) (rows : List Candidate) (
       (ap (is_counted rows e) (count_here n (x ∷ ns) here) ∙ counted_to rows e x k.0) rest
 
 -- lines whose tests pass are right entries, if none is missing
-pub lines_right : (q : Asked) (c : Contents) (kth : Option ℤ) (rows : List Candidate) (counts : List ℕ)
+pub lines_right : (q : Query) (c : Data) (kth : Option ℤ) (rows : List Candidate) (counts : List ℕ)
     (es : List Line) → AllByRecursion IsEntry es
     → AllByRecursion Passes (flat_map (entry_tests q c kth rows counts) (enumerate_from 1 es))
     → nat_le (length (morsels q c)) (length es) ≡ true → AllZip (IsRightEntry q kth) es (morsels q c)
@@ -201,7 +201,7 @@ lines_right q c kth rows counts es can h few =
     (leb-true (length (morsels q c)) (length es) few) can h
 
 -- and their counts are the numbers of rows, if there is one for each
-pub counts_are : (q : Asked) (c : Contents) (kth : Option ℤ) (rows : List Candidate) (counts : List ℕ)
+pub counts_are : (q : Query) (c : Data) (kth : Option ℤ) (rows : List Candidate) (counts : List ℕ)
     (es : List Line) → length counts ≡ length es
     → AllByRecursion Passes (flat_map (entry_tests q c kth rows counts) (enumerate_from 1 es))
     → counts ≡ map (count_of rows) es
@@ -210,7 +210,7 @@ counts_are q c kth rows counts es long h =
     (λ j. let same : 0 + j ≡ j = omega arith in ap (slice_get counts) same) long h
 
 -- and back
-pub right_pass : (q : Asked) (c : Contents) (kth : Option ℤ) (rows : List Candidate) (counts : List ℕ)
+pub right_pass : (q : Query) (c : Data) (kth : Option ℤ) (rows : List Candidate) (counts : List ℕ)
     (es : List Line) → AllZip (IsRightEntry q kth) es (morsels q c) → AreCounted rows counts es
     → AllByRecursion Passes (flat_map (entry_tests q c kth rows counts) (enumerate_from 1 es))
     × (nat_le (length (morsels q c)) (length es) ≡ true)

@@ -10,8 +10,8 @@ use Rattle.std.proofs.lemmas.List.{length-take, length-map}
 use Rattle.ghcn_fields.specs.Meaning.Bytes.{same_bytes}
 use Rattle.ghcn_files.specs.declared.station.Station.{Station}
 use Rattle.ghcn_files.specs.Meaning.Listed.{is_station_of}
-use Rattle.ghcn_series.specs.Series.{Contents}
-use Rattle.rank_query.specs.Meaning.Asked.{Asked}
+use Rattle.ghcn_series.specs.Series.{Data}
+use Rattle.rank_query.specs.Meaning.Asked.{Query}
 use Rattle.rank_scores.specs.declared.candidate.Candidate.{Candidate}
 use Rattle.rank_scores.specs.Meaning.Order.{precedes}
 use Rattle.rank_scores.specs.Order.{rank_in, AreApart}
@@ -98,7 +98,7 @@ enough-taken k n xs e =
         let above : n < k = leb-false k n f in
         le-leb (length xs) n (omega arith)
 
-module _ (q : Asked) (c : Contents) (apart : AreApart (all_candidates q c)) (rows : List Named) where
+module _ (q : Query) (c : Data) (apart : AreApart (all_candidates q c)) (rows : List Named) where
   -- all candidates
   abbrev all : List Candidate
   all = all_candidates q c

@@ -17,9 +17,9 @@ use Rattle.std.proofs.lemmas.List.Folds.{list_any-append}
 use Rattle.std.proofs.lemmas.List.Sums.{sum_by-append, sum_by-cons}
 use Rattle.std.proofs.lemmas.Grind.{flat_map-append}
 use Rattle.std.proofs.lemmas.Int.{ints}
-use Rattle.ghcn_series.specs.Meaning.Series.{Usable}
+use Rattle.ghcn_series.specs.Meaning.Series.{Series}
 use Rattle.ghcn_series.specs.Says.{in_64_bits}
-use Rattle.rank_query.specs.Meaning.Asked.{Asked}
+use Rattle.rank_query.specs.Meaning.Asked.{Query}
 use Rattle.rank_scores.specs.declared.candidate.Candidate.{Candidate}
 use Rattle.rank_scores.specs.Candidates.{candidates}
 use Rattle.rank_scores.specs.Meaning.Order.{rank_cmp, precedes}
@@ -31,7 +31,7 @@ use Rattle.ghcn_files.proofs.Ordered.{first_trans, first_either}
 use Rattle.ghcn_files.proofs.Among.{each-weaker}
 use Rattle.rank_check.specs.Marks.{known, may_reach}
 use Rattle.rank_check.proofs.Each.{each-more}
-use Rattle.rank_check.specs.Survey.{IsLast, reaches, later, top, met, met_by, raised, top_score, Tallied}
+use Rattle.rank_check.specs.Survey.{IsLast, reaches, later, top, met, met_by, raised, top_score, Tally}
 use Rattle.rank_check.specs.declared.tally.Mark.{Mark}
 use Rattle.rank_check.specs.Survey.{tally_with}
 use Rattle.rank_check.specs.Survey.{reset, IsFloor}
@@ -102,7 +102,7 @@ top-more (c ∷ cs) d = ap (λ (z : ℤ). Some z) (sym (fold-more c.score cs d))
 -- ---- a tally of rows and candidates
 
 -- a tally that was offered some candidates, the last of them since it was reset
-abbrev pub tallied : List Candidate → List Candidate → List Candidate → Tallied
+abbrev pub tallied : List Candidate → List Candidate → List Candidate → Tally
 tallied rows cs since = record {
   rows = map (met cs) rows;
   count = in_64_bits (length cs);
@@ -125,13 +125,13 @@ tallied-all rows cs since [] =
     ap (λ (l : List Candidate). tallied rows l since) (sym (append-nil cs))
     ∙ ap (λ (l : List Candidate). tallied rows (cs ++ []) l) (sym (append-nil since))
 tallied-all rows cs since (d ∷ ds) =
-    ap (λ (t : Tallied). fold tally_with t ds) (tallied-more rows cs since d)
+    ap (λ (t : Tally). fold tally_with t ds) (tallied-more rows cs since d)
     ∙ tallied-all rows (cs ++ d ∷ []) (since ++ d ∷ []) ds
     ∙ ap (λ (l : List Candidate). tallied rows l ((since ++ d ∷ []) ++ ds)) (append_assoc cs (d ∷ []) ds)
     ∙ ap (λ (l : List Candidate). tallied rows (cs ++ d ∷ ds) l) (append_assoc since (d ∷ []) ds)
 
 -- one more series was scanned
-pub scanned-more : (q : Asked) (rows : List Candidate) (ss : List Usable) (s : Usable) (t new : Tallied)
+pub scanned-more : (q : Query) (rows : List Candidate) (ss : List Series) (s : Series) (t new : Tally)
     → t.rows ≡ map (met (flat_map (candidates q) ss)) rows
     → t.count ≡ in_64_bits (length (flat_map (candidates q) ss))
     → new ≡ fold tally_with (reset t) (candidates q s)
@@ -142,12 +142,12 @@ scanned-more q rows ss s t new e f scan =
     let alone : flat_map (candidates q) (s ∷ []) ≡ candidates q s = append-nil (candidates q s) in
     let all : cs ++ candidates q s ≡ flat_map (candidates q) (ss ++ s ∷ []) =
     sym (flat_map-append (candidates q) ss (s ∷ []) ∙ ap (λ (l : List Candidate). cs ++ l) alone) in
-    scan ∙ ap (λ (x : Tallied). fold tally_with x (candidates q s)) begin
+    scan ∙ ap (λ (x : Tally). fold tally_with x (candidates q s)) begin
     ∙ tallied-all rows cs [] (candidates q s)
     ∙ ap (λ (l : List Candidate). tallied rows l (candidates q s)) all
 
 -- its ID and greatest score come after those before it
-pub top-behind : (q : Asked) (ss : List Usable) (s : Usable) (highest : Option ℤ) → highest ≡ top_score (candidates q s)
+pub top-behind : (q : Query) (ss : List Series) (s : Series) (highest : Option ℤ) → highest ≡ top_score (candidates q s)
     → map (top q) ss ++ record { id = s.id; highest = highest } ∷ [] ≡ map (top q) (ss ++ s ∷ [])
 top-behind q ss s highest e =
     ap (λ (h : Option ℤ). map (top q) ss ++ record { id = s.id; highest = h } ∷ []) e
@@ -265,7 +265,7 @@ not-raised : (highest score floor : ℤ) → floor ≤ℤ highest → score <ℤ
 not-raised highest score floor under low = grind (arith, ints)
 
 -- a tally is changed by its number alone
-below-one : (t : Tallied) (d : Candidate) (floor : ℤ) → IsFloor t floor → d.score <ℤ floor
+below-one : (t : Tally) (d : Candidate) (floor : ℤ) → IsFloor t floor → d.score <ℤ floor
     → tally_with t d ≡ record { rows = t.rows; count = in_64_bits (t.count + 1); highest = t.highest }
 below-one t d floor is low =
     let rows = below-rows d floor t.rows low is.rows in
@@ -275,7 +275,7 @@ below-one t d floor is low =
     λ i. record { rows = rows i; count = in_64_bits (t.count + 1); highest = highest i }
 
 -- so it is by those of many
-pub below-many : (t : Tallied) (ds : List Candidate) (floor : ℤ) → t.count < 2 ^ 64 → IsFloor t floor
+pub below-many : (t : Tally) (ds : List Candidate) (floor : ℤ) → t.count < 2 ^ 64 → IsFloor t floor
     → AllByRecursion (λ d. d.score <ℤ floor) ds
     → fold tally_with t ds ≡ record { rows = t.rows; count = in_64_bits (t.count + length ds); highest = t.highest }
 below-many t [] floor fits is low =
@@ -283,10 +283,10 @@ below-many t [] floor fits is low =
     λ i. record { rows = t.rows; count = same i; highest = t.highest }
 below-many t (d ∷ ds) floor fits is low =
     let one = below-one t d floor is low.0 in
-    let next : Tallied = record { rows = t.rows; count = in_64_bits (t.count + 1); highest = t.highest } in
+    let next : Tally = record { rows = t.rows; count = in_64_bits (t.count + 1); highest = t.highest } in
     let less : next.count < 2 ^ 64 = omega arith in
     let more : in_64_bits (next.count + length ds) ≡ in_64_bits (t.count + length (d ∷ ds)) = omega arith in
-    ap (λ (u : Tallied). fold tally_with u ds) one
+    ap (λ (u : Tally). fold tally_with u ds) one
     ∙ below-many next ds floor less (record {
       rows = is.rows;
       highest = is.highest;

@@ -1,8 +1,8 @@
 -- What a verdict guarantees.
 use Rattle.std.specs.Prelude.{◌≡◌, ◌↔◌, ℕ, List}
-use Rattle.ghcn_series.specs.Series.{Contents}
+use Rattle.ghcn_series.specs.Series.{Data}
 use Rattle.ghcn_series.specs.Held.{IsContents}
-use Rattle.rank_query.specs.Meaning.Asked.{Asked, IsAsked}
+use Rattle.rank_query.specs.Meaning.Asked.{Query, IsAsked}
 use Rattle.rank_scores.specs.OneElement.{data_for}
 use Rattle.rank_papers.specs.Report.{IsFoundReport}
 use Rattle.rank_papers.specs.Certificate.{IsFoundCertificate}
@@ -11,10 +11,10 @@ use Rattle.rank_check.specs.Tests.{verdict}
 
 -- a report and a certificate are accepted if and only if the report is the right one and the certificate a right one
 abbrev pub AcceptedWhereRight : Type 0
-AcceptedWhereRight = (q : Asked) (c : Contents) (report certificate : List ℕ) → IsAsked q → IsContents c →
+AcceptedWhereRight = (q : Query) (c : Data) (report certificate : List ℕ) → IsAsked q → IsContents c →
     (verdict q c report certificate ≡ Accepted) ↔ (IsFoundReport q c report × IsFoundCertificate q c certificate)
 
 -- the verdict on a report and a certificate is the same from what a query needs of the data as from all of them
 abbrev pub VerdictStays : Type 0
-VerdictStays = (q : Asked) (c : Contents) (report certificate : List ℕ) →
+VerdictStays = (q : Query) (c : Data) (report certificate : List ℕ) →
     verdict q (data_for q c) report certificate ≡ verdict q c report certificate

@@ -9,8 +9,8 @@ use Rattle.std.specs.Ordering.{is_eq}
 use Rattle.ghcn_fields.specs.Meaning.Bytes.{same_bytes}
 use Rattle.ghcn_files.specs.declared.station.Station.{Station}
 use Rattle.ghcn_files.specs.Meaning.Ids.{same_id}
-use Rattle.ghcn_series.specs.Meaning.Series.{Usable}
-use Rattle.rank_query.specs.Meaning.Asked.{Asked}
+use Rattle.ghcn_series.specs.Meaning.Series.{Series}
+use Rattle.rank_query.specs.Meaning.Asked.{Query}
 use Rattle.rank_query.specs.Admits.{admits_station}
 use Rattle.rank_scores.specs.declared.candidate.Candidate.{Candidate}
 use Rattle.rank_scores.specs.Candidates.{candidates}
@@ -29,7 +29,7 @@ use Rattle.rank_check.specs.Tests.{is_one_of, is_above}
 -- ---- what a piece looks at
 
 -- the series that a query asks about at a station is a morsel: the query admits the station, and a day of the series
-abbrev pub is_morsel : Asked → Station → Option Usable → Bool
+abbrev pub is_morsel : Query → Station → Option Series → Bool
 is_morsel q st s = admits_station q st && option_map_or (has_admitted q) s false
 
 -- a candidate is the worst row or precedes it; if there are fewer rows than were asked for, there is no worst row,
@@ -50,15 +50,15 @@ pub record AreRowsWithin (worst : Option Candidate) (rows : List Candidate) : Ty
 -- ---- the tests of a line
 
 -- a row is a candidate of the series, with the name of the station
-abbrev pub is_row_of : Asked → Station → Usable → Named → Bool
+abbrev pub is_row_of : Query → Station → Series → Named → Bool
 is_row_of q st s row = is_one_of (candidates q s) row.0 && same_bytes (trimmed st.name) row.1
 
 -- each candidate of the series that is the worst row or precedes it is a row
-abbrev pub has_all : Asked → Option Candidate → List Candidate → Usable → Bool
+abbrev pub has_all : Query → Option Candidate → List Candidate → Series → Bool
 has_all q worst rows s = list_all (λ c. not (is_within_worst worst c) || is_one_of rows c) (candidates q s)
 
 -- the tests of the candidates of a series against the rows, the bound and the k-th score
-abbrev pub last_tests : Asked → Usable → Line → List Candidate → Option Candidate → List (Bool × Why)
+abbrev pub last_tests : Query → Series → Line → List Candidate → Option Candidate → List (Bool × Why)
 last_tests q s e rows worst =
     (has_all q worst rows s, NotBest)
     ∷ (is_above q e.bound s, NoBound)
@@ -67,7 +67,7 @@ last_tests q s e rows worst =
 
 -- the tests of a line with its count, of its station and series, and of the report's rows of the station, in their
 -- order
-abbrev pub piece_tests : Asked → Station → Option Usable → Line → ℕ → List Named → Option Candidate → List (Bool × Why)
+abbrev pub piece_tests : Query → Station → Option Series → Line → ℕ → List Named → Option Candidate → List (Bool × Why)
 piece_tests q st s e printed rows worst =
     (same_id st.id e.id && is_morsel q st s, OtherSeries)
     ∷ (printed == length rows, NotCounted)
@@ -82,9 +82,9 @@ piece_tests q st s e printed rows worst =
 -- the line names a morsel of this station; the rows are exactly its candidates that are the worst row or precede it,
 -- each with the station's name, and the count is theirs; no candidate scores above the bound; and it is skipped
 -- only if the bound is strictly below the k-th score
-pub record IsRightPiece (q : Asked) (st : Station) (s : Option Usable) (e : Line) (printed : ℕ) (rows : List Named)
+pub record IsRightPiece (q : Query) (st : Station) (s : Option Series) (e : Line) (printed : ℕ) (rows : List Named)
     (worst : Option Candidate) : Type 0 where
-  pub series : Usable
+  pub series : Series
   pub there : s ≡ Some series
   pub named : st.id ≡ e.id
   pub morsel : is_morsel q st s ≡ true

@@ -5,10 +5,10 @@ use Rattle.std.specs.List.{AllByRecursion, flat_map}
 use Rattle.std.specs.Int.{int_max}
 use Rattle.std.specs.Ordering.{is_eq, is_le}
 use Rattle.ghcn_fields.specs.Sorting.{greatest}
-use Rattle.ghcn_series.specs.Meaning.Series.{Usable}
-use Rattle.ghcn_series.specs.Series.{Contents}
+use Rattle.ghcn_series.specs.Meaning.Series.{Series}
+use Rattle.ghcn_series.specs.Series.{Data}
 use Rattle.ghcn_series.specs.Says.{in_64_bits}
-use Rattle.rank_query.specs.Meaning.Asked.{Asked}
+use Rattle.rank_query.specs.Meaning.Asked.{Query}
 use Rattle.rank_scores.specs.declared.candidate.Candidate.{Candidate}
 use Rattle.rank_scores.specs.Candidates.{candidates}
 use Rattle.rank_scores.specs.Meaning.Order.{precedes}
@@ -43,17 +43,17 @@ abbrev pub top_score : List Candidate → Option ℤ
 top_score cs = greatest (map (λ c. c.score) cs)
 
 -- what contracts see of a tally: the rows, the number of all candidates, and the greatest score since it was reset
-pub record Tallied : Type 0 where
+pub record Tally : Type 0 where
   pub rows : List Met
   pub count : ℕ
   pub highest : Option ℤ
 
 -- a tally of rows with these candidates that was offered nothing
-abbrev pub nothing_offered : List Candidate → Tallied
+abbrev pub nothing_offered : List Candidate → Tally
 nothing_offered rows = record { rows = map (met []) rows; count = 0; highest = None }
 
 -- a tally once one more candidate was offered
-abbrev pub tally_with : Tallied → Candidate → Tallied
+abbrev pub tally_with : Tally → Candidate → Tally
 tally_with t c = record {
   rows = map (met_by c) t.rows;
   count = in_64_bits (t.count + 1);
@@ -61,14 +61,14 @@ tally_with t c = record {
 }
 
 -- no row scores less than a floor, nor does the greatest score so far, of which there is one
-pub record IsFloor (t : Tallied) (floor : ℤ) : Type 0 where
+pub record IsFloor (t : Tally) (floor : ℤ) : Type 0 where
   pub rows : AllByRecursion (λ m. floor ≤ℤ m.candidate.score) t.rows
   pub highest : ℤ
   pub known : t.highest ≡ Some highest
   pub under : floor ≤ℤ highest
 
 -- a tally that no series was scanned for yet
-abbrev pub reset : Tallied → Tallied
+abbrev pub reset : Tally → Tally
 reset t = record { rows = t.rows; count = t.count; highest = None }
 
 -- there is a last row, and the candidate doesn't come after it
@@ -88,18 +88,18 @@ IsLast last rows = AllByRecursion (λ c. reaches last c ≡ true) rows
 -- ---- series
 
 -- all candidates of some series
-abbrev pub candidates_in : Asked → List Usable → List Candidate
+abbrev pub candidates_in : Query → List Series → List Candidate
 candidates_in q ss = flat_map (candidates q) ss
 
 -- the ID of a series, and its greatest score
-abbrev pub top : Asked → Usable → Top
+abbrev pub top : Query → Series → Top
 top q s = record { id = s.id; highest = top_score (candidates q s) }
 
 -- ---- all
 
 -- what a pass over all data finds: of each row what all candidates say of it, how many they are, and each morsel's
 -- greatest score by increasing ID
-pub record AreFindings (q : Asked) (c : Contents) (rows : List Candidate) (s : Findings) : Type 0 where
+pub record AreFindings (q : Query) (c : Data) (rows : List Candidate) (s : Findings) : Type 0 where
   pub watched : s.rows.items ≡ map (met (all_candidates q c)) rows
   pub count : s.count ≡ in_64_bits (length (all_candidates q c))
   pub tops : s.tops.items ≡ map (top q) (morsels q c)

@@ -69,10 +69,10 @@ pub(crate) struct Tally {
 
 impl Model for Tally {
     ghost use Rattle.std.specs.Prelude.{map};
-    ghost use Rattle.rank_check.specs.Survey.{Tallied};
+    ghost use Rattle.rank_check.specs.Survey.{Tally};
     ghost use Rattle.rank_check.specs.Marks.{AreMarked, known};
 
-    ghost Value = { Tallied };
+    ghost Value = { Tally };
 
     ghost view = { λ t. record {
       rows = map (known t.marks.items) t.rows.items;

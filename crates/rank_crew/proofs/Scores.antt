@@ -8,7 +8,7 @@ use Rattle.ghcn_fields.specs.Floor.{IsScore}
 use Rattle.ghcn_fields.specs.Sorting.{placed}
 use Rattle.rank_scores.specs.declared.candidate.Candidate.{Candidate}
 use Rattle.rank_pool.specs.First.{comes_first, in_order, kth}
-use Rattle.rank_pool.specs.Pools.{Pooled, taken, last_score}
+use Rattle.rank_pool.specs.Pools.{Pool, taken, last_score}
 use Rattle.rank_sched.specs.declared.record.Record.{Record}
 use Rattle.rank_sched.specs.declared.haul.Haul.{Haul}
 use Rattle.rank_sched.specs.Task.{Task, IsFair}
@@ -63,11 +63,11 @@ scores-scanned t (r ∷ rs) fair =
     each-append (λ c. IsScore c.score) (scanned_for t r) (scanned t rs) (scores-for t r fair) (scores-scanned t rs fair)
 
 -- the last score of a pool that had the best of some, and was offered others or skipped
-last_then : (k : ℕ) (b : Bool) (xs ys : List Candidate) (p q : Pooled) → 0 < k → p ≡ best_pool k xs
+last_then : (k : ℕ) (b : Bool) (xs ys : List Candidate) (p q : Pool) → 0 < k → p ≡ best_pool k xs
     → q ≡ fold taken p (cond b [] ys) → cond b None (last_score q) ≡ cond b None (kth k (xs ++ ys))
 last_then k true xs ys p q some e f = refl
 last_then k false xs ys p q some e f =
-    ap (λ (x : Pooled). last_score x) (f ∙ best_more k p xs ys e) ∙ last_is_kth k (xs ++ ys) some
+    ap (λ (x : Pool). last_score x) (f ∙ best_more k p xs ys e) ∙ last_is_kth k (xs ++ ys) some
 
 -- a k-th score, or none if the morsel was skipped, can be a floor
 raises_score : (b : Bool) (k : ℕ) (xs : List Candidate) → HaveScores xs → IfSome (cond b None (kth k xs)) IsScore

@@ -3,7 +3,7 @@ use Rattle.std.proofs.Common.{◌≡◌, ℕ, true, false, List, [], ◌∷◌, 
 use Rattle.std.proofs.Common.{append_assoc}
 use Rattle.std.specs.Option.{option_or, is_some}
 use Rattle.ghcn_fields.specs.Faults.{first_failing}
-use Rattle.rank_query.specs.Meaning.Asked.{Asked}
+use Rattle.rank_query.specs.Meaning.Asked.{Query}
 use Rattle.rank_papers.specs.Report.{Named}
 use Rattle.rank_papers.specs.declared.paper.Row.{Row}
 use Rattle.rank_papers.specs.ReportLines.{Reported, named_in}
@@ -28,7 +28,7 @@ none_behind None (Some w) e = absurd cc
 none_behind (Some w) p e = absurd cc
 
 -- the tests of the order of rows, of the k-th score and of the order of lines, made one after the other
-pub early_tests : (q : Asked) (rows : List Named) (kth : Option ℤ) (es : List Line)
+pub early_tests : (q : Query) (rows : List Named) (kth : Option ℤ) (es : List Line)
     → option_or (option_or (first_failing (order_tests rows)) (first_failing (floor_test q rows kth ∷ [])))
     (first_failing (rising_tests es))
     ≡ first_failing (order_tests rows ++ floor_test q rows kth ∷ rising_tests es)
@@ -37,7 +37,7 @@ early_tests q rows kth es =
     (first_failing (rising_tests es))
     ∙ simp first_failing-append
 
-module _ (q : Asked) (r : Reported) (z : Certified) where
+module _ (q : Query) (r : Reported) (z : Certified) where
   -- the tests after those of the queries
   abbrev behind : List HeadTest
   behind = place_tests q r.rows z.kth z.entries ++ count_tests r.rows z.entries z.counts
@@ -69,7 +69,7 @@ module _ (q : Asked) (r : Reported) (z : Certified) where
 
 -- ---- places
 
-module _ (q : Asked) (rows : List Named) (kth : Option ℤ) (es : List Line) (o p r s t : Option HeadFault)
+module _ (q : Query) (rows : List Named) (kth : Option ℤ) (es : List Line) (o p r s t : Option HeadFault)
     (order : o ≡ first_failing (order_tests rows)) (floor : p ≡ first_failing (floor_test q rows kth ∷ []))
     (rise : r ≡ first_failing (rising_tests es)) (both : s ≡ option_or o p) (all : t ≡ option_or s r) where
   -- the first of the early tests
@@ -90,7 +90,7 @@ in_turn : (order rising scanned counts : List HeadTest) (floor : HeadTest)
     → (order ++ floor ∷ rising) ++ (scanned ++ counts) ≡ (order ++ floor ∷ rising ++ scanned) ++ counts
 in_turn order rising scanned counts floor = simp append_assoc
 
-module _ (q : Asked) (r : Reported) (z : Certified) (report : same_query r.query q ≡ true)
+module _ (q : Query) (r : Reported) (z : Certified) (report : same_query r.query q ≡ true)
     (certificate : same_query z.query q ≡ true) (rows : List Row) (lines : List Line) (counts : List ℕ)
     (rows_are : map named_in rows ≡ r.rows) (lines_are : lines ≡ z.entries) (counts_are : counts ≡ z.counts)
     (seen : Option HeadFault) (places : seen ≡ first_failing (order_tests (map named_in rows)

@@ -4,7 +4,7 @@ use Rattle.std.specs.Prelude.{codes}
 use Rattle.std.specs.Fmt.{digits}
 use Rattle.ghcn_files.specs.declared.element.Element.TheVariants.{Tmax}
 use Rattle.rank_query.specs.declared.score.Score.TheVariants.{Highest}
-use Rattle.rank_query.specs.Meaning.Asked.{Asked}
+use Rattle.rank_query.specs.Meaning.Asked.{Query}
 use Rattle.rank_query.specs.Asked.{top}
 use Rattle.rank_papers.specs.Report.{Named}
 use Rattle.rank_papers.specs.ReportLines.{Reported}
@@ -14,7 +14,7 @@ use Rattle.rank_head.specs.declared.fault.HeadFault.TheVariants.{OtherFloor, Not
 use Rattle.rank_head.specs.HeadTests.{head_fault}
 
 -- the k highest of all
-abbrev ask : ℕ → Asked
+abbrev ask : ℕ → Query
 ask k = top k (Highest Tmax)
 
 -- a row of the first of July 2020

@@ -4,7 +4,7 @@ use Rattle.std.specs.Prelude.{◌==◌}
 use Rattle.std.specs.List.{zip, AllByRecursion, AllZip}
 use Rattle.std.proofs.lemmas.Bool.{eqb-true, eq-eqb}
 use Rattle.ghcn_fields.specs.Faults.{first_failing}
-use Rattle.rank_query.specs.Meaning.Asked.{Asked, IsAsked}
+use Rattle.rank_query.specs.Meaning.Asked.{Query, IsAsked}
 use Rattle.rank_scores.specs.declared.candidate.Candidate.{Candidate}
 use Rattle.rank_scores.specs.Meaning.Order.{precedes}
 use Rattle.rank_papers.specs.Report.{Named}
@@ -63,7 +63,7 @@ module _ (rows : List Named) (z : Certified) where
 
 -- ---- the head
 
-module _ (certificates : CertificatesAreRead) (q : Asked) (r : Reported) (z : Certified) (asked : IsAsked q)
+module _ (certificates : CertificatesAreRead) (q : Query) (r : Reported) (z : Certified) (asked : IsAsked q)
     (can_r : IsReported r) (can_z : IsCertified z) where
   -- the tests of the queries, and those after them
   abbrev of_report : HeadTest

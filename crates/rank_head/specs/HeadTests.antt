@@ -8,7 +8,7 @@ use Rattle.std.specs.Cmp.Lexicographic.{slice_cmp}
 use Rattle.ghcn_fields.specs.Faults.{first_failing}
 use Rattle.ghcn_files.specs.declared.station.StationId.{StationId}
 use Rattle.ghcn_files.specs.Meaning.Ids.{same_id}
-use Rattle.rank_query.specs.Meaning.Asked.{Asked}
+use Rattle.rank_query.specs.Meaning.Asked.{Query}
 use Rattle.rank_scores.specs.Meaning.Order.{precedes}
 use Rattle.rank_papers.specs.Papers.{same_query, of_rows, neighbours}
 use Rattle.rank_papers.specs.Report.{Named}
@@ -32,7 +32,7 @@ on_lines passes why line (x ∷ xs) = (passes x, why line) ∷ on_lines passes w
 -- ---- scores
 
 -- the k-th score is that of the k-th row, if there are k rows, and otherwise none
-abbrev pub floor_test : Asked → List Named → Option ℤ → HeadTest
+abbrev pub floor_test : Query → List Named → Option ℤ → HeadTest
 floor_test q rows kth = (option_eq int_eq kth (kth_of_best q.k (of_rows rows)), OtherFloor)
 
 -- ---- rows and lines of series
@@ -62,7 +62,7 @@ abbrev pub scanned_tests : List Line → List Named → List HeadTest
 scanned_tests es rows = on_lines (λ row. is_scanned es row.0.id) NotScanned 3 rows
 
 -- the order of rows, the k-th score, the order of lines, and the series of the rows
-abbrev pub place_tests : Asked → List Named → Option ℤ → List Line → List HeadTest
+abbrev pub place_tests : Query → List Named → Option ℤ → List Line → List HeadTest
 place_tests q rows kth es =
     order_tests rows ++ floor_test q rows kth ∷ rising_tests es ++ scanned_tests es rows
 
@@ -77,7 +77,7 @@ count_tests rows es counts = matching_tests counts (map (count_of (of_rows rows)
 -- ---- the head
 
 -- the tests of a report and a certificate, as those of this query
-abbrev pub head_tests : Asked → Reported → Certified → List HeadTest
+abbrev pub head_tests : Query → Reported → Certified → List HeadTest
 head_tests q r z =
     (same_query r.query q, OtherReportQuery)
     ∷ (same_query z.query q, OtherCertificateQuery)
@@ -85,5 +85,5 @@ head_tests q r z =
     ++ count_tests r.rows z.entries z.counts
 
 -- the error of the first of them that fails
-abbrev pub head_fault : Asked → Reported → Certified → Option HeadFault
+abbrev pub head_fault : Query → Reported → Certified → Option HeadFault
 head_fault q r z = first_failing (head_tests q r z)

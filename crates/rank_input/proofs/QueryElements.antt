@@ -12,14 +12,14 @@ use Rattle.ghcn_files.specs.declared.element.Element.TheVariants.{Prcp, Snow, Sn
 use Rattle.ghcn_files.specs.declared.element.Keep.{Keep}
 use Rattle.ghcn_files.specs.Elements.{same_element, is_kept, with_one}
 use Rattle.ghcn_series.proofs.AllSeries.{same_element-is}
-use Rattle.rank_query.specs.Meaning.Asked.{Asked, score_element}
+use Rattle.rank_query.specs.Meaning.Asked.{Query, score_element}
 
 -- some query is about an element
-abbrev pub IsAsked : Element → List Asked → Type 0
+abbrev pub IsAsked : Element → List Query → Type 0
 IsAsked e qs = Any (λ q. score_element q.score ≡ e) qs
 
 -- a set has the element of each query, and no other
-pub record HasNeeded (qs : List Asked) (keep : Keep) : Type 0 where
+pub record HasNeeded (qs : List Query) (keep : Keep) : Type 0 where
   pub own : All (λ q. is_kept keep (score_element q.score) ≡ true) qs
   pub no_other : (e : Element) → is_kept keep e ≡ true → IsAsked e qs
 
@@ -40,13 +40,13 @@ same_element-refl Tmax = refl
 same_element-refl Tmin = refl
 
 -- what some queries are about, they are about with one more
-asked-push : (e : Element) (qs : List Asked) (q : Asked) → IsAsked e qs → IsAsked e (qs ++ q ∷ [])
+asked-push : (e : Element) (qs : List Query) (q : Query) → IsAsked e qs → IsAsked e (qs ++ q ∷ [])
 asked-push e qs q some =
     let within : some.0 < length (qs ++ q ∷ []) = omega (arith, some.2, length-append qs (q ∷ [])) in
     (some.0, some.1, within, get_or_append_left qs (q ∷ []) some.1 some.0 some.2 ∙ some.3, some.4)
 
 -- one query more needs its element too
-pub needed-push : (qs : List Asked) (q : Asked) (keep : Keep) → HasNeeded qs keep
+pub needed-push : (qs : List Query) (q : Query) (keep : Keep) → HasNeeded qs keep
     → HasNeeded (qs ++ q ∷ []) (with_one keep (score_element q.score))
 needed-push qs q keep h = record {
   own = All-push (λ p. is_kept (with_one keep own) (score_element p.score) ≡ true) qs q

@@ -7,7 +7,7 @@ use Rattle.std.proofs.lemmas.List.FromFn.{length-enumerate_from, get_or-enumerat
 use Rattle.std.proofs.lemmas.Slice.Zip.{all_zipped_more, AllZip-long}
 use Rattle.ghcn_fields.specs.Meaning.Lines.{lines}
 use Rattle.ghcn_fields.specs.Lines.{numbered_lines}
-use Rattle.rank_query.specs.Meaning.Asked.{Asked}
+use Rattle.rank_query.specs.Meaning.Asked.{Query}
 use Rattle.rank_query.specs.Meaning.Asks.{Asks}
 use Rattle.rank_input.specs.declared.queries.QueriesFault.{QueriesFault}
 use Rattle.rank_input.specs.declared.queries.QueriesFault.TheVariants.{Line, NotText, Memory}
@@ -21,7 +21,7 @@ pub record IsLineAt (ls : List Text) (k : ℕ) (item : ℕ × Text) : Type 0 whe
   pub line : item.1 ≡ get_or ls k item.1
 
 -- these queries are asked by the first lines, one by each
-pub record HaveAsked (ls : List Text) (k : ℕ) (held : List Asked) : Type 0 where
+pub record HaveAsked (ls : List Text) (k : ℕ) (held : List Query) : Type 0 where
   pub each : AllZip Asks (take k ls) held
 
 -- a numbered line is the line at its place
@@ -35,7 +35,7 @@ line_at text k item lt is =
     record { within = within; number = omega (arith, number); line = ap (λ (p : ℕ × Text). p.1) at }
 
 -- one line more asks one query more
-pub one_more : (ls : List Text) (k : ℕ) (held : List Asked) (item : ℕ × Text) (q : Asked) → IsLineAt ls k item
+pub one_more : (ls : List Text) (k : ℕ) (held : List Query) (item : ℕ × Text) (q : Query) → IsLineAt ls k item
     → HaveAsked ls k held → Asks item.1 q → HaveAsked ls (k + 1) (held ++ q ∷ [])
 one_more ls k held item q at h asks = record {
   each = subst (λ (xs : List Text). AllZip Asks xs (held ++ q ∷ []))
@@ -44,7 +44,7 @@ one_more ls k held item q at h asks = record {
 }
 
 -- lines that ask queries are queries
-are_queries : (ls : List Text) (qs : List Asked) → AllZip Asks ls qs → All IsQuery ls
+are_queries : (ls : List Text) (qs : List Query) → AllZip Asks ls qs → All IsQuery ls
 are_queries [] qs h k d lt = absurd (omega (arith, lt))
 are_queries (l ∷ ls) [] h k d lt = absurd h
 are_queries (l ∷ ls) (q ∷ qs) h zero d lt = (q, h.0)
@@ -67,7 +67,7 @@ decides text (Line line why) first = first
 decides text (NotText line) first = first
 
 -- a line that isn't a query comes after lines that are
-pub bad_line : (text : Text) (k : ℕ) (held : List Asked) (item : ℕ × Text) (fault : QueriesFault)
+pub bad_line : (text : Text) (k : ℕ) (held : List Query) (item : ℕ × Text) (fault : QueriesFault)
     → IsLineAt (lines text) k item → HaveAsked (lines text) k held → IsBadLine item.0 item.1 fault
     → IsFirstBadQuery text fault
 bad_line text k held item fault at h bad =
@@ -87,14 +87,14 @@ bad_line text k held item fault at h bad =
     })
 
 -- at the end the queries are asked by all lines
-all_lines : (text : Text) (k : ℕ) (held : List Asked) → k ≡ length (numbered_lines text)
+all_lines : (text : Text) (k : ℕ) (held : List Query) → k ≡ length (numbered_lines text)
     → HaveAsked (lines text) k held → AllZip Asks (lines text) held
 all_lines text k held e h =
     subst (λ (ls : List Text). AllZip Asks ls held)
     (take_all k (lines text) (omega (arith, e, length-enumerate_from 1 (lines text)))) h.each
 
 -- and so by the lines of the list, if there are some
-pub all_asked : (text : Text) (k : ℕ) (held : List Asked) → k ≡ length (numbered_lines text)
+pub all_asked : (text : Text) (k : ℕ) (held : List Query) → k ≡ length (numbered_lines text)
     → HaveAsked (lines text) k held → 0 < length held → AllZip Asks (query_lines text) held
 all_asked text k held e h some =
     let each : AllZip Asks (lines text) held = all_lines text k held e h in
@@ -102,13 +102,13 @@ all_asked text k held e h some =
     subst (λ (ls : List Text). AllZip Asks ls held) (sym (some_stay (lines text) many)) each
 
 -- if there is none, one empty line stands for them
-pub blank_alone : (text : Text) (k : ℕ) (held : List Asked) → k ≡ length (numbered_lines text)
+pub blank_alone : (text : Text) (k : ℕ) (held : List Query) → k ≡ length (numbered_lines text)
     → HaveAsked (lines text) k held → length held ≡ 0 → query_lines text ≡ [] ∷ []
 blank_alone text k held e h none =
     none_is_blank (lines text) (omega (arith, AllZip-long Asks (lines text) held (all_lines text k held e h)))
 
 -- this line is a query
-pub blank_asked : (text : Text) (held : List Asked) (q : Asked) → query_lines text ≡ [] ∷ [] → length held ≡ 0
+pub blank_asked : (text : Text) (held : List Query) (q : Query) → query_lines text ≡ [] ∷ [] → length held ≡ 0
     → Asks [] q → AllZip Asks (query_lines text) (held ++ q ∷ [])
 blank_asked text [] q e none asks = subst (λ (ls : List Text). AllZip Asks ls (q ∷ [])) (sym e) (asks, tt)
 blank_asked text (p ∷ ps) q e none asks = absurd (omega (arith, none))

@@ -11,9 +11,9 @@ use Rattle.ghcn_series.specs.Fed.{files_of}
 use Rattle.ghcn_series.specs.Gathered.{HasReadByRows}
 use Rattle.ghcn_series.specs.Kept.{HoldFiles}
 use Rattle.ghcn_series.specs.Says.{data_of}
-use Rattle.ghcn_series.specs.Series.{Contents}
+use Rattle.ghcn_series.specs.Series.{Data}
 use Rattle.rank_query.specs.declared.fault.QueryFault.{QueryFault}
-use Rattle.rank_query.specs.Meaning.Asked.{Asked, score_element}
+use Rattle.rank_query.specs.Meaning.Asked.{Query, score_element}
 use Rattle.rank_query.specs.Reading.{read_query}
 use Rattle.rank_query.proofs.Asks.{read_asks}
 use Rattle.rank_input.specs.declared.fault.Fault.{Fault}
@@ -36,8 +36,8 @@ abbrev pub with_intake : Question → Intake RowReader → Question
 with_intake t files = record { query = t.query; files = files }
 
 -- what is asked goes on with what the intake takes
-goes_on : (query : Result Asked Fault) (old new : Intake RowReader) (i j : Input) → i.query ≡ j.query
-    → ((q : Asked) → takes.HasTaken HasReadByRows old (files_for q i)
+goes_on : (query : Result Query Fault) (old new : Intake RowReader) (i j : Input) → i.query ≡ j.query
+    → ((q : Query) → takes.HasTaken HasReadByRows old (files_for q i)
     → takes.HasTaken HasReadByRows new (files_for q j)) → IsAskedOf query old i → IsAskedOf query new j
 goes_on (Ok q) old new i j same step is =
     (subst (λ (text : List ℕ). read_query text ≡ Ok q) same is.0, step q is.1)
@@ -70,7 +70,7 @@ refused_query query stations files fault is =
 
 -- a question with an error has taken a query that has it
 faulty : (t : Question) (fault : Fault) (i : Input) → t.query ≡ Err fault → HasTaken t i → IsQueryFault i.query fault
-faulty t fault i is taken = subst (λ (query : Result Asked Fault). IsAskedOf query t.files i) is taken
+faulty t fault i is taken = subst (λ (query : Result Query Fault). IsAskedOf query t.files i) is taken
 
 -- its error is that of the input
 pub refuses_query : (t : Question) (fault : Fault) → t.query ≡ Err fault → RefusesInput t fault
@@ -89,18 +89,18 @@ reports_query t fault is = record {
 }
 
 -- a question without an error asks this, and its intake was given the files for it
-asked_of : (t : Question) (q : Asked) (i : Input) → t.query ≡ Ok q → HasTaken t i → IsAskedOf (Ok q) t.files i
-asked_of t q i is taken = subst (λ (query : Result Asked Fault). IsAskedOf query t.files i) is taken
+asked_of : (t : Question) (q : Query) (i : Input) → t.query ≡ Ok q → HasTaken t i → IsAskedOf (Ok q) t.files i
+asked_of t q i is taken = subst (λ (query : Result Query Fault). IsAskedOf query t.files i) is taken
 
 -- then the query has no error to return
-pub right_query : {A : Type 0} (t : Question) (q : Asked) (result : Result A Fault) → t.query ≡ Ok q
+pub right_query : {A : Type 0} (t : Question) (q : Query) (result : Result A Fault) → t.query ≡ Ok q
     → ReportsQuery t result
 right_query t q result is = record {
   is = λ i taken why asks. let both = sym (asked_of t q i is taken).0 ∙ asks in absurd cc;
 }
 
 -- what is kept of the files is what the input holds
-pub holds_input : (t : Question) (q : Asked) (made : Contents × Warnings) → t.query ≡ Ok q
+pub holds_input : (t : Question) (q : Query) (made : Data × Warnings) → t.query ≡ Ok q
     → MakesTaken HasReadByRows HoldFiles t.files made → HoldsInput t q made.0
 holds_input t q made is makes = record {
   is = λ i taken.
@@ -119,7 +119,7 @@ holds_input t q made is makes = record {
 }
 
 -- and what a run over them warns of is what a run over the input does
-pub warns_of_input : (t : Question) (q : Asked) (made : Contents × Warnings) → t.query ≡ Ok q
+pub warns_of_input : (t : Question) (q : Query) (made : Data × Warnings) → t.query ≡ Ok q
     → MakesTaken HasReadByRows HoldFiles t.files made → AreWarningsOf t made.1
 warns_of_input t q made is makes = record {
   is = λ i taken. (makes.is (files_for q i) (asked_of t q i is taken).1).made.warned;
@@ -133,7 +133,7 @@ same_error of (Ok a) f g fault step is = step a is
 same_error of (Err e) f g fault step is = let same : of e ≡ fault = cc in ap Err same
 
 -- after a query without an error the error of the files is that of the input
-pub refused_input : (query stations : List ℕ) (files : List (List ℕ)) (q : Asked) (fault : Fault)
+pub refused_input : (query stations : List ℕ) (files : List (List ℕ)) (q : Query) (fault : Fault)
     → read_query query ≡ Ok q → IsRefusal is_memory fault (read_files stations files)
     → IsRefusal is_memory fault (read_input query stations files)
 refused_input query stations files q fault asks is =
@@ -142,7 +142,7 @@ refused_input query stations files q fault asks is =
     (λ list. same_error of_data (data_of list files) _ _ fault (λ held wrong. absurd cc)) (OnFalse_at e is)))
 
 -- the error of the files is that of the input
-pub refuses_input : (t : Question) (q : Asked) (fault : Fault) → t.query ≡ Ok q
+pub refuses_input : (t : Question) (q : Query) (fault : Fault) → t.query ≡ Ok q
     → RefusesTaken HasReadByRows t.files fault → RefusesInput t fault
 refuses_input t q fault is refuses = record {
   is = λ i taken.

@@ -7,11 +7,11 @@ use Rattle.ghcn_files.specs.declared.station.Station.{Station}
 use Rattle.ghcn_files.specs.Listed.{listed}
 use Rattle.ghcn_series.specs.declared.fault.DataFault.{DataFault}
 use Rattle.ghcn_series.specs.declared.fault.DataFault.TheVariants as daily
-use Rattle.ghcn_series.specs.Series.{Contents}
+use Rattle.ghcn_series.specs.Series.{Data}
 use Rattle.ghcn_series.specs.Says.{data_of}
 use Rattle.rank_query.specs.declared.fault.QueryFault.{QueryFault}
 use Rattle.rank_query.specs.declared.fault.QueryFault.TheVariants as query
-use Rattle.rank_query.specs.Meaning.Asked.{Asked}
+use Rattle.rank_query.specs.Meaning.Asked.{Query}
 use Rattle.rank_query.specs.Reading.{read_query}
 use Rattle.rank_query.specs.Meaning.Asks.{Asks}
 use Rattle.rank_input.specs.declared.fault.Fault.{Fault}
@@ -57,19 +57,19 @@ then_read of (Ok a) next = next a
 then_read of (Err e) next = Err (of e)
 
 -- the data that a station list and daily files hold, or the first error of these
-abbrev pub read_files : List ℕ → List (List ℕ) → Result Contents Fault
+abbrev pub read_files : List ℕ → List (List ℕ) → Result Data Fault
 read_files stations files = then_read of_stations (listed stations) (λ ss.
     then_read of_data (data_of ss files) (λ dataset. Ok dataset))
 
 -- the query and the data that an input holds, or the first error: of the query, the stations, the daily files
-abbrev pub read_input : List ℕ → List ℕ → List (List ℕ) → Result (Asked × Contents) Fault
+abbrev pub read_input : List ℕ → List ℕ → List (List ℕ) → Result (Query × Data) Fault
 read_input query stations files =
     then_read of_query (read_query query) (λ q.
     then_read of_stations (listed stations) (λ ss.
     then_read of_data (data_of ss files) (λ dataset. Ok (q, dataset))))
 
 -- an input has no error, and this is what it asks and holds
-pub record IsReadOf (query stations : List ℕ) (files : List (List ℕ)) (asked : Asked) (dataset : Contents)
+pub record IsReadOf (query stations : List ℕ) (files : List (List ℕ)) (asked : Query) (dataset : Data)
     : Type 0 where
   pub list : List Station
   pub asks : Asks query asked
@@ -87,7 +87,7 @@ read_unless None read = read
 read_unless (Some fault) read = Err fault
 
 -- what the input of a run of that many workers holds, under a guess or none, or the first error, arguments first
-abbrev pub read_run : ℕ → Option ℤ → List ℕ → List ℕ → List (List ℕ) → Result (Asked × Contents) Fault
+abbrev pub read_run : ℕ → Option ℤ → List ℕ → List ℕ → List (List ℕ) → Result (Query × Data) Fault
 read_run workers guess query stations files =
     read_unless (words_fault workers guess) (read_input query stations files)
 

@@ -2,7 +2,7 @@
 use Rattle.std.specs.Prelude.{◌≡◌, ℕ, ◌+◌, Bool, true, false, List, [], ◌∷◌, ◌++◌, length, Err, ⊤, IsUtf8}
 use Rattle.std.specs.List.{All}
 use Rattle.ghcn_fields.specs.Meaning.Lines.{lines}
-use Rattle.rank_query.specs.Meaning.Asked.{Asked}
+use Rattle.rank_query.specs.Meaning.Asked.{Query}
 use Rattle.rank_query.specs.Meaning.Asks.{Asks}
 use Rattle.rank_query.specs.Reading.{read_query}
 use Rattle.rank_input.specs.declared.queries.QueriesFault.{QueriesFault}
@@ -25,7 +25,7 @@ is_memory fault = false
 
 -- a text asks something
 abbrev pub IsQuery : Text → Type 0
-IsQuery text = (q : Asked) × Asks text q
+IsQuery text = (q : Query) × Asks text q
 
 -- why the line of this number isn't a query: it is UTF-8 and is read as this error; or it isn't UTF-8; or memory ran
 -- out

@@ -3,12 +3,12 @@ use Rattle.std.specs.Prelude.{◌≡◌, ℕ, List, Result, Ok, Err}
 use Rattle.ghcn_files.specs.Elements.{only}
 use Rattle.ghcn_series.specs.declared.counts.Warnings.{Warnings}
 use Rattle.ghcn_series.specs.declared.rows.RowReader.{RowReader}
-use Rattle.ghcn_series.specs.Series.{Contents}
+use Rattle.ghcn_series.specs.Series.{Data}
 use Rattle.ghcn_series.specs.Fed.{Files, ended_files, files_of}
 use Rattle.ghcn_series.specs.Gathered.{HasReadByRows}
 use Rattle.ghcn_series.specs.LineKinds.{warnings_of}
 use Rattle.rank_query.specs.declared.fault.QueryFault.{QueryFault}
-use Rattle.rank_query.specs.Meaning.Asked.{Asked, score_element}
+use Rattle.rank_query.specs.Meaning.Asked.{Query, score_element}
 use Rattle.rank_query.specs.Reading.{read_query}
 use Rattle.rank_scores.specs.OneElement.{data_for}
 use Rattle.ghcn_fields.specs.Refusals.{IsRefusal}
@@ -30,7 +30,7 @@ abbrev pub given : List ℕ → List ℕ → List (List ℕ) → Input
 given query stations files = record { query = query; stations = stations; files = ended_files files }
 
 -- what an intake is given for a query: it keeps the series of the query's element
-abbrev pub files_for : Asked → Input → FileInput
+abbrev pub files_for : Query → Input → FileInput
 files_for q i = record { keep = only (score_element q.score); stations = i.stations; files = i.files }
 
 -- the query has an error, and this is it
@@ -40,7 +40,7 @@ pub record IsQueryFault (query : List ℕ) (fault : Fault) : Type 0 where
   pub is : fault ≡ of_query why
 
 -- the query has no error, and an intake was given the files for it, or the query has this error
-abbrev pub IsAskedOf : Result Asked Fault → Intake RowReader → Input → Type 0
+abbrev pub IsAskedOf : Result Query Fault → Intake RowReader → Input → Type 0
 IsAskedOf (Ok q) t i = (read_query i.query ≡ Ok q) × takes.HasTaken HasReadByRows t (files_for q i)
 IsAskedOf (Err fault) t i = IsQueryFault i.query fault
 
@@ -61,13 +61,13 @@ abbrev pub AreWarningsOf : Question → Warnings → Type 0
 AreWarningsOf t warnings = IsTrueOf t (λ query stations files. warnings ≡ warnings_of files)
 
 -- an input has no error and asks this, and these are what the query needs of the data that it holds
-pub record Needs (query stations : List ℕ) (files : List (List ℕ)) (asked : Asked) (dataset : Contents) : Type 0 where
-  pub whole : Contents
+pub record Needs (query stations : List ℕ) (files : List (List ℕ)) (asked : Query) (dataset : Data) : Type 0 where
+  pub whole : Data
   pub read : IsReadOf query stations files asked whole
   pub needed : dataset ≡ data_for asked whole
 
 -- a query and data are what a question's input asks and needs
-abbrev pub HoldsInput : Question → Asked → Contents → Type 0
+abbrev pub HoldsInput : Question → Query → Data → Type 0
 HoldsInput t asked dataset = IsTrueOf t (λ query stations files. Needs query stations files asked dataset)
 
 -- out of memory, or the first error of a question's input

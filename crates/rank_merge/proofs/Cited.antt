@@ -27,9 +27,9 @@ pub use Rattle.ghcn_files.specs.declared.station.Station.{Station}
 pub use Rattle.ghcn_files.specs.declared.station.StationId.{StationId}
 pub use Rattle.ghcn_series.proofs.ListFacts.{each-append, from_all, zip-weaker}
 pub use Rattle.ghcn_series.specs.Held.{IsContents}
-pub use Rattle.ghcn_series.specs.Meaning.Series.{Usable}
-pub use Rattle.ghcn_series.specs.Series.{Contents}
-pub use Rattle.rank_query.specs.Meaning.Asked.{Asked, IsAsked}
+pub use Rattle.ghcn_series.specs.Meaning.Series.{Series}
+pub use Rattle.ghcn_series.specs.Series.{Data}
+pub use Rattle.rank_query.specs.Meaning.Asked.{Query, IsAsked}
 pub use Rattle.rank_scores.proofs.QueryCandidates.{all_apart, candidates-own, morsels_rise}
 pub use Rattle.rank_scores.specs.Cut.{CutByFiles, Filed, IsDataOf, IsSameFor, MorselsOfParts, morsel_ids, series_first}
 pub use Rattle.rank_scores.specs.Meaning.Order.{precedes}

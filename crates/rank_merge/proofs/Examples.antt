@@ -8,7 +8,7 @@ use Rattle.ghcn_fields.specs.Meaning.Dates.{year_and_rest, month_and_day}
 use Rattle.ghcn_files.specs.declared.element.Element.TheVariants.{Tmax}
 use Rattle.rank_query.specs.declared.per.Per.TheVariants.{Station as ByStation}
 use Rattle.rank_query.specs.declared.score.Score.TheVariants.{Highest}
-use Rattle.rank_query.specs.Meaning.Asked.{Asked}
+use Rattle.rank_query.specs.Meaning.Asked.{Query}
 use Rattle.rank_query.specs.Asked.{top}
 use Rattle.rank_query.specs.Words.{says}
 use Rattle.rank_query.specs.Readers.{keyword}
@@ -24,7 +24,7 @@ text [] = []
 text (l ∷ ls) = l ++ 10 ∷ text ls
 
 -- the k highest of all
-abbrev ask : ℕ → Asked
+abbrev ask : ℕ → Query
 ask k = top k (Highest Tmax)
 
 -- the line of a query for that many

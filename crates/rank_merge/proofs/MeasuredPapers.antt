@@ -2,8 +2,8 @@
 -- parts.
 use Rattle.rank_merge.proofs.Cited.{ap₂, ◌≡◌, inr, ◌≤◌, List, [], ◌∷◌, length, map, Option, Ok, sym, ap, ◌∙◌, subst}
 use Rattle.rank_merge.proofs.Cited.{arith, ℕ, ℤ, nat_le, IfSome, FitsSigned, flat_map, AllByRecursion, AllZip, leb-true}
-use Rattle.rank_merge.proofs.Cited.{length-take, count_by-le-length, sorted_by, Station, Usable, Contents, IsContents}
-use Rattle.rank_merge.proofs.Cited.{Asked, IsAsked, series_first, Filed, IsDataOf, CutByFiles, MorselsOfParts}
+use Rattle.rank_merge.proofs.Cited.{length-take, count_by-le-length, sorted_by, Station, Series, Data, IsContents}
+use Rattle.rank_merge.proofs.Cited.{Query, IsAsked, series_first, Filed, IsDataOf, CutByFiles, MorselsOfParts}
 use Rattle.rank_merge.proofs.Cited.{all_candidates, morsels, id_comes_first, best_of_query, kth_of_query, Candidate}
 use Rattle.rank_merge.proofs.Cited.{in_order, Line, Certified, IsEntry, IsCount, IsRightEntry, count_of, counts_of}
 use Rattle.rank_merge.proofs.Cited.{read_certificate, sorted-zip, entries_of_parts, merged_entries, IsMeasuredPart}
@@ -16,13 +16,13 @@ use Rattle.rank_merge.proofs.MergedPapers.{WithData, IsRightPart, data_of_parts,
 use Rattle.rank_merge.proofs.RightHeads.{best_are}
 use Rattle.rank_merge.proofs.MergedTexts.{Known, all, is_certificate, same_data}
 
-module _ (q : Asked) where
+module _ (q : Query) where
   -- a line has the ID and the bound of a series
-  abbrev pub IsMeasuredEntry : Line → Usable → Type 0
+  abbrev pub IsMeasuredEntry : Line → Series → Type 0
   IsMeasuredEntry e u = (e.id ≡ u.id) × (e.bound ≡ bound q u)
 
   -- right lines whose bounds are those of the series
-  zip_measured : (kth : Option ℤ) (es : List Line) (us : List Usable) → AllZip (IsRightEntry q kth) es us
+  zip_measured : (kth : Option ℤ) (es : List Line) (us : List Series) → AllZip (IsRightEntry q kth) es us
       → map (λ (e : Line). e.bound) es ≡ map (bound q) us → AllZip IsMeasuredEntry es us
   zip_measured kth [] [] h e = tt
   zip_measured kth [] (u ∷ us) h e = absurd h
@@ -32,7 +32,7 @@ module _ (q : Asked) where
   -- ---- what is read of a measured certificate
 
   -- entries of the same series can be alike
-  each_can : (kth : Option ℤ) (es fs : List Line) (us : List Usable) → AllZip (IsRightEntry q kth) es us
+  each_can : (kth : Option ℤ) (es fs : List Line) (us : List Series) → AllZip (IsRightEntry q kth) es us
       → AllZip (IsRightEntry q kth) fs us → AllByRecursion IsEntry fs → AllByRecursion IsEntry es
   each_can kth [] fs us h k can = tt
   each_can kth (x ∷ es) fs [] h k can = absurd h
@@ -50,7 +50,7 @@ module _ (q : Asked) where
   all_counts best (x ∷ es) few = (one_count best x few, all_counts best es few)
 
   -- there are at most a thousand best
-  few_best : (c : Contents) → IsAsked q → IsContents c → length (best_of_query q c) ≤ 1000
+  few_best : (c : Data) → IsAsked q → IsContents c → length (best_of_query q c) ≤ 1000
   few_best c asked right =
       let first = ap (λ (l : List Candidate). length l) (best_are q c asked right) in
       let high : q.k ≤ 1000 = leb-true q.k 1000 (and_parts (nat_le 1 q.k) (nat_le q.k 1000) asked.k).1 in
@@ -58,7 +58,7 @@ module _ (q : Asked) where
 
   module _ (known : Known) (asked : IsAsked q) where
     -- the certificate itself is read
-    measured_read : (c : Contents) (bytes : List ℕ) → IsContents c → IsMeasuredCertificate q c bytes → (z : Certified)
+    measured_read : (c : Data) (bytes : List ℕ) → IsContents c → IsMeasuredCertificate q c bytes → (z : Certified)
         → read_certificate bytes ≡ Ok z → map (λ (e : Line). e.bound) z.entries ≡ map (bound q) (morsels q c)
     measured_read c bytes right h z e =
         let v = (known.right_certificates q c bytes asked right).0 h.certificate in
@@ -111,14 +111,14 @@ merged_measured known cut morsels_of q texts papers asked merged list stations p
     let z = is_certificate known cut q list stations parts lists asked text are read in
     let data_are = zip-weaker (IsMeasuredPart q stations) (IsDataOf stations) parts ds (λ p d h. h.0) measured in
     let one = same_data stations parts (data_of_parts found.read) ds found.data_are data_are in
-    let us : List Usable = flat_map (morsels q) (data_of_parts found.read) in
+    let us : List Series = flat_map (morsels q) (data_of_parts found.read) in
     let lines = sorted-zip (IsMeasuredEntry q) (λ (a b : Line). id_comes_first a.id b.id) series_first
     (λ a x b y r t. ap₂ id_comes_first r.0 t.0) (entries_of_parts (parts_alone found.read)) us
     (measured_parts q known asked stations parts found.read found.right found.certificates_are
     (subst (AllZip (IsMeasuredPart q stations) parts) (sym one) measured)) in
     let series : morsels q dataset ≡ sorted_by series_first us =
     morsels_of q stations parts ds dataset data_are read apart
-    ∙ ap (λ (l : List Contents). sorted_by series_first (flat_map (morsels q) l)) (sym one) in
+    ∙ ap (λ (l : List Data). sorted_by series_first (flat_map (morsels q) l)) (sym one) in
     record {
       certificate = z.0;
       version = z.1;

@@ -1,8 +1,8 @@
 -- What is merged of parts says what is right of the whole, if the whole is cut into these parts.
 use Rattle.rank_merge.proofs.Cited.{ap₂, ◌≡◌, ℕ, ◌≤◌, ◌<◌, true, cond, List, [], ◌∷◌, ◌++◌, map, take, Option, Some}
 use Rattle.rank_merge.proofs.Cited.{refl, sym, ap, ◌∙◌, subst, arith, ℤ, int_lt, flat_map, AllByRecursion, AllZip}
-use Rattle.rank_merge.proofs.Cited.{map-append, take-map, sum_by-IsPermutation, sorted-map, sorted_by, Station, Usable}
-use Rattle.rank_merge.proofs.Cited.{Contents, IsContents, each-append, zip-weaker, Asked, IsAsked, Candidate}
+use Rattle.rank_merge.proofs.Cited.{map-append, take-map, sum_by-IsPermutation, sorted-map, sorted_by, Station, Series}
+use Rattle.rank_merge.proofs.Cited.{Data, IsContents, each-append, zip-weaker, Query, IsAsked, Candidate}
 use Rattle.rank_merge.proofs.Cited.{bound_is_below, IsSameFor, series_first, all_candidates, morsels, id_comes_first}
 use Rattle.rank_merge.proofs.Cited.{best_of_query, kth_of_query, all_apart, first, kth, above, comes_first}
 use Rattle.rank_merge.proofs.Cited.{above-append, below_kth, best-first, kth_score-kth, Named, SaysRightReport, name_of}
@@ -19,16 +19,16 @@ use Rattle.rank_merge.proofs.Lists.{zip-append}
 
 -- a part and its data
 abbrev pub WithData : Type 0
-WithData = Contents × Part
+WithData = Data × Part
 
 -- what a part says is right of its data
-pub record IsRightPart (q : Asked) (p : WithData) : Type 0 where
+pub record IsRightPart (q : Query) (p : WithData) : Type 0 where
   pub contents : IsContents p.0
   pub report : SaysRightReport q p.0 p.1.report
   pub certificate : SaysRightCertificate q p.0 p.1.certificate
 
 -- the data of parts
-abbrev pub data_of_parts : List WithData → List Contents
+abbrev pub data_of_parts : List WithData → List Data
 data_of_parts ps = map (λ p. p.0) ps
 
 -- the parts without their data
@@ -38,7 +38,7 @@ parts_alone ps = map (λ p. p.1) ps
 -- ---- what is the same of parts and of the whole
 
 -- right entries of series are right entries of other series that are the same for the query
-zip_moved : (q : Asked) (kth : Option ℤ) (es : List Line) (us vs : List Usable) → AllZip (IsRightEntry q kth) es us
+zip_moved : (q : Query) (kth : Option ℤ) (es : List Line) (us vs : List Series) → AllZip (IsRightEntry q kth) es us
     → AllZip (IsSameFor q) us vs → AllZip (IsRightEntry q kth) es vs
 zip_moved q kth [] [] [] h k = tt
 zip_moved q kth [] [] (v ∷ vs) h k = absurd k
@@ -55,7 +55,7 @@ below_others k b xs ys o p some e f fewer h =
     rw f ((below_kth k b ys some).1 (omega arith))
 
 -- the first k candidates of all rows of right parts are those of all candidates of the parts
-firsts_of_parts : (q : Asked) (ps : List WithData) → AllByRecursion (IsRightPart q) ps
+firsts_of_parts : (q : Query) (ps : List WithData) → AllByRecursion (IsRightPart q) ps
     → first q.k (of_rows (rows_of (parts_alone ps))) ≡ first q.k (flat_map (all_candidates q) (data_of_parts ps))
 firsts_of_parts q [] h = refl
 firsts_of_parts q (p ∷ ps) h =
@@ -67,7 +67,7 @@ firsts_of_parts q (p ∷ ps) h =
     ∙ ap (λ (l : List Candidate). first q.k (xs ++ l)) (firsts_of_parts q ps h.1)
     ∙ first-first_right q.k xs (flat_map (all_candidates q) (data_of_parts ps))
 
-module _ (q : Asked) (c : Contents) (asked : IsAsked q) (right : IsContents c) (ps : List WithData)
+module _ (q : Query) (c : Data) (asked : IsAsked q) (right : IsContents c) (ps : List WithData)
     (cut : IsCut q c (data_of_parts ps)) (parts : AllByRecursion (IsRightPart q) ps) where
   -- the merged rows are the best
   pub merged_best : of_rows (merged_rows q.k (parts_alone ps)) ≡ best_of_query q c
@@ -110,7 +110,7 @@ module _ (q : Asked) (c : Contents) (asked : IsAsked q) (right : IsContents c) (
   -- so the merged lines are right entries of the morsels
   pub merged_entries_right : AllZip (IsRightEntry q kth_all) (merged_entries (parts_alone ps)) (morsels q c)
   merged_entries_right =
-      let us : List Usable = flat_map (morsels q) (data_of_parts ps) in
+      let us : List Series = flat_map (morsels q) (data_of_parts ps) in
       zip_moved q kth_all (merged_entries (parts_alone ps)) (sorted_by series_first us) (morsels q c)
       (sorted-zip (IsRightEntry q kth_all) (λ (a b : Line). id_comes_first a.id b.id) series_first
       (λ a x b y r t. ap₂ id_comes_first r.named t.named) (entries_of_parts (parts_alone ps)) us

@@ -3,7 +3,7 @@ use Rattle.rank_merge.proofs.Cited.{◌≡◌, inr, ℕ, suc, Bool, false, cond,
 use Rattle.rank_merge.proofs.Cited.{Ok, Err, refl, sym, ap, ◌∙◌, subst, arith, ap₂, ◌↔◌, list_any, AllByRecursion}
 use Rattle.rank_merge.proofs.Cited.{AllZip, find, cons_option, le-leb, length-take, map-append, IsPermutation}
 use Rattle.rank_merge.proofs.Cited.{IsPermutation-sym, IsPermutation-map, IsRefusal, OrMemory, Station, StationId}
-use Rattle.rank_merge.proofs.Cited.{same_id, same_id-turned, Contents, IsContents, each-append, Asked, IsAsked, Filed}
+use Rattle.rank_merge.proofs.Cited.{same_id, same_id-turned, Data, IsContents, each-append, Query, IsAsked, Filed}
 use Rattle.rank_merge.proofs.Cited.{IsDataOf, morsel_ids, CutByFiles, id_comes_first, IsFoundReport, report_text}
 use Rattle.rank_merge.proofs.Cited.{with_stations, IsReportOf, IsRow, SaysRightReport, Reported, Line, IsFoundCertificate}
 use Rattle.rank_merge.proofs.Cited.{SaysRightCertificate, certificate_text, Certified, IsCertificateOf}
@@ -38,7 +38,7 @@ pub record Known : Type 0 where
   pub right_reports : RightReportsSayRight
   pub heads : HeadsAreRight
 
-module _ (known : Known) (q : Asked) (asked : IsAsked q) (list : List ℕ) (stations : List Station)
+module _ (known : Known) (q : Query) (asked : IsAsked q) (list : List ℕ) (stations : List Station)
     (lists : listed list ≡ Ok stations) where
   -- a right part passes that is read of texts
   passes : (n : ℕ) (texts : Texts) (w : WithData) → IsRightPart q w → IsReportOf w.1.report texts.0
@@ -108,13 +108,13 @@ once_apart (e ∷ es) = (
 )
 
 -- the IDs of the lines of all parts are those of their morsels
-part_ids : (q : Asked) (ws : List WithData) → AllByRecursion (IsRightPart q) ws
+part_ids : (q : Query) (ws : List WithData) → AllByRecursion (IsRightPart q) ws
     → ids_of (entries_of_parts (parts_alone ws)) ≡ morsel_ids q (data_of_parts ws)
 part_ids q [] h = refl
 part_ids q (w ∷ ws) h = grind (arith, ints, map-append, parts_alone ws, zip-same, part_ids q ws h.1, data_of_parts ws)
 
 -- no ID is found twice if and only if no station has morsels in two parts
-parts_apart : (q : Asked) (ws : List WithData) → AllByRecursion (IsRightPart q) ws
+parts_apart : (q : Query) (ws : List WithData) → AllByRecursion (IsRightPart q) ws
     → (twice (merged_entries (parts_alone ws)) ≡ None) ↔ IsDistinct same_id (morsel_ids q (data_of_parts ws))
 parts_apart q ws right =
     let lines : List Line = entries_of_parts (parts_alone ws) in
@@ -140,7 +140,7 @@ rows_are stations (x ∷ xs) h =
     (with_stations stations (map (λ row. row.0) xs))) h.0)
 
 -- so two right reports are the same
-pub one_report : (q : Asked) (c : Contents) (a b : List ℕ) → IsFoundReport q c a → IsFoundReport q c b → a ≡ b
+pub one_report : (q : Query) (c : Data) (a b : List ℕ) → IsFoundReport q c a → IsFoundReport q c b → a ≡ b
 one_report q c a b h k =
     let same : h.rows ≡ k.rows = rows_are c.stations h.rows h.listed
     ∙ ap (with_stations c.stations) (h.best ∙ sym k.best) ∙ sym (rows_are c.stations k.rows k.listed) in
@@ -149,13 +149,13 @@ one_report q c a b h k =
 -- ---- the theorem
 
 -- texts that are returned are those of the parts, and no two lines have one ID
-answered : (q : Asked) (ps : List Part) (t : Texts) (o : Option StationId) → papers_unless o q ps ≡ Ok t
+answered : (q : Query) (ps : List Part) (t : Texts) (o : Option StationId) → papers_unless o q ps ≡ Ok t
     → (o ≡ None) × ((report_text q (merged_report q ps).rows, certificate_text (merged_certificate q ps)) ≡ t)
 answered q ps t (Some id) h = absurd cc
 answered q ps t None h = (refl, cc)
 
-module _ (known : Known) (cut : CutByFiles) (q : Asked) (list : List ℕ) (stations : List Station)
-    (parts : List Filed) {dataset : Contents} {papers : Texts} (lists : listed list ≡ Ok stations) (asked : IsAsked q)
+module _ (known : Known) (cut : CutByFiles) (q : Query) (list : List ℕ) (stations : List Station)
+    (parts : List Filed) {dataset : Data} {papers : Texts} (lists : listed list ≡ Ok stations) (asked : IsAsked q)
     (merged : merge q (all_texts parts) ≡ Ok papers) (are : AreAllParts q stations parts)
     (read : data_of stations (all_files parts) ≡ Ok dataset) where
   -- all parts
@@ -215,7 +215,7 @@ merged_right known cut q texts papers asked merged list stations parts dataset l
 -- ---- when right parts are refused
 
 -- the data of files are one
-pub same_data : (stations : List Station) (parts : List Filed) (ds es : List Contents)
+pub same_data : (stations : List Station) (parts : List Filed) (ds es : List Data)
     → AllZip (IsDataOf stations) parts ds → AllZip (IsDataOf stations) parts es → ds ≡ es
 same_data stations [] [] [] h k = refl
 same_data stations [] [] (e ∷ es) h k = absurd k
@@ -229,7 +229,7 @@ pub right_merged : Known → RightAreMerged
 right_merged known q list stations parts ds asked lists are dataset =
     let all = read_all known q asked list stations lists 1 parts are in
     let same = same_data stations parts (data_of_parts all.read) ds all.data_are dataset in
-    subst (λ (l : List Contents). IsRightOutcome q l (merge q (all_texts parts))) same
+    subst (λ (l : List Data). IsRightOutcome q l (merge q (all_texts parts))) same
     (subst (IsRightOutcome q (data_of_parts all.read)) (sym (ap (papers_of q) all.passed))
     (by all.read all.right (twice (merged_entries (parts_alone all.read))) refl))
   where
@@ -242,12 +242,12 @@ right_merged known q list stations parts ds asked lists are dataset =
         ((id, refl), λ apart. absurd (let no : None ≡ Some id = sym ((parts_apart q ws right).1 apart) ∙ e in cc))
 
 -- so it is said of the outcome that there is
-pub outcome_told : RightAreMerged → (q : Asked) (texts : List Texts) (outcome : Result Texts MergeFault) → IsAsked q
+pub outcome_told : RightAreMerged → (q : Query) (texts : List Texts) (outcome : Result Texts MergeFault) → IsAsked q
     → merge q texts ≡ outcome → IsOutcomeWhereRight q texts outcome
 outcome_told law q texts outcome asked is list stations parts ds lists same are dataset = grind (arith, ints)
 
 -- and of a refusal, unless memory ran out
-pub refusal_told : RightAreMerged → (q : Asked) (texts : List Texts) (why : MergeFault) → IsAsked q
+pub refusal_told : RightAreMerged → (q : Query) (texts : List Texts) (why : MergeFault) → IsAsked q
     → IsRefusal is_memory why (merge q texts)
     → OrMemory is_memory (λ (w : MergeFault). IsOutcomeWhereRight q texts (Err w)) why
 refusal_told law q texts why asked h = grind (arith, ints, unless_memory, outcome_told)

@@ -1,7 +1,7 @@
 -- Parts that are read one after the other.
 use Rattle.rank_merge.proofs.Cited.{◌≡◌, ℕ, suc, ◌+◌, ◌<◌, List, [], ◌∷◌, ◌++◌, length, map, Result, Ok, Err, Bool}
 use Rattle.rank_merge.proofs.Cited.{true, false, take, drop, get_or, refl, ap, ◌∙◌, arith, ap₂, map-append, length-map}
-use Rattle.rank_merge.proofs.Cited.{length-take, map_more, drop_more, take-append-drop, flat_map_more, IsRefusal, Asked}
+use Rattle.rank_merge.proofs.Cited.{length-take, map_more, drop_more, take-append-drop, flat_map_more, IsRefusal, Query}
 use Rattle.rank_merge.proofs.Cited.{named_in, Line, MergeFault, Part, rows_of, first_rows, Texts, part_of, and_parts}
 use Rattle.rank_merge.proofs.Cited.{parts_from, is_memory, AreOfParts, IsFloor, part_in, ints}
 use Rattle.std.specs.Bool.{OnFalse}
@@ -31,7 +31,7 @@ then-one (Ok p) (Err why) s = refl
 then-one (Ok p) (Ok ps) (Err why) = refl
 then-one (Ok p) (Ok ps) (Ok qs) = refl
 
-module _ (q : Asked) where
+module _ (q : Query) where
   -- what is read of texts, and then of others
   parts_from-append : (n : ℕ) (ts us : List Texts)
       → parts_from q n (ts ++ us) ≡ then_parts (parts_from q n ts) (parts_from q (n + length ts) us)
@@ -59,7 +59,7 @@ pub unless_memory : {P Q : Type 0} (b : Bool) → (P → Q) → OnFalse b P → 
 unless_memory true f h = h
 unless_memory false f h = f h
 
-module _ {X : Type 0} (q : Asked) (f : X → Texts) (xs : List X) (i : ℕ) (d : X) (below : i < length xs) where
+module _ {X : Type 0} (q : Query) (f : X → Texts) (xs : List X) (i : ℕ) (d : X) (below : i < length xs) where
   -- that many are made of those before a place
   number_before : 1 + length (map f (take i xs)) ≡ i + 1
   number_before = omega (arith, length-map (take i xs) f, length-take i xs, below)

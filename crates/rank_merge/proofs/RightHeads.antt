@@ -1,8 +1,8 @@
 -- A report and a certificate that say what is right have a right head.
 use Rattle.rank_merge.proofs.Cited.{ap₂, comes_first, ◌≡◌, ℕ, zero, suc, true, false, List, [], ◌∷◌, take, filter}
 use Rattle.rank_merge.proofs.Cited.{Option, Some, None, refl, sym, ap, ◌∙◌, ℤ, arith, ◌⊎◌, inl, inr, subst, ◌≤ℤ◌}
-use Rattle.rank_merge.proofs.Cited.{int_lt, AllByRecursion, AllZip, ints, Descend, same_id-laws, Usable, Contents}
-use Rattle.rank_merge.proofs.Cited.{IsContents, Asked, IsAsked, Candidate, series_first, precedes, bound_is_below}
+use Rattle.rank_merge.proofs.Cited.{int_lt, AllByRecursion, AllZip, ints, Descend, same_id-laws, Series, Data}
+use Rattle.rank_merge.proofs.Cited.{IsContents, Query, IsAsked, Candidate, series_first, precedes, bound_is_below}
 use Rattle.rank_merge.proofs.Cited.{admitted_series, has_admitted, morsels, all_candidates, best_of_query, kth_of_query}
 use Rattle.rank_merge.proofs.Cited.{Named, Line, IsRightEntry, Certified, SaysRightCertificate, kth_of_best, counts_of}
 use Rattle.rank_merge.proofs.Cited.{of_rows, IsRightHead, take-all, sorted-all, all_apart, candidates-own, morsels_rise}
@@ -46,7 +46,7 @@ first_not_below (suc j) xs cs o e f = rw (e, f) (none_below (in_order xs) j (in_
 -- ---- morsels by rising ID
 
 -- entries rise that name series of which each has an ID below those of all after it
-entries_rise : (q : Asked) (kth : Option ℤ) (es : List Line) (us : List Usable) → AllZip (IsRightEntry q kth) es us
+entries_rise : (q : Query) (kth : Option ℤ) (es : List Line) (us : List Series) → AllZip (IsRightEntry q kth) es us
     → Descend (λ a b. stands_before a.id b.id ≡ true) us → IdsRise es
 entries_rise q kth [] us h k = tt
 entries_rise q kth (e ∷ []) us h k = tt
@@ -78,7 +78,7 @@ below_kth : (k : Option ℤ) (a b : ℤ) → a ≤ℤ b → bound_is_below k b �
 below_kth None a b h e = absurd cc
 below_kth (Some s) a b h e = grind (arith, ints)
 
-module _ (q : Asked) (k : Option ℤ) (all : List Line) where
+module _ (q : Query) (k : Option ℤ) (all : List Line) where
   -- a candidate belongs to a series that was scanned, or scores below the k-th
   abbrev IsSeen : Candidate → Type 0
   IsSeen d = (is_scanned all d.id ≡ true) ⊎ (bound_is_below k d.score ≡ true)
@@ -92,11 +92,11 @@ module _ (q : Asked) (k : Option ℤ) (all : List Line) where
   ] refl
 
   -- all candidates of a series are seen
-  abbrev AllSeen : Usable → Type 0
+  abbrev AllSeen : Series → Type 0
   AllSeen u = AllByRecursion IsSeen (candidates q u)
 
   -- so it is with all series of right lines
-  seen_morsels : (es : List Line) (us : List Usable) → AllZip (IsRightEntry q k) es us → AllByRecursion (Scans all) es
+  seen_morsels : (es : List Line) (us : List Series) → AllZip (IsRightEntry q k) es us → AllByRecursion (Scans all) es
       → AllByRecursion AllSeen us
   seen_morsels es [] h s = tt
   seen_morsels [] (u ∷ us) h s = absurd h
@@ -115,7 +115,7 @@ module _ (q : Asked) (k : Option ℤ) (all : List Line) where
 
 -- ---- the head
 
-module _ (q : Asked) (c : Contents) (asked : IsAsked q) (right : IsContents c) where
+module _ (q : Query) (c : Data) (asked : IsAsked q) (right : IsContents c) where
   -- the best are the first in order
   pub best_are : best_of_query q c ≡ take q.k (in_order (all_candidates q c))
   best_are = best-first q.k (all_candidates q c) (all_apart q c right)
@@ -125,7 +125,7 @@ module _ (q : Asked) (c : Contents) (asked : IsAsked q) (right : IsContents c) w
       → cs ≡ first q.k (all_candidates q c) → AllByRecursion (IsSeen q (kth_of_query q c) es) cs
   first_seen es cs h e =
       let Seen : Candidate → Type 0 = IsSeen q (kth_of_query q c) es in
-      let series : List Usable = filter (has_admitted q) (admitted_series q c) in
+      let series : List Series = filter (has_admitted q) (admitted_series q c) in
       let of_series = each-unsorted (AllSeen q (kth_of_query q c) es) series_first series
       (seen_morsels q (kth_of_query q c) es es (morsels q c) h (for_each (Scans es) es (scans es))) in
       let all = subst (AllByRecursion Seen) (asked_alone q (admitted_series q c))

@@ -2,7 +2,7 @@
 use Rattle.std.proofs.Common.{Bor}
 use Rattle.std.specs.Prelude.{◌≡◌, ◌≤◌, ℕ, true, List, ◌++◌, map, Option, None, Some, Ok, IfSome}
 use Rattle.std.specs.List.{AllByRecursion, count_by}
-use Rattle.rank_query.specs.Meaning.Asked.{Asked}
+use Rattle.rank_query.specs.Meaning.Asked.{Query}
 use Rattle.rank_scores.specs.declared.candidate.Candidate.{Candidate}
 use Rattle.rank_pool.specs.First.{comes_first}
 use Rattle.rank_papers.specs.Report.{Named}
@@ -44,7 +44,7 @@ IsCut None all kept = kept ≡ all
 IsCut (Some f) all kept = IsCutBehind f all kept
 
 -- the lines of the parts with these texts, one part after the other, and rows whose first k are those of all their rows
-pub record AreOfParts (q : Asked) (texts : List Texts) (all : Gathered) : Type 0 where
+pub record AreOfParts (q : Query) (texts : List Texts) (all : Gathered) : Type 0 where
   pub parts : List Part
   pub read : parts_from q 1 texts ≡ Ok parts
   pub rows : first_rows q.k (map named_in all.rows.items) ≡ merged_rows q.k parts

@@ -2,7 +2,7 @@
 use Rattle.std.specs.Prelude.{ℕ, List, take}
 use Rattle.std.specs.List.{flat_map}
 use Rattle.ghcn_fields.specs.Sorting.{sorted_by}
-use Rattle.rank_query.specs.Meaning.Asked.{Asked}
+use Rattle.rank_query.specs.Meaning.Asked.{Query}
 use Rattle.rank_scores.specs.Morsels.{id_comes_first}
 use Rattle.rank_pool.specs.First.{comes_first}
 use Rattle.rank_papers.specs.Report.{Named}
@@ -50,11 +50,11 @@ abbrev pub merged_entries : List Part → List Line
 merged_entries ps = by_id (entries_of_parts ps)
 
 -- what the report of all says
-abbrev pub merged_report : Asked → List Part → Reported
+abbrev pub merged_report : Query → List Part → Reported
 merged_report q ps = record { query = q; rows = merged_rows q.k ps }
 
 -- what the certificate of all says, in version 2: the k-th score and the counts are those of the merged rows
-abbrev pub merged_certificate : Asked → List Part → Certified
+abbrev pub merged_certificate : Query → List Part → Certified
 merged_certificate q ps = record {
   version = 2;
   query = q;

@@ -4,7 +4,7 @@ use Rattle.std.specs.Prelude.{Err}
 use Rattle.std.specs.List.{list_any}
 use Rattle.ghcn_files.specs.declared.station.StationId.{StationId}
 use Rattle.ghcn_files.specs.Meaning.Ids.{same_id}
-use Rattle.rank_query.specs.Meaning.Asked.{Asked}
+use Rattle.rank_query.specs.Meaning.Asked.{Query}
 use Rattle.rank_papers.specs.Meaning.Report.{report_text}
 use Rattle.rank_papers.specs.declared.fault.Paper.{Paper}
 use Rattle.rank_papers.specs.declared.fault.Paper.TheVariants.{Report, Certificate}
@@ -48,12 +48,12 @@ unless_fault part None p = Ok p
 unless_fault part (Some fault) p = Err (of_head part fault)
 
 -- what the report and the certificate of the part of this number say, unless its head is refused
-abbrev pub with_right_head : Asked → ℕ → Result Part MergeFault → Result Part MergeFault
+abbrev pub with_right_head : Query → ℕ → Result Part MergeFault → Result Part MergeFault
 with_right_head q part (Err why) = Err why
 with_right_head q part (Ok p) = unless_fault part (head_fault q p.report p.certificate) p
 
 -- the part of this number, from 1, with these texts, or why it is refused
-abbrev pub part_of : Asked → ℕ → Texts → Result Part MergeFault
+abbrev pub part_of : Query → ℕ → Texts → Result Part MergeFault
 part_of q part t = with_right_head q part (said part (read_papers t.0 t.1))
 
 -- ---- all parts
@@ -65,7 +65,7 @@ and_parts (Ok p) (Err why) = Err why
 and_parts (Ok p) (Ok ps) = Ok (p ∷ ps)
 
 -- the parts with these texts, the first of which has this number, or the refusal of the first that is refused
-abbrev pub parts_from : Asked → ℕ → List Texts → Result (List Part) MergeFault
+abbrev pub parts_from : Query → ℕ → List Texts → Result (List Part) MergeFault
 parts_from q part [] = Ok []
 parts_from q part (t ∷ ts) = and_parts (part_of q part t) (parts_from q (suc part) ts)
 
@@ -75,18 +75,18 @@ twice [] = None
 twice (e ∷ es) = if list_any (λ f. same_id e.id f.id) es then Some e.id else twice es
 
 -- the report and the certificate of all, unless two lines have one ID
-abbrev pub papers_unless : Option StationId → Asked → List Part → Result Texts MergeFault
+abbrev pub papers_unless : Option StationId → Query → List Part → Result Texts MergeFault
 papers_unless (Some id) q ps = Err (Twice id)
 papers_unless None q ps =
     Ok (report_text q (merged_rows q.k ps), certificate_text (merged_certificate q ps))
 
 -- the report and the certificate of all parts, or the refusal of a part, or of the smallest ID that two lines have
-abbrev pub papers_of : Asked → Result (List Part) MergeFault → Result Texts MergeFault
+abbrev pub papers_of : Query → Result (List Part) MergeFault → Result Texts MergeFault
 papers_of q (Err why) = Err why
 papers_of q (Ok ps) = papers_unless (twice (merged_entries ps)) q ps
 
 -- the report and the certificate of all files from the texts of the parts, or why these are refused
-abbrev pub merge : Asked → List Texts → Result Texts MergeFault
+abbrev pub merge : Query → List Texts → Result Texts MergeFault
 merge q ts = papers_of q (parts_from q 1 ts)
 
 -- ---- what is returned

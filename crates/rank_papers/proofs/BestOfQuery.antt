@@ -11,10 +11,10 @@ use Rattle.std.proofs.lemmas.List.Sorted.{IsPermutation-sym}
 use Rattle.ghcn_files.proofs.Ordered.{Descend, descend-weaker}
 use Rattle.ghcn_series.proofs.ListFacts.{each-append}
 use Rattle.ghcn_series.proofs.Members.{In, contains-in, in-contains, of_one, for_each, in_all, in_permuted}
-use Rattle.ghcn_series.specs.Meaning.Series.{Usable}
-use Rattle.ghcn_series.specs.Series.{Contents, IsSeries}
+use Rattle.ghcn_series.specs.Meaning.Series.{Series}
+use Rattle.ghcn_series.specs.Series.{Data, IsSeries}
 use Rattle.ghcn_series.specs.Held.{IsContents}
-use Rattle.rank_query.specs.Meaning.Asked.{Asked, IsAsked}
+use Rattle.rank_query.specs.Meaning.Asked.{Query, IsAsked}
 use Rattle.rank_scores.specs.declared.candidate.Candidate.{Candidate}
 use Rattle.rank_scores.specs.Candidates.{candidates}
 use Rattle.rank_scores.specs.Meaning.Order.{precedes, rank_cmp}
@@ -185,7 +185,7 @@ module _ (R : Candidate → Candidate → Type 0) where
 -- ---- the best of a query
 
 -- the first k of its candidates by rank are the best
-top_best : (q : Asked) (IsOne : Usable → Type 0) (best : List Candidate) → AreTop Ranked (IsOfQuery q IsOne) q.k best
+top_best : (q : Query) (IsOne : Series → Type 0) (best : List Candidate) → AreTop Ranked (IsOfQuery q IsOne) q.k best
     → AreBest q IsOne best
 top_best q IsOne best t = record {
   few = t.few;
@@ -200,7 +200,7 @@ top_best q IsOne best t = record {
     by x (inr all) = inr all
 
 -- and the best are the first k as they are listed
-best_top : (q : Asked) (IsOne : Usable → Type 0) (best : List Candidate) → AreBest q IsOne best
+best_top : (q : Query) (IsOne : Series → Type 0) (best : List Candidate) → AreBest q IsOne best
     → AreTop Before (IsOfQuery q IsOne) q.k best
 best_top q IsOne best b = record {
   few = b.few;
@@ -216,10 +216,10 @@ best_top q IsOne best b = record {
         inr (all.0, from_each (λ b. Ranked b x) (λ b. Before b x) best (λ b. ranked_before b x) all.1)
 
 -- so there is one list of the best
-pub best_are_one : (q : Asked) (IsOne : Usable → Type 0) → HaveOneBest q IsOne
+pub best_are_one : (q : Query) (IsOne : Series → Type 0) → HaveOneBest q IsOne
 best_are_one q IsOne a b s t = one_top (IsOfQuery q IsOne) q.k a b (best_top q IsOne a s) (best_top q IsOne b t)
 
-module _ (q : Asked) (c : Contents) (asked : IsAsked q) (right : IsContents c) where
+module _ (q : Query) (c : Data) (asked : IsAsked q) (right : IsContents c) where
   -- the series of the query are right
   series_right : AllByRecursion IsSeries (admitted_series q c)
   series_right = series_hold IsSeries q c right.series.right
@@ -233,7 +233,7 @@ module _ (q : Asked) (c : Contents) (asked : IsAsked q) (right : IsContents c) w
       (contains-in (candidates q s) x ((exactly q s series asked x).1 is))
 
   -- the candidates of some of the query's series are candidates of the query
-  each_of_query : (ss : List Usable) → AllByRecursion (In (admitted_series q c)) ss → AllByRecursion IsSeries ss
+  each_of_query : (ss : List Series) → AllByRecursion (In (admitted_series q c)) ss → AllByRecursion IsSeries ss
       → AllByRecursion (IsOfQuery q (IsHeldSeries q c)) (flat_map (candidates q) ss)
   each_of_query [] are series = tt
   each_of_query (s ∷ ss) are series =

@@ -9,11 +9,11 @@ use Rattle.std.proofs.lemmas.Bool.Decides.{nat_tests}
 use Rattle.std.proofs.lemmas.Int.{ints}
 use Rattle.ghcn_fields.specs.Meaning.Days.{is_day, is_within}
 use Rattle.ghcn_files.specs.declared.station.StationId.{StationId}
-use Rattle.ghcn_series.specs.Meaning.Series.{DayValue, Usable, value_on}
+use Rattle.ghcn_series.specs.Meaning.Series.{DayValue, Series, value_on}
 use Rattle.ghcn_series.proofs.ListFacts.{all-filter}
 use Rattle.rank_query.specs.declared.score.Score.{Score}
 use Rattle.rank_query.specs.declared.score.Score.TheVariants.{Highest, Lowest, Sum, Dry, Wet, Hot, Cold}
-use Rattle.rank_query.specs.Meaning.Asked.{Asked, IsAsked, is_score, is_fall}
+use Rattle.rank_query.specs.Meaning.Asked.{Query, IsAsked, is_score, is_fall}
 use Rattle.rank_query.specs.Meaning.Admits.{admits_day, period_holds, season_holds}
 use Rattle.rank_scores.specs.declared.candidate.Candidate.{Candidate}
 use Rattle.rank_scores.specs.Runs.{run_from, run_len, begins_run}
@@ -101,7 +101,7 @@ sum_parts None b t e = absurd cc
 sum_parts (Some v) None t e = absurd cc
 sum_parts (Some v) (Some w) t e = (v, w, refl, refl)
 
-module _ (q : Asked) (days : List DayValue) where
+module _ (q : Query) (days : List DayValue) where
   -- the admitted ones of these days
   abbrev own : List DayValue
   own = admitted_among q days
@@ -196,7 +196,7 @@ module _ (q : Asked) (days : List DayValue) where
       ] refl
 
 -- the candidates of a series begin and end on days of the calendar
-pub candidates_of_days : (q : Asked) (s : Usable) → IsAsked q → AllByRecursion IsOfDays (candidates q s)
+pub candidates_of_days : (q : Query) (s : Series) → IsAsked q → AllByRecursion IsOfDays (candidates q s)
 candidates_of_days q s asked =
     all-filter IsOfDays _ (contenders q s)
     (each_begun q s.days s.id (shape q.score) (admitted_among q s.days) (own_days q s.days s.days)

@@ -1,6 +1,6 @@
 -- Where the reading of a certificate ends is its first bad line.
 use Rattle.std.proofs.Common.{ℕ, None, refl, sym, ◌∙◌}
-use Rattle.rank_query.specs.Meaning.Asked.{Asked}
+use Rattle.rank_query.specs.Meaning.Asked.{Query}
 use Rattle.rank_papers.specs.Meaning.Report.{query_line}
 use Rattle.rank_papers.specs.Meaning.Certificate.{title_line, kth_line, end_line}
 use Rattle.rank_papers.specs.Certificate.{certificate_text}
@@ -18,7 +18,7 @@ entries_in_order : (w : ℕ) → IsInOrder (entries_in w 0) 4
 entries_in_order w = values_in_order 4 (λ m. entry_in w) end_line (λ n. entry_in-end n w)
 
 -- so are a k-th score and entries
-behind_query_in_order : (w : ℕ) (q : Asked) → IsInOrder (behind_query w q) 3
+behind_query_in_order : (w : ℕ) (q : Query) → IsInOrder (behind_query w q) 3
 behind_query_in_order w q = by_line kth_in (λ k. entries_in w 0) (with_entries w q) (behind_query w q) 3 (record {
   none = refl;
   some = λ l ls. refl;

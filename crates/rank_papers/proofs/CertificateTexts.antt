@@ -13,7 +13,7 @@ use Rattle.std.specs.Fmt.{signed_decimal}
 use Rattle.ghcn_fields.proofs.Decimals.{up_to-fits}
 use Rattle.ghcn_files.specs.Meaning.Ids.{is_visible}
 use Rattle.ghcn_files.specs.Meaning.StationLines.{is_printable}
-use Rattle.rank_query.specs.Meaning.Asked.{Asked}
+use Rattle.rank_query.specs.Meaning.Asked.{Query}
 use Rattle.rank_query.specs.Meaning.QueryTexts.{query_text}
 use Rattle.rank_query.proofs.CanonicalTexts.{canonical}
 use Rattle.rank_papers.specs.declared.counted.Counted.{Counted}
@@ -320,7 +320,7 @@ written_read v is =
     omega (arith, length-counted v.entries v.counts) in
     ap (λ (o : Option ℕ). option_map_or (λ x. behind_title x (query_line v.query ∷ kth_line v.kth ∷ entries)) o
     (Err 1)) (version_in-title v.version v.entries v.counts is.counts)
-    ∙ ap (λ (o : Option Asked). option_map_or (λ q. behind_query w q (kth_line v.kth ∷ entries)) o (Err 2))
+    ∙ ap (λ (o : Option Query). option_map_or (λ q. behind_query w q (kth_line v.kth ∷ entries)) o (Err 2))
     (query_in-line v.query is.asked)
     ∙ ap (λ (o : Option (Option ℤ)). option_map_or (λ s. with_entries w v.query s (entries_in w 0 entries)) o (Err 3))
     (kth_in-line v.kth is.kth)

@@ -10,7 +10,7 @@ use Rattle.ghcn_fields.specs.Meaning.Bytes.{same_bytes}
 use Rattle.ghcn_fields.specs.Numbers.{natural, signed_by, up_to}
 use Rattle.std.specs.Fmt.{signed_decimal}
 use Rattle.ghcn_files.specs.Ids.{is_id}
-use Rattle.rank_query.specs.Meaning.Asked.{Asked}
+use Rattle.rank_query.specs.Meaning.Asked.{Query}
 use Rattle.rank_papers.specs.declared.counted.Counted.{Counted}
 use Rattle.rank_papers.specs.Meaning.Report.{query_line}
 use Rattle.rank_papers.specs.ReportLines.{first_word}
@@ -114,12 +114,12 @@ written v =
     ∷ (lines_by (λ n. entry_line v.version) 0 (counted v.entries v.counts) ++ end_line (length v.entries) ∷ [])
 
 -- a certificate with these lines
-abbrev pub with_lines : ℕ → Asked → Option ℤ → List Counted → Certified
+abbrev pub with_lines : ℕ → Query → Option ℤ → List Counted → Certified
 with_lines w q s ls =
     record { version = w; query = q; kth = s; entries = entries_of ls; counts = counts_in w ls }
 
 -- a certificate was made of entries
-with-some : (w : ℕ) (q : Asked) (s : Option ℤ) (r : Result (List Counted) ℕ) (v : Certified)
+with-some : (w : ℕ) (q : Query) (s : Option ℤ) (r : Result (List Counted) ℕ) (v : Certified)
     → with_entries w q s r ≡ Ok v → (ls : List Counted) × (r ≡ Ok ls) × (v ≡ with_lines w q s ls)
 with-some w q s (Ok ls) v h = (ls, refl, cc)
 with-some w q s (Err n) v h = absurd cc

@@ -7,10 +7,10 @@ use Rattle.std.specs.List.{AllByRecursion, AllZip, Contains, flat_map, count_by}
 use Rattle.std.proofs.lemmas.Int.{ints}
 use Rattle.ghcn_files.specs.declared.station.Station.{Station}
 use Rattle.ghcn_files.specs.Meaning.Ids.{same_id}
-use Rattle.ghcn_series.specs.Meaning.Series.{Usable}
-use Rattle.ghcn_series.specs.Series.{Contents, IsSeries}
+use Rattle.ghcn_series.specs.Meaning.Series.{Series}
+use Rattle.ghcn_series.specs.Series.{Data, IsSeries}
 use Rattle.ghcn_series.specs.Held.{IsContents}
-use Rattle.rank_query.specs.Meaning.Asked.{Asked, IsAsked}
+use Rattle.rank_query.specs.Meaning.Asked.{Query, IsAsked}
 use Rattle.rank_scores.specs.declared.candidate.Candidate.{Candidate}
 use Rattle.rank_scores.specs.Meaning.Candidates.{admitted}
 use Rattle.rank_scores.specs.Morsels.{admitted_series, all_candidates, best_of_query, kth_of_query, morsels}
@@ -94,7 +94,7 @@ lines_are version best es (inr two) =
     (lines_counted best es)
 
 -- what a certificate is, with the lines of its entries
-abbrev text_with : ℕ → Asked → Option ℤ → List Line → List ℕ → List ℕ
+abbrev text_with : ℕ → Query → Option ℤ → List Line → List ℕ → List ℕ
 text_with version q kth es lines =
     title_line version ++ query_line q ++ kth_line kth ++ lines ++ end_line (length es)
 
@@ -106,7 +106,7 @@ reports_found q c bytes asked right = (
       ((best_found q c h.0 asked right).1 h.1) h.2,
 )
 
-module _ (q : Asked) (c : Contents) (asked : IsAsked q) (right : IsContents c) where
+module _ (q : Query) (c : Data) (asked : IsAsked q) (right : IsContents c) where
   -- the series of the certificate are right
   morsels_right : AllByRecursion IsSeries (morsels q c)
   morsels_right =
@@ -120,7 +120,7 @@ module _ (q : Asked) (c : Contents) (asked : IsAsked q) (right : IsContents c) w
   kth_found = kth-best q.k (all_candidates q c) (some_asked q asked) (all_apart q c right)
 
   -- right entries are true
-  entries_true : (kth : Option ℤ) (es : List Line) (ss : List Usable) → AllByRecursion IsSeries ss
+  entries_true : (kth : Option ℤ) (es : List Line) (ss : List Series) → AllByRecursion IsSeries ss
       → AllZip (IsRightEntry q kth) es ss → AllZip (IsTrueEntry q kth) es ss
   entries_true kth [] [] series h = tt
   entries_true kth [] (s ∷ ss) series h = absurd h
@@ -136,7 +136,7 @@ module _ (q : Asked) (c : Contents) (asked : IsAsked q) (right : IsContents c) w
   )
 
   -- and true ones are right
-  entries_right : (kth : Option ℤ) (es : List Line) (ss : List Usable) → AllByRecursion IsSeries ss
+  entries_right : (kth : Option ℤ) (es : List Line) (ss : List Series) → AllByRecursion IsSeries ss
       → AllZip (IsTrueEntry q kth) es ss → AllZip (IsRightEntry q kth) es ss
   entries_right kth [] [] series h = tt
   entries_right kth [] (s ∷ ss) series h = absurd h
@@ -185,7 +185,7 @@ module _ (q : Asked) (c : Contents) (asked : IsAsked q) (right : IsContents c) w
           entries = h.entries;
           right = entries_right (kth_of_query q c) h.entries (morsels q c) morsels_right
               (subst (λ (k : Option ℤ). AllZip (IsTrueEntry q k) h.entries (morsels q c)) kth
-              (subst (λ (ss : List Usable). AllZip (IsTrueEntry q h.kth) h.entries ss) series h.right));
+              (subst (λ (ss : List Series). AllZip (IsTrueEntry q h.kth) h.entries ss) series h.right));
           text = h.text ∙ ap (text_with version q h.kth h.entries) (sym (lines_are version found h.entries h.known))
               ∙ λ i. certificate_text (record {
                 version = version;
@@ -207,7 +207,7 @@ certificates_found version q c bytes asked right = (
 
 -- ---- the same series
 
-module _ (q : Asked) (A B : Usable → Type 0) (same : (s : Usable) → A s ↔ B s) where
+module _ (q : Query) (A B : Series → Type 0) (same : (s : Series) → A s ↔ B s) where
   -- a candidate of a series of the one is that of a series of the other
   candidate-moved : (x : Candidate) → IsOfQuery q A x → IsOfQuery q B x
   candidate-moved x h = (h.0, (same h.0).0 h.1, h.2)
@@ -222,7 +222,7 @@ module _ (q : Asked) (A B : Usable → Type 0) (same : (s : Usable) → A s ↔ 
   }
 
   -- and so are the series with an admitted day
-  series-moved : (series : List Usable) → AreSeriesOf q A series → AreSeriesOf q B series
+  series-moved : (series : List Series) → AreSeriesOf q A series → AreSeriesOf q B series
   series-moved series is = record {
     are = λ s. (
       λ h. let there = (is.are s).0 h in ((same s).0 there.0, there.1),
@@ -260,11 +260,11 @@ turned e = (e.1, e.0)
 
 -- ---- what a query needs
 
-module _ (series : SeriesStay) (q : Asked) (c : Contents) where
+module _ (series : SeriesStay) (q : Query) (c : Data) where
   -- data of what a query needs hold the same series of it
-  needed : (s : Usable) → IsHeldSeries q (data_for q c) s ↔ IsHeldSeries q c s
+  needed : (s : Series) → IsHeldSeries q (data_for q c) s ↔ IsHeldSeries q c s
   needed s =
-      subst (λ (ss : List Usable). Contains (admitted_series q (data_for q c)) s ↔ Contains ss s) (series q c)
+      subst (λ (ss : List Series). Contains (admitted_series q (data_for q c)) s ↔ Contains ss s) (series q c)
       (λ h. h, λ h. h)
 
 -- so a report of what a query needs is that of all data

@@ -3,7 +3,7 @@ use Rattle.std.proofs.Common.{◌≡◌, ℕ, ◌+◌, ◌<◌, List, [], ◌∷
 use Rattle.std.proofs.Common.{arith, map}
 use Rattle.std.specs.List.{enumerate_from}
 use Rattle.std.proofs.lemmas.List.{take_more, length-map, map-append, length-take}
-use Rattle.rank_query.specs.Meaning.Asked.{Asked}
+use Rattle.rank_query.specs.Meaning.Asked.{Query}
 use Rattle.rank_papers.specs.declared.paper.Row.{Row}
 use Rattle.rank_papers.specs.Meaning.Report.{text_line, row_fields}
 use Rattle.rank_papers.specs.Report.{Named}
@@ -12,11 +12,11 @@ use Rattle.rank_papers.specs.ReportLines.{named_in}
 use Rattle.rank_papers.proofs.ReportRows.{rows-more}
 
 -- how far some rows have been written
-pub record HasGiven (q : Asked) (rows : List Row) (i : ℕ) (before paper : List ℕ) : Type 0 where
+pub record HasGiven (q : Query) (rows : List Row) (i : ℕ) (before paper : List ℕ) : Type 0 where
   pub text : paper ≡ before ++ rows_text q (enumerate_from 1 (map named_in (take i rows)))
 
 -- the next row was written
-pub HasGiven-more : (q : Asked) (rows : List Row) (i : ℕ) (row : Row) (before paper : List ℕ) → i < length rows
+pub HasGiven-more : (q : Query) (rows : List Row) (i : ℕ) (row : Row) (before paper : List ℕ) → i < length rows
     → row ≡ get_or rows i row → HasGiven q rows i before paper
     → HasGiven q rows (i + 1) before (paper ++ text_line (row_fields q (i + 1, named_in row)))
 HasGiven-more q rows i row before paper below at h =

@@ -7,7 +7,7 @@ use Rattle.std.specs.Cmp.Lexicographic.{bytes_decides}
 use Rattle.std.proofs.lemmas.Int.{ints}
 use Rattle.ghcn_fields.specs.Meaning.Bytes.{same_bytes}
 use Rattle.ghcn_files.specs.Meaning.StationLines.{is_printable}
-use Rattle.rank_query.specs.Meaning.Asked.{Asked, IsAsked}
+use Rattle.rank_query.specs.Meaning.Asked.{Query, IsAsked}
 use Rattle.rank_query.specs.Reading.{read_query}
 use Rattle.rank_query.proofs.ReadAsked.{read_asked}
 use Rattle.rank_papers.specs.Meaning.Report.{query_line}
@@ -86,12 +86,12 @@ cond-ok false r n v h = absurd cc
 -- ---- a query
 
 -- what was found in a query that was read
-ok_query-asked : {E : Type 0} (r : Result Asked E) (q : Asked) → ok_query r ≡ Some q → r ≡ Ok q
+ok_query-asked : {E : Type 0} (r : Result Query E) (q : Query) → ok_query r ≡ Some q → r ≡ Ok q
 ok_query-asked (Ok p) q h = let same : p ≡ q = cc in ap Ok same
 ok_query-asked (Err e) q h = absurd cc
 
 -- a query that is read of a text can be asked
-text-asked : (text : List ℕ) (q : Asked) → query_of_text text ≡ Some q → IsAsked q
+text-asked : (text : List ℕ) (q : Query) → query_of_text text ≡ Some q → IsAsked q
 text-asked text q h = elim (list_all is_printable text) as (λ b. cond b (ok_query (read_query text)) None ≡ Some q
     → IsAsked q) [
       | true ↦ λ f. read_asked text q (ok_query-asked (read_query text) q f)
@@ -99,7 +99,7 @@ text-asked text q h = elim (list_all is_printable text) as (λ b. cond b (ok_que
     ] h
 
 -- a query that is read of a line can be asked, and its line is this one
-pub query_in-is : (line : List ℕ) (q : Asked) → query_in line ≡ Some q → IsAsked q × (line ≡ query_line q)
+pub query_in-is : (line : List ℕ) (q : Query) → query_in line ≡ Some q → IsAsked q × (line ≡ query_line q)
 query_in-is line q h =
     let parts = exactly-some query_line line (query_of_text (slice_range line 6 (length line - 1))) q h in
     (text-asked (slice_range line 6 (length line - 1)) q parts.0, parts.1)

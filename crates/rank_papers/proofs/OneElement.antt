@@ -2,9 +2,9 @@
 -- k-th score and the same morsels the same report and the same certificates are right.
 use Rattle.std.proofs.Common.{◌≡◌, ℕ, List, map, Option, refl, sym, ap, ◌∙◌, subst, ℤ}
 use Rattle.std.specs.List.{AllZip}
-use Rattle.ghcn_series.specs.Meaning.Series.{Usable}
-use Rattle.ghcn_series.specs.Series.{Contents}
-use Rattle.rank_query.specs.Meaning.Asked.{Asked}
+use Rattle.ghcn_series.specs.Meaning.Series.{Series}
+use Rattle.ghcn_series.specs.Series.{Data}
+use Rattle.rank_query.specs.Meaning.Asked.{Query}
 use Rattle.rank_scores.specs.Morsels.{best_of_query, kth_of_query, morsels}
 use Rattle.rank_scores.specs.OneElement.{data_for, BestStay, KthStays, MorselsStay}
 use Rattle.rank_blocks.specs.Bounds.{bound}
@@ -14,7 +14,7 @@ use Rattle.rank_papers.specs.PlanPapers.{IsMeasuredCertificate}
 use Rattle.rank_papers.specs.OneElement.{ReportStays, CertificateStays, MeasuredStays}
 
 -- what is right of a report in some data is right of it in others, if they have the same stations and the same best
-report-moved : (q : Asked) (a b : Contents) (bytes : List ℕ) → a.stations ≡ b.stations →
+report-moved : (q : Query) (a b : Data) (bytes : List ℕ) → a.stations ≡ b.stations →
     best_of_query q a ≡ best_of_query q b → IsFoundReport q a bytes → IsFoundReport q b bytes
 report-moved q a b bytes listed same r = record {
   rows = r.rows;
@@ -24,14 +24,14 @@ report-moved q a b bytes listed same r = record {
 }
 
 -- and of a certificate, if they have the same best, the same k-th score and the same morsels
-certificate-moved : (q : Asked) (a b : Contents) (bytes : List ℕ) → best_of_query q a ≡ best_of_query q b →
+certificate-moved : (q : Query) (a b : Data) (bytes : List ℕ) → best_of_query q a ≡ best_of_query q b →
     kth_of_query q a ≡ kth_of_query q b → morsels q a ≡ morsels q b → IsFoundCertificate q a bytes → IsFoundCertificate q b bytes
 certificate-moved q a b bytes best kth same z = record {
   version = z.version;
   known = z.known;
   entries = z.entries;
   right =
-      subst (λ (ss : List Usable). AllZip (IsRightEntry q (kth_of_query q b)) z.entries ss) same
+      subst (λ (ss : List Series). AllZip (IsRightEntry q (kth_of_query q b)) z.entries ss) same
       (subst (λ (k : Option ℤ). AllZip (IsRightEntry q k) z.entries (morsels q a)) kth z.right);
   text = z.text ∙ λ i. certificate_text (record {
     version = z.version;
@@ -43,7 +43,7 @@ certificate-moved q a b bytes best kth same z = record {
 }
 
 -- and of one with the bounds of the series
-measured-moved : (q : Asked) (a b : Contents) (bytes : List ℕ) → best_of_query q a ≡ best_of_query q b →
+measured-moved : (q : Query) (a b : Data) (bytes : List ℕ) → best_of_query q a ≡ best_of_query q b →
     kth_of_query q a ≡ kth_of_query q b → morsels q a ≡ morsels q b → IsMeasuredCertificate q a bytes →
     IsMeasuredCertificate q b bytes
 unfolding certificate-moved

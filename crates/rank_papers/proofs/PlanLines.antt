@@ -7,10 +7,10 @@ use Rattle.std.specs.Option.{option_map_or}
 use Rattle.std.proofs.lemmas.List.Sorted.{IsPermutation-map, IsPermutation-trans}
 use Rattle.ghcn_fields.specs.Sorting.{placed, sorted_by}
 use Rattle.ghcn_files.specs.declared.station.StationId.{StationId}
-use Rattle.ghcn_series.specs.Meaning.Series.{Usable}
-use Rattle.ghcn_series.specs.Series.{Contents}
+use Rattle.ghcn_series.specs.Meaning.Series.{Series}
+use Rattle.ghcn_series.specs.Series.{Data}
 use Rattle.ghcn_series.specs.Held.{IsContents}
-use Rattle.rank_query.specs.Meaning.Asked.{Asked, IsAsked}
+use Rattle.rank_query.specs.Meaning.Asked.{Query, IsAsked}
 use Rattle.rank_scores.specs.Candidates.{candidates}
 use Rattle.rank_scores.specs.Order.{bound_is_below}
 use Rattle.rank_scores.specs.Morsels.{admitted_series, has_admitted, morsels, id_comes_first, kth_of_query, IsAbove}
@@ -18,7 +18,7 @@ use Rattle.rank_scores.proofs.QueryCandidates.{morsels_apart}
 use Rattle.rank_blocks.specs.Bounds.{bound}
 use Rattle.rank_pool.specs.First.{kth}
 use Rattle.rank_sched.specs.declared.haul.Haul.{Haul}
-use Rattle.rank_sched.specs.Plan.{Morsel, Planned, IsPlan, measured, is_drawn_first, planned}
+use Rattle.rank_sched.specs.Plan.{Morsel, Plan, IsPlan, measured, is_drawn_first, planned}
 use Rattle.rank_sched.specs.Task.{task_of, all_of_task, IsFair}
 use Rattle.rank_sched.specs.Hauls.{all_records, AreSound}
 use Rattle.rank_sched.specs.Answers.{line_of, lines_of}
@@ -59,30 +59,30 @@ module _ {A B : Type 0} (R : A → B → Type 0) (f : A → A → Bool) (g : B �
 -- ---- the series of morsels
 
 -- a series whose ID comes before another's, or is the same
-abbrev comes_first : Usable → Usable → Bool
+abbrev comes_first : Series → Series → Bool
 comes_first a b = id_comes_first a.id b.id
 
 -- the series of a morsel
-abbrev series_of_morsel : Morsel → Usable
+abbrev series_of_morsel : Morsel → Series
 series_of_morsel m = m.series
 
 -- measured series are the series
-series-measured : (q : Asked) (ss : List Usable) → map series_of_morsel (map (measured q) ss) ≡ ss
+series-measured : (q : Query) (ss : List Series) → map series_of_morsel (map (measured q) ss) ≡ ss
 series-measured q [] = refl
-series-measured q (s ∷ ss) = ap (λ (l : List Usable). s ∷ l) (series-measured q ss)
+series-measured q (s ∷ ss) = ap (λ (l : List Series). s ∷ l) (series-measured q ss)
 
 -- ---- lines and series
 
 -- what the line of a series says: its ID and its bound, which is above its candidates, and a skip only if the bound is
 -- strictly below the k-th score
-pub record IsLineOf (q : Asked) (kth : Option ℤ) (l : Line) (s : Usable) : Type 0 where
+pub record IsLineOf (q : Query) (kth : Option ℤ) (l : Line) (s : Series) : Type 0 where
   pub named : l.id ≡ s.id
   pub bounded : l.bound ≡ bound q s
   pub above : IsAbove q s l.bound
   pub passed_over : l.skipped ≡ true → bound_is_below kth l.bound ≡ true
 
 -- such lines, with bounds inside 64 bits, are right entries
-pub right_entries : (q : Asked) (kth : Option ℤ) (ls : List Line) (ss : List Usable)
+pub right_entries : (q : Query) (kth : Option ℤ) (ls : List Line) (ss : List Series)
     → AreInRange ls → AllZip (IsLineOf q kth) ls ss
     → AllZip (IsRightEntry q kth) ls ss
 right_entries q kth [] [] f h = tt
@@ -94,7 +94,7 @@ right_entries q kth (l ∷ ls) (s ∷ ss) f h = (
 )
 
 -- and their bounds are those of the series
-pub bounds_are : (q : Asked) (kth : Option ℤ) (ls : List Line) (ss : List Usable)
+pub bounds_are : (q : Query) (kth : Option ℤ) (ls : List Line) (ss : List Series)
     → AllZip (IsLineOf q kth) ls ss → map (λ l. l.bound) ls ≡ map (bound q) ss
 bounds_are q kth [] [] h = refl
 bounds_are q kth [] (s ∷ ss) h = absurd h
@@ -103,10 +103,10 @@ bounds_are q kth (l ∷ ls) (s ∷ ss) h =
     ap (λ (z : ℤ). z ∷ map (λ x. x.bound) ls) h.0.bounded
     ∙ ap (λ (zs : List ℤ). bound q s ∷ zs) (bounds_are q kth ls ss h.1)
 
-module _ (q : Asked) (c : Contents) (asked : IsAsked q) (right : IsContents c) (hs : List Haul)
+module _ (q : Query) (c : Data) (asked : IsAsked q) (right : IsContents c) (hs : List Haul)
     (sound : AreSound (task_of (planned q c)) hs) where
   -- the plan
-  abbrev plan : Planned
+  abbrev plan : Plan
   plan = planned q c
 
   -- it is one
@@ -156,14 +156,14 @@ module _ (q : Asked) (c : Contents) (asked : IsAsked q) (right : IsContents c) (
   -- the series of a plan's morsels, by increasing ID
   series_are : morsels q c ≡ sorted_by comes_first (map series_of_morsel plan.morsels)
   series_are =
-      let kept : List Usable = filter (has_admitted q) (admitted_series q c) in
+      let kept : List Series = filter (has_admitted q) (admitted_series q c) in
       let back : map series_of_morsel (map (measured q) kept) ≡ kept = series-measured q kept in
       let drawn : IsPermutation (map (measured q) kept) plan.morsels = IsPermutation-trans (map (measured q) kept)
       (map (measured q) (morsels q c)) plan.morsels
       (IsPermutation-map (measured q) kept (morsels q c) (sorted-permutation comes_first kept))
       (sorted-permutation is_drawn_first (map (measured q) (morsels q c))) in
       sym (same_sort (λ s. s.id) kept (map series_of_morsel plan.morsels) (morsels_apart q c right)
-      (subst (λ (l : List Usable). IsPermutation l (map series_of_morsel plan.morsels)) back
+      (subst (λ (l : List Series). IsPermutation l (map series_of_morsel plan.morsels)) back
       (IsPermutation-map series_of_morsel (map (measured q) kept) plan.morsels drawn)))
 
   -- the lines of a plan's sound hauls are those of the query's series, one by one
@@ -171,7 +171,7 @@ module _ (q : Asked) (c : Contents) (asked : IsAsked q) (right : IsContents c) (
   lines_right =
       let ls : List Line = map (line_of plan (all_records hs)) (enumerate_from 0 plan.morsels) in
       let by_id : Line → Line → Bool = λ a b. id_comes_first a.id b.id in
-      subst (λ (ss : List Usable). AllZip (IsLineOf q (kth_of_query q c)) (sorted_by by_id ls) ss) (sym series_are)
+      subst (λ (ss : List Series). AllZip (IsLineOf q (kth_of_query q c)) (sorted_by by_id ls) ss) (sym series_are)
       (sorted-zip (IsLineOf q (kth_of_query q c)) by_id comes_first
       (λ a x b y r s. ap (λ (i : StationId). id_comes_first i x.id) r.named
       ∙ ap (λ (i : StationId). id_comes_first b.id i) s.named)

@@ -5,9 +5,9 @@ use Rattle.std.specs.List.{flat_map, AllZip}
 use Rattle.std.specs.Option.{option_map}
 use Rattle.std.proofs.lemmas.Bool.Decides.{nat_tests}
 use Rattle.ghcn_files.specs.declared.station.Station.{Station}
-use Rattle.ghcn_series.specs.Series.{Contents}
+use Rattle.ghcn_series.specs.Series.{Data}
 use Rattle.ghcn_series.specs.Held.{IsContents}
-use Rattle.rank_query.specs.Meaning.Asked.{Asked, IsAsked}
+use Rattle.rank_query.specs.Meaning.Asked.{Query, IsAsked}
 use Rattle.rank_scores.specs.declared.candidate.Candidate.{Candidate}
 use Rattle.rank_scores.specs.Order.{AreApart, best, kth_score}
 use Rattle.rank_scores.specs.Morsels.{morsels, all_candidates, best_of_query, kth_of_query}
@@ -16,7 +16,7 @@ use Rattle.rank_scores.proofs.QueryCandidates.{all_apart, best_listed}
 use Rattle.rank_pool.specs.First.{in_order}
 use Rattle.rank_pool.proofs.Ranked.{best-first, kth_score-kth}
 use Rattle.rank_sched.specs.declared.answer.Answer.{Answer}
-use Rattle.rank_sched.specs.Plan.{Planned, IsPlan, planned}
+use Rattle.rank_sched.specs.Plan.{Plan, IsPlan, planned}
 use Rattle.rank_sched.specs.Answers.{best_of_plan, IsAnswerOfPlan, IsAnswerOfCrew}
 use Rattle.rank_sched.proofs.PlanBest.{plan_has_best}
 use Rattle.rank_papers.specs.Meaning.Report.{IsReportOfBest, query_line}
@@ -29,30 +29,30 @@ use Rattle.rank_papers.proofs.PlanLines.{IsLineOf, right_entries, bounds_are, li
 -- ---- the best
 
 -- the best of an answer are the query's, whatever the data of which this is the plan
-pub best_is : (p : Planned) (a : Answer) (q : Asked) (c : Contents) → IsAnswerOfPlan p a → IsAsked q → IsContents c
+pub best_is : (p : Plan) (a : Answer) (q : Query) (c : Data) → IsAnswerOfPlan p a → IsAsked q → IsContents c
     → p ≡ planned q c → a.best.items ≡ best_of_query q c
 best_is p a q c answer asked right is = answer.best_are ∙ ap best_of_plan is ∙ (plan_has_best q c asked right).0
 
 -- they belong to the plan's stations
-pub answer_listed : (p : Planned) (a : Answer) → IsPlan p → IsAnswerOfPlan p a → AreOfListed p.stations a.best.items
+pub answer_listed : (p : Plan) (a : Answer) → IsPlan p → IsAnswerOfPlan p a → AreOfListed p.stations a.best.items
 answer_listed p a plan answer =
     let same : a.best.items ≡ best_of_query p.query plan.dataset =
     best_is p a p.query plan.dataset answer plan.asked plan.right plan.plan in
-    subst (λ (sts : List Station). AreOfListed sts a.best.items) (sym (ap (λ (x : Planned). x.stations) plan.plan))
+    subst (λ (sts : List Station). AreOfListed sts a.best.items) (sym (ap (λ (x : Plan). x.stations) plan.plan))
     (subst (AreOfListed plan.dataset.stations) (sym same) (best_listed p.query plan.dataset plan.right))
 
 -- so the report of these best is the plan's
-pub report-of_plan : {X E : Type 0} (items : X → List ℕ) (p : Planned) (a : Answer) (q : Asked) (stations : List
+pub report-of_plan : {X E : Type 0} (items : X → List ℕ) (p : Plan) (a : Answer) (q : Query) (stations : List
     Station)
     (best : List Candidate) (r : Result X E) → IsAnswerOfPlan p a → q ≡ p.query → stations ≡ p.stations
     → best ≡ a.best.items → IfOk r (λ paper. IsReportOfBest q stations best (items paper))
     → IfOk r (λ paper. IsReportOfPlan p (items paper))
 report-of_plan items p a q stations best (Err e) answer query listed same h = h
 report-of_plan items p a q stations best (Ok paper) answer query listed same h = λ q2 c asked right is.
-    let own : q ≡ q2 = query ∙ ap (λ (x : Planned). x.query) is in
+    let own : q ≡ q2 = query ∙ ap (λ (x : Plan). x.query) is in
     let theirs : best ≡ best_of_query q2 c = same ∙ best_is p a q2 c answer asked right is in
-    let list : stations ≡ c.stations = listed ∙ ap (λ (x : Planned). x.stations) is in
-    subst (λ (x : Asked). IsReportOfBest x c.stations (best_of_query q2 c) (items paper)) own
+    let list : stations ≡ c.stations = listed ∙ ap (λ (x : Plan). x.stations) is in
+    subst (λ (x : Query). IsReportOfBest x c.stations (best_of_query q2 c) (items paper)) own
     (subst (λ (ss : List Station). IsReportOfBest q ss (best_of_query q2 c) (items paper)) list
     (subst (λ (b : List Candidate). IsReportOfBest q stations b (items paper)) theirs h))
 
@@ -76,11 +76,11 @@ kth-best (suc r) xs some apart =
     ∙ sym (kth_score-kth (suc r) xs apart)
 
 -- what can be asked is for one candidate at least
-pub some_asked : (q : Asked) → IsAsked q → 0 < q.k
+pub some_asked : (q : Query) → IsAsked q → 0 < q.k
 some_asked q asked = let limits = asked.k in grind (arith, nat_tests)
 
 -- the last of k best of a query has the k-th score
-kth_is : (q : Asked) (c : Contents) (cs : List Candidate) → IsAsked q → IsContents c → cs ≡ best_of_query q c
+kth_is : (q : Query) (c : Data) (cs : List Candidate) → IsAsked q → IsContents c → cs ≡ best_of_query q c
     → kth_of_best q.k cs ≡ kth_of_query q c
 kth_is q c cs asked right e =
     ap (kth_of_best q.k) e ∙ kth-best q.k (all_candidates q c) (some_asked q asked) (all_apart q c right)
@@ -88,7 +88,7 @@ kth_is q c cs asked right e =
 -- ---- the certificate
 
 -- the parts of a certificate, one after the other, make its text
-pub certificate-made : (q : Asked) (best : List Candidate) (es : List Line) (t u v w x : List ℕ)
+pub certificate-made : (q : Query) (best : List Candidate) (es : List Line) (t u v w x : List ℕ)
     → t ≡ title_line 2 → u ≡ t ++ query_line q → v ≡ u ++ kth_line (kth_of_best q.k best)
     → w ≡ v ++ flat_map (entry_line 2) (counted es (counts_of 2 best es)) → x ≡ w ++ end_line (length es)
     → x ≡ certificate_of_best q best es
@@ -100,14 +100,14 @@ certificate-made q best es t u v w x title query score lines end =
     (lines ∙ ap after_score (score ∙ ap after_query (query ∙ ap after_title title)))
 
 -- with the lines of a plan's answer it is a right one, with the series' bounds
-pub certificate-of_plan : (p : Planned) (a : Answer) (bytes : List ℕ) → IsAnswerOfPlan p a
+pub certificate-of_plan : (p : Plan) (a : Answer) (bytes : List ℕ) → IsAnswerOfPlan p a
     → AreInRange a.lines.items
     → bytes ≡ certificate_of_best p.query a.best.items a.lines.items → IsCertificateOfPlan p bytes
 certificate-of_plan p a bytes answer fits text q c asked right is =
-    let own : IsAnswerOfPlan (planned q c) a = subst (λ (x : Planned). IsAnswerOfPlan x a) is answer in
+    let own : IsAnswerOfPlan (planned q c) a = subst (λ (x : Plan). IsAnswerOfPlan x a) is answer in
     let lines = lines_right q c asked right own.hauls own.sound in
     let of_kth : kth_of_best p.query.k a.best.items ≡ kth_of_query q c =
-    ap (λ (x : Planned). kth_of_best x.query.k a.best.items) is
+    ap (λ (x : Plan). kth_of_best x.query.k a.best.items) is
     ∙ kth_is q c a.best.items asked right (best_is p a q c answer asked right is) in
     let IsRight : List Line → Type 0 = λ es. AllZip (IsLineOf q (kth_of_query q c)) es (morsels q c) in
     let are : IsRight a.lines.items = subst IsRight (sym own.lines_are) lines in
@@ -133,7 +133,7 @@ certificate-of_plan p a bytes answer fits text q c asked right is =
 -- ---- the answer of a crew
 
 -- a crew's answer is one of its plan
-pub answer_of_crew : (p : Planned) (guess : Option ℤ) (workers : ℕ) (a : Answer) → IsAnswerOfCrew p guess workers a
+pub answer_of_crew : (p : Plan) (guess : Option ℤ) (workers : ℕ) (a : Answer) → IsAnswerOfCrew p guess workers a
     → IsAnswerOfPlan p a
 answer_of_crew p guess workers a is = record {
   hauls = is.hauls;

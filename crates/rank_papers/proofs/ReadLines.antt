@@ -8,7 +8,7 @@ use Rattle.std.proofs.lemmas.Int.{ints}
 use Rattle.ghcn_files.specs.Meaning.Ids.{is_visible}
 use Rattle.ghcn_files.specs.Ids.{is_id}
 use Rattle.rank_query.specs.declared.score.Score.TheVariants.{Dry}
-use Rattle.rank_query.specs.Meaning.Asked.{Asked, IsAsked}
+use Rattle.rank_query.specs.Meaning.Asked.{Query, IsAsked}
 use Rattle.rank_query.specs.Asked.{top}
 use Rattle.rank_query.specs.Meaning.QueryTexts.{query_text}
 use Rattle.rank_query.specs.Reading.{read_query}
@@ -20,7 +20,7 @@ use Rattle.rank_papers.proofs.LineValues.{exactly-from}
 use Rattle.rank_papers.proofs.WrittenLines.{last_field}
 
 -- the line of a query is read as it
-pub query_in-line : (q : Asked) → IsAsked q → query_in (query_line q) ≡ Some q
+pub query_in-line : (q : Query) → IsAsked q → query_in (query_line q) ≡ Some q
 query_in-line q asked =
     let text : List ℕ = query_text q in
     let own = canonical q asked in
@@ -31,7 +31,7 @@ query_in-line q asked =
     (ap query_of_text (last_field 6 (codes "query ") text refl) ∙ read)
 
 -- a query that can be asked
-abbrev pub some_query : Asked
+abbrev pub some_query : Query
 some_query = top 1 Dry
 
 -- it is read of its line

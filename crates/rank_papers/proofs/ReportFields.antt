@@ -15,7 +15,7 @@ use Rattle.ghcn_fields.proofs.DateTexts.{read_date-law}
 use Rattle.ghcn_files.specs.Ids.{is_id}
 use Rattle.ghcn_files.specs.Meaning.StationLines.{is_printable}
 use Rattle.ghcn_fields.specs.Numbers.{natural, signed_by}
-use Rattle.rank_query.specs.Meaning.Asked.{Asked}
+use Rattle.rank_query.specs.Meaning.Asked.{Query}
 use Rattle.rank_papers.specs.Meaning.Values.{measure_of_score, unit_text, value_of}
 use Rattle.rank_papers.specs.Report.{Named}
 use Rattle.rank_papers.specs.Lines.{exactly}
@@ -52,7 +52,7 @@ abbrev pub value_at : ℕ → List ℕ → List ℕ
 value_at digits line = first_word (slice_range line (digits + 35) (length line - 1))
 
 -- the row of the columns of a line, with this value's place and this score
-abbrev pub row_at : Asked → ℕ → List ℕ → List ℕ → Option ℤ → Option Named
+abbrev pub row_at : Query → ℕ → List ℕ → List ℕ → Option ℤ → Option Named
 row_at q digits line value score =
     row_with
     (slice_range line (digits + 1) (digits + 12))
@@ -62,19 +62,19 @@ row_at q digits line value score =
     score
 
 -- a score that is read is inside 64 bits
-pub score_in-fits : (q : Asked) (field : List ℕ) (z : ℤ) → score_in q field ≡ Some z → FitsSigned w64 z
+pub score_in-fits : (q : Query) (field : List ℕ) (z : ℤ) → score_in q field ≡ Some z → FitsSigned w64 z
 score_in-fits q field z e =
     in_i64-some (option_map (value_of q.score) (signed_by natural (filter (λ b. not (b == 46)) field))) z e
 
 -- with the value in its column, and the score of that value, that is the row in the columns
-pub row_at-is : (q : Asked) (digits : ℕ) (line value : List ℕ) (score : Option ℤ) → value ≡ value_at digits line
+pub row_at-is : (q : Query) (digits : ℕ) (line value : List ℕ) (score : Option ℤ) → value ≡ value_at digits line
     → score ≡ score_in q value → row_at q digits line value score ≡ row_in_columns q digits line
 row_at-is q digits line value score v s =
     ap (row_at q digits line value) s
     ∙ ap (λ (word : List ℕ). row_at q digits line word (score_in q word)) v
 
 -- the columns of a row that were cut out of a line with this value
-pub record AreParts (q : Asked) (digits : ℕ) (line value id name : List ℕ) (first last : Option ℤ) : Type 0 where
+pub record AreParts (q : Query) (digits : ℕ) (line value id name : List ℕ) (first last : Option ℤ) : Type 0 where
   pub id_is : id ≡ slice_range line (digits + 1) (digits + 12)
   pub name_is : name
       ≡ slice_range line (digits + length value + length (unit_text (measure_of_score q.score)) + 37) (length line - 1)
@@ -82,7 +82,7 @@ pub record AreParts (q : Asked) (digits : ℕ) (line value id name : List ℕ) (
   pub last_is : last ≡ read_date (slice_range line (digits + 24) (digits + 34))
 
 -- the row of the columns that were cut out
-pub row_with-parts : {q : Asked} {digits : ℕ} {line value id name : List ℕ} {first last : Option ℤ}
+pub row_with-parts : {q : Query} {digits : ℕ} {line value id name : List ℕ} {first last : Option ℤ}
     → AreParts q digits line value id name first last → (score : Option ℤ)
     → row_with id name first last score ≡ row_at q digits line value score
 row_with-parts p score = cc (p.id_is, p.name_is, p.first_is, p.last_is)
@@ -94,7 +94,7 @@ row_with-none id name (Some first) None = refl
 row_with-none id name (Some first) (Some last) = refl
 
 -- nor is there one in the columns
-pub row_at-none : (q : Asked) (digits : ℕ) (line value : List ℕ) → row_at q digits line value None ≡ None
+pub row_at-none : (q : Query) (digits : ℕ) (line value : List ℕ) → row_at q digits line value None ≡ None
 row_at-none q digits line value =
     row_with-none
     (slice_range line (digits + 1) (digits + 12))
@@ -144,7 +144,7 @@ name_short name h =
     grind (arith, nat_tests)
 
 -- so it is with a row that was read of its columns
-pub cut_out : (q : Asked) (digits : ℕ) (line : List ℕ) (row : Named) → Some row ≡ row_in_columns q digits line
+pub cut_out : (q : Query) (digits : ℕ) (line : List ℕ) (row : Named) → Some row ≡ row_in_columns q digits line
     → IsCutOut digits line row
 cut_out q digits line row e =
     let value : List ℕ = value_at digits line in
@@ -163,7 +163,7 @@ cut_out q digits line row e =
 
 -- ---- the row whose line it is
 
-module _ (q : Asked) (rank : ℕ) (line : List ℕ) (digits : ℕ) where
+module _ (q : Query) (rank : ℕ) (line : List ℕ) (digits : ℕ) where
   -- if the columns hold no row, the line is that of none
   pub row_in-none : digits ≡ length (decimal rank) → None ≡ row_in_columns q digits line → None ≡ row_in q rank line
   row_in-none d e = ap (exactly (row_line q rank) line) (e ∙ ap (λ (n : ℕ). row_in_columns q n line) d)
@@ -186,7 +186,7 @@ module _ (q : Asked) (rank : ℕ) (line : List ℕ) (digits : ℕ) where
   row_in-other row same d e is t = ap (λ (b : Bool). cond b (Some row) None) (sym t ∙ is) ∙ row_in-some row d e
 
 -- if there may be one more row, it is the next
-pub row_behind-next : (q : Asked) (n : ℕ) (line : List ℕ) → n < q.k → row_in q (n + 1) line ≡ row_behind q n line
+pub row_behind-next : (q : Query) (n : ℕ) (line : List ℕ) → n < q.k → row_in q (n + 1) line ≡ row_behind q n line
 row_behind-next q n line below =
     let next : n + 1 ≡ suc n = omega arith in
     let test : nat_lt n q.k ≡ true = grind (arith, nat_tests) in

@@ -2,7 +2,7 @@
 use Rattle.std.proofs.Common.{◌≡◌, ℕ, true, false, cond, List, Option, Some, None, Err, refl, sym, ◌∙◌}
 use Rattle.std.specs.Option.{option_map_or}
 use Rattle.ghcn_fields.specs.Meaning.Bytes.{same_bytes}
-use Rattle.rank_query.specs.Meaning.Asked.{Asked}
+use Rattle.rank_query.specs.Meaning.Asked.{Query}
 use Rattle.rank_papers.specs.Meaning.Report.{query_line, report_text}
 use Rattle.rank_papers.specs.Lines.{query_in}
 use Rattle.rank_papers.specs.ReportLines.{report_end, row_behind, rows_in, with_rows, behind_report_title, reported_lines}
@@ -14,7 +14,7 @@ use Rattle.rank_papers.proofs.ReportValues.{title, lines-are}
 use Rattle.rank_papers.proofs.ReportTexts.{lines-written, row_behind-end, text_read}
 
 -- rows are read one after the other
-rows_in_order : (q : Asked) → IsInOrder (rows_in q 0) 3
+rows_in_order : (q : Query) → IsInOrder (rows_in q 0) 3
 rows_in_order q = values_in_order 3 (row_behind q) (report_end q) (λ n. row_behind-end q n n)
 
 -- so are a query and rows

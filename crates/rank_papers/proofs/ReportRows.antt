@@ -9,7 +9,7 @@ use Rattle.std.proofs.lemmas.Grind.{flat_map-append}
 use Rattle.ghcn_files.specs.declared.station.Station.{Station}
 use Rattle.ghcn_files.specs.Meaning.Listed.{is_station_of}
 use Rattle.ghcn_files.proofs.LineLaws.{enumerate_from-append}
-use Rattle.rank_query.specs.Meaning.Asked.{Asked}
+use Rattle.rank_query.specs.Meaning.Asked.{Query}
 use Rattle.rank_scores.specs.declared.candidate.Candidate.{Candidate}
 use Rattle.rank_scores.specs.QueryCandidates.{AreOfListed}
 use Rattle.rank_papers.specs.Meaning.Report.{trimmed, text_line, row_fields, end_fields, query_line, report_text}
@@ -18,7 +18,7 @@ use Rattle.rank_papers.specs.Report.{Named, named, with_stations, with_station, 
 use Rattle.rank_papers.proofs.RowText.{rows_text}
 
 -- the line of one row more follows the lines of the rows before it
-rows_text-push : (q : Asked) (rows : List Named) (row : Named) →
+rows_text-push : (q : Query) (rows : List Named) (row : Named) →
     rows_text q (enumerate_from 1 (rows ++ row ∷ []))
     ≡ rows_text q (enumerate_from 1 rows) ++ text_line (row_fields q (1 + length rows, row))
 rows_text-push q rows row =
@@ -26,7 +26,7 @@ rows_text-push q rows row =
     ∙ flat_map-append (λ r. text_line (row_fields q r)) (enumerate_from 1 rows) ((1 + length rows, row) ∷ [])
     ∙ ap (λ (text : List ℕ). rows_text q (enumerate_from 1 rows) ++ text) (append-nil _)
 
-module _ (q : Asked) (names : List Named) where
+module _ (q : Query) (names : List Named) where
   -- one row more was written after others
   pub rows-more : (row : Named) (n : ℕ) (before paper : List ℕ) → n ≡ length names
       → paper ≡ before ++ rows_text q (enumerate_from 1 names)
@@ -59,12 +59,12 @@ rows_of_best-push stations cs c s e =
     ∙ map-append named front ((c, s) ∷ [])
 
 -- how far the rows of some candidates have been written
-pub record HasRows (q : Asked) (stations : List Station) (best : List Candidate) (i : ℕ) (before paper : List ℕ)
+pub record HasRows (q : Query) (stations : List Station) (best : List Candidate) (i : ℕ) (before paper : List ℕ)
     : Type 0 where
   pub count : length (rows_of_best stations (take i best)) ≡ i
   pub text : paper ≡ before ++ rows_text q (enumerate_from 1 (rows_of_best stations (take i best)))
 
-module _ (q : Asked) (stations : List Station) (best : List Candidate) where
+module _ (q : Query) (stations : List Station) (best : List Candidate) where
   -- the row of the next candidate was written
   pub HasRows-more : (i : ℕ) (c : Candidate) (s : Station) (before paper : List ℕ) →
       i < length best → c ≡ get_or best i c → find (is_station_of c.id) stations ≡ Some s →
@@ -124,7 +124,7 @@ module _ (stations : List Station) where
 
 -- ---- the report
 
-module _ (q : Asked) (stations : List Station) (best : List Candidate) (listed : AreOfListed stations best) where
+module _ (q : Query) (stations : List Station) (best : List Candidate) (listed : AreOfListed stations best) where
   -- that text is the report of these candidates
   pub report-right : (bytes : List ℕ) → bytes ≡ text_of_best q stations best → IsReportOfBest q stations best bytes
   report-right bytes text = record {

@@ -10,7 +10,7 @@ use Rattle.std.proofs.lemmas.Bool.Decides.{nat_tests}
 use Rattle.ghcn_fields.specs.Meaning.Dates.{date_text}
 use Rattle.ghcn_files.specs.Meaning.Ids.{is_visible}
 use Rattle.ghcn_files.specs.Meaning.StationLines.{is_printable}
-use Rattle.rank_query.specs.Meaning.Asked.{Asked}
+use Rattle.rank_query.specs.Meaning.Asked.{Query}
 use Rattle.rank_query.specs.Meaning.QueryTexts.{query_text}
 use Rattle.rank_query.proofs.CanonicalTexts.{canonical}
 use Rattle.rank_query.proofs.PrintedWords.{date_word}
@@ -46,7 +46,7 @@ named_printable unit [] h k = h
 named_printable unit (b ∷ name) h k = printable-append unit (32 ∷ b ∷ name) h k
 
 -- so can what is in a row's line
-row_printable : (q : Asked) (rank : ℕ) (row : Named) → IsRow row
+row_printable : (q : Query) (rank : ℕ) (row : Named) → IsRow row
     → list_all is_printable (join_with_byte 32 (row_fields q (rank, row))) ≡ true
 row_printable q rank row is =
     let id : List ℕ = row.0.id.0 in
@@ -76,7 +76,7 @@ end_printable false n = decimal_printable n
 -- ---- the lines of a report
 
 -- rows and an end line are cut into their lines
-lines-rows : (q : Asked) (rows : List Named) (n m : ℕ) → AllByRecursion IsRow rows
+lines-rows : (q : Query) (rows : List Named) (n m : ℕ) → AllByRecursion IsRow rows
     → paper_lines (rows_text q (enumerate_from (suc n) rows) ++ report_end q m)
     ≡ lines_of q n rows ++ report_end q m ∷ []
 lines-rows q [] n m h =
@@ -141,7 +141,7 @@ unfolding digits
 decimal_starts n rest = onto_starts 63 n [] rest
 
 -- so does a row's line
-pub row_starts : (q : Asked) (rank : ℕ) (row : Named) → starts_by_digit (row_line q rank row) ≡ true
+pub row_starts : (q : Query) (rank : ℕ) (row : Named) → starts_by_digit (row_line q rank row) ≡ true
 row_starts q rank row =
     let behind : List ℕ = 32 ∷ join_with_byte 32 (row.0.id.0 ∷ date_text row.0.first ∷ date_text row.0.last
     ∷ value_text (measure_of_score q.score) (value_of q.score row.0.score) ∷ unit_text (measure_of_score q.score)
@@ -150,13 +150,13 @@ row_starts q rank row =
     ∙ decimal_starts rank (behind ++ 10 ∷ [])
 
 -- but no end line
-pub end_is_other : (q : Asked) (n rank : ℕ) (row : Named) → report_end q n ≡ row_line q rank row → ⊥
+pub end_is_other : (q : Query) (n rank : ℕ) (row : Named) → report_end q n ≡ row_line q rank row → ⊥
 end_is_other q n rank row same =
     let digit : starts_by_digit (report_end q n) ≡ true = ap starts_by_digit same ∙ row_starts q rank row in
     absurd cc
 
 -- so no row is read of it
-row_in-end : (q : Asked) (n rank : ℕ) → row_in q rank (report_end q n) ≡ None
+row_in-end : (q : Query) (n rank : ℕ) → row_in q rank (report_end q n) ≡ None
 row_in-end q n rank = by (row_in q rank (report_end q n)) refl
   where
     by : (o : Option Named) → row_in q rank (report_end q n) ≡ o → o ≡ None
@@ -164,7 +164,7 @@ row_in-end q n rank = by (row_in q rank (report_end q n)) refl
     by (Some row) f = absurd (end_is_other q n rank row (row_in-is q rank (report_end q n) row f).1)
 
 -- after however many others
-pub row_behind-end : (q : Asked) (n m : ℕ) → row_behind q n (report_end q m) ≡ None
+pub row_behind-end : (q : Query) (n m : ℕ) → row_behind q n (report_end q m) ≡ None
 row_behind-end q n m = elim (nat_lt n q.k) as (λ b. cond b (row_in q (suc n) (report_end q m)) None ≡ None) [
   | true ↦ row_in-end q m (suc n)
   | false ↦ refl
@@ -178,7 +178,7 @@ written_read v is =
     let rows : List (List ℕ) = lines_of v.query 0 v.rows ++ report_end v.query (length v.rows) ∷ [] in
     let count : length v.rows ≡ 0 + length v.rows = omega arith in
     let few : length v.rows ≤ v.query.k = leb-true (length v.rows) v.query.k is.few in
-    ap (λ (o : Option Asked). option_map_or (λ q. with_rows q (rows_in q 0 rows)) o (Err 2))
+    ap (λ (o : Option Query). option_map_or (λ q. with_rows q (rows_in q 0 rows)) o (Err 2))
     (query_in-line v.query is.asked)
     ∙ ap (with_rows v.query) (values-read 3 (row_behind v.query) (report_end v.query) (λ n. row_line v.query (suc n))
     IsRow (length v.rows) (λ n. row_behind-end v.query n (length v.rows))

@@ -11,7 +11,7 @@ use Rattle.ghcn_fields.specs.Dates.{read_date}
 use Rattle.ghcn_fields.specs.Numbers.{natural, signed_by}
 use Rattle.ghcn_fields.proofs.DateTexts.{read_date-law}
 use Rattle.ghcn_files.specs.Ids.{is_id}
-use Rattle.rank_query.specs.Meaning.Asked.{Asked}
+use Rattle.rank_query.specs.Meaning.Asked.{Query}
 use Rattle.rank_papers.specs.Meaning.Values.{measure_of_score, unit_text, value_of}
 use Rattle.rank_papers.specs.Meaning.Report.{text_line, query_line}
 use Rattle.rank_papers.specs.Report.{Named}
@@ -48,7 +48,7 @@ row_with-is id name (Some first) (Some last) (Some score) row h f l s = elim (is
     ] refl h
 
 -- a row that is read can be, and its line is the one it was read of
-pub row_in-is : (q : Asked) (rank : ℕ) (line : List ℕ) (row : Named) → row_in q rank line ≡ Some row
+pub row_in-is : (q : Query) (rank : ℕ) (line : List ℕ) (row : Named) → row_in q rank line ≡ Some row
     → IsRow row × (line ≡ row_line q rank row)
 row_in-is q rank line row h =
     let digits : ℕ = length (decimal rank) in
@@ -67,7 +67,7 @@ row_in-is q rank line row h =
     )
 
 -- one that is read after others can be, has its line, and there may be one more
-pub row_behind-is : (q : Asked) (n : ℕ) (line : List ℕ) (row : Named) → row_behind q n line ≡ Some row
+pub row_behind-is : (q : Query) (n : ℕ) (line : List ℕ) (row : Named) → row_behind q n line ≡ Some row
     → (n < q.k) × IsRow row × (line ≡ row_line q (suc n) row)
 row_behind-is q n line row h = elim (nat_lt n q.k) as (λ b. nat_lt n q.k ≡ b
     → cond b (row_in q (suc n) line) None ≡ Some row → (n < q.k) × IsRow row × (line ≡ row_line q (suc n) row)) [
@@ -80,7 +80,7 @@ row_behind-is q n line row h = elim (nat_lt n q.k) as (λ b. nat_lt n q.k ≡ b
 -- ---- a whole report
 
 -- a report was made of rows
-with-some : (q : Asked) (r : Result (List Named) ℕ) (v : Reported) → with_rows q r ≡ Ok v
+with-some : (q : Query) (r : Result (List Named) ℕ) (v : Reported) → with_rows q r ≡ Ok v
     → (rows : List Named) × (r ≡ Ok rows) × (v ≡ record { query = q; rows = rows })
 with-some q (Ok rows) v h = (rows, refl, cc)
 with-some q (Err n) v h = absurd cc
@@ -90,7 +90,7 @@ abbrev pub title : List ℕ
 title = text_line (codes "extremes report 1" ∷ [])
 
 -- the lines of rows, after that many others
-abbrev pub lines_of : Asked → ℕ → List Named → List (List ℕ)
+abbrev pub lines_of : Query → ℕ → List Named → List (List ℕ)
 lines_of q = lines_by (λ n. row_line q (suc n))
 
 -- the lines in which a report is written
@@ -123,6 +123,6 @@ lines-are (l1 ∷ l2 ∷ ls) v h =
     λ i. title_is i ∷ query.1 i ∷ body i in
     subst (λ (x : Reported). IsReported x × (l1 ∷ l2 ∷ ls ≡ written x)) (sym rest.2) (can, lines)
   where
-    behind : (q : Asked) (n : ℕ) (l : List ℕ) (row : Named) → row_behind q n l ≡ Some row
+    behind : (q : Query) (n : ℕ) (l : List ℕ) (row : Named) → row_behind q n l ≡ Some row
         → (suc n ≤ q.k) × IsRow row × (l ≡ row_line q (suc n) row)
     behind q n l row h = let it = row_behind-is q n l row h in (omega (arith, it.0), it.1, it.2)

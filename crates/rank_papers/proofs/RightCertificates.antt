@@ -18,11 +18,11 @@ use Rattle.ghcn_files.specs.Ids.{is_id}
 use Rattle.ghcn_files.proofs.IdLaws.{same_id-is}
 use Rattle.ghcn_files.specs.Meaning.Listed.{is_station_of}
 use Rattle.ghcn_files.specs.StationLines.{is_station}
-use Rattle.ghcn_series.specs.Meaning.Series.{Usable}
-use Rattle.ghcn_series.specs.Series.{Contents, IsSeries, series_of, is_series_of}
+use Rattle.ghcn_series.specs.Meaning.Series.{Series}
+use Rattle.ghcn_series.specs.Series.{Data, IsSeries, series_of, is_series_of}
 use Rattle.ghcn_series.specs.Held.{IsContents}
 use Rattle.ghcn_series.specs.DailyFaults.{is_listed}
-use Rattle.rank_query.specs.Meaning.Asked.{Asked, IsAsked, score_element}
+use Rattle.rank_query.specs.Meaning.Asked.{Query, IsAsked, score_element}
 use Rattle.rank_query.specs.Admits.{admits_station}
 use Rattle.rank_scores.specs.declared.candidate.Candidate.{Candidate}
 use Rattle.rank_scores.specs.Meaning.Candidates.{admitted}
@@ -61,7 +61,7 @@ module _ {X : Type 0} (P : X → Type 0) (first : X → X → Bool) where
   each-sorted (x ∷ xs) h = each-placed x (sorted_by first xs) h.0 (each-sorted xs h.1)
 
 -- what holds of all series holds of those of a query
-pub series_hold : (P : Usable → Type 0) (q : Asked) (c : Contents) → AllByRecursion P c.series
+pub series_hold : (P : Series → Type 0) (q : Query) (c : Data) → AllByRecursion P c.series
     → AllByRecursion P (admitted_series q c)
 series_hold P q c h = by (filter (admits_station q) c.stations)
   where
@@ -91,7 +91,7 @@ listed_visible id (s ∷ sts) h e =
     ] refl e
 
 -- the IDs of a query's series are
-morsels_visible : (q : Asked) (c : Contents) → IsContents c
+morsels_visible : (q : Query) (c : Data) → IsContents c
     → AllByRecursion (λ s. is_id s.id.0 ≡ true) (morsels q c)
 morsels_visible q c right =
     let all : AllByRecursion (λ s. is_id s.id.0 ≡ true) c.series =
@@ -109,7 +109,7 @@ pub score_fits : (z : ℤ) → IsScore z → FitsSigned w64 z
 score_fits z h = let low = h.0 in let high = h.1 in grind (arith, ints)
 
 -- the candidates of series have scores
-pub candidates_fit : (q : Asked) (ss : List Usable) → IsAsked q → AllByRecursion IsSeries ss
+pub candidates_fit : (q : Query) (ss : List Series) → IsAsked q → AllByRecursion IsSeries ss
     → AllByRecursion (λ d. IsScore d.score) (flat_map (candidates q) ss)
 candidates_fit q [] asked h = tt
 candidates_fit q (s ∷ ss) asked h =
@@ -129,7 +129,7 @@ kth_fits (suc r) all h = elim (of_rank all r)
 -- ---- what a right certificate says
 
 -- right entries of visible series can be
-each_entry : (q : Asked) (k : Option ℤ) (es : List Line) (ss : List Usable)
+each_entry : (q : Query) (k : Option ℤ) (es : List Line) (ss : List Series)
     → AllByRecursion (λ s. is_id s.id.0 ≡ true) ss → AllZip (IsRightEntry q k) es ss → AllByRecursion IsEntry es
 each_entry q k [] [] v h = tt
 each_entry q k [] (s ∷ ss) v h = tt
@@ -142,7 +142,7 @@ each_entry q k (e ∷ es) (s ∷ ss) v h = (
 -- ---- the counts of best candidates
 
 -- at most k candidates are the best
-few_best : (q : Asked) (c : Contents) → IsAsked q → IsContents c → length (best_of_query q c) ≤ 1000
+few_best : (q : Query) (c : Data) → IsAsked q → IsContents c → length (best_of_query q c) ≤ 1000
 few_best q c asked right =
     let all : List Candidate = all_candidates q c in
     let first : length (best_of_query q c) ≡ length (take q.k (in_order all)) =
@@ -178,7 +178,7 @@ right_counts w best es (inr e) few = inr (
   subst (AllZip IsCount es) (sym (ap (λ (v : ℕ). counts_of v best es) e)) (each_count best es few),
 )
 
-module _ (q : Asked) (c : Contents) (bytes : List ℕ) (asked : IsAsked q) (right : IsContents c) where
+module _ (q : Query) (c : Data) (bytes : List ℕ) (asked : IsAsked q) (right : IsContents c) where
   -- a right certificate has the form, and says what is right
   says_right : IsFoundCertificate q c bytes → (v : Certified) × IsCertificateOf v bytes × SaysRightCertificate q c v
   says_right h = (

@@ -13,10 +13,10 @@ use Rattle.ghcn_files.specs.Ids.{is_id}
 use Rattle.ghcn_files.specs.Meaning.Listed.{is_station_of}
 use Rattle.ghcn_files.specs.StationLines.{is_station}
 use Rattle.ghcn_files.proofs.Ordered.{each-mapped}
-use Rattle.ghcn_series.specs.Meaning.Series.{Usable}
-use Rattle.ghcn_series.specs.Series.{Contents, IsSeries}
+use Rattle.ghcn_series.specs.Meaning.Series.{Series}
+use Rattle.ghcn_series.specs.Series.{Data, IsSeries}
 use Rattle.ghcn_series.specs.Held.{IsContents}
-use Rattle.rank_query.specs.Meaning.Asked.{Asked, IsAsked}
+use Rattle.rank_query.specs.Meaning.Asked.{Query, IsAsked}
 use Rattle.rank_scores.specs.declared.candidate.Candidate.{Candidate}
 use Rattle.rank_scores.specs.Candidates.{candidates}
 use Rattle.rank_scores.specs.Order.{of_rank, best}
@@ -41,7 +41,7 @@ best_few : (k : ℕ) (all : List Candidate) → length (best k all) ≤ k
 best_few k all = omega (arith, kept-length (of_rank all) (range_with_len 0 k), length-range_with_len 0 k)
 
 -- the candidates of series begin and end on days of the calendar
-series_of_days : (q : Asked) (ss : List Usable) → IsAsked q → AllByRecursion IsOfDays (flat_map (candidates q) ss)
+series_of_days : (q : Query) (ss : List Series) → IsAsked q → AllByRecursion IsOfDays (flat_map (candidates q) ss)
 series_of_days q [] asked = tt
 series_of_days q (s ∷ ss) asked =
     each-append IsOfDays (candidates q s) (flat_map (candidates q) ss) (candidates_of_days q s asked)
@@ -116,7 +116,7 @@ module _ (stations : List Station) where
 
 -- ---- what a right report says
 
-module _ (q : Asked) (c : Contents) (bytes : List ℕ) (asked : IsAsked q) (right : IsContents c) where
+module _ (q : Query) (c : Data) (bytes : List ℕ) (asked : IsAsked q) (right : IsContents c) where
   -- what holds of all candidates holds of those of the rows
   rows_hold : (P : Candidate → Type 0) (rows : List (Candidate × Station)) → map (λ row. row.0) rows ≡ best_of_query q c
       → AllByRecursion P (all_candidates q c) → AllByRecursion (λ row. P row.0) rows
@@ -160,7 +160,7 @@ module _ (q : Asked) (c : Contents) (bytes : List ℕ) (asked : IsAsked q) (righ
         best = candidates_are c.stations (map (λ row. row.0) v.rows) listed ∙ says.best;
         listed = stations_are c.stations (map (λ row. row.0) v.rows);
         text = is.text
-            ∙ ap (λ (x : Asked). report_text x v.rows) says.asked
+            ∙ ap (λ (x : Query). report_text x v.rows) says.asked
             ∙ ap (report_text q) (sym (rows_back c.stations v.rows says.named));
       }
 

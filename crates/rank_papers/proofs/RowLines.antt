@@ -9,7 +9,7 @@ use Rattle.ghcn_fields.specs.Meaning.Dates.{date_text}
 use Rattle.ghcn_fields.specs.Dates.{read_date}
 use Rattle.ghcn_fields.proofs.DateTexts.{read_date-law}
 use Rattle.ghcn_files.specs.Meaning.Ids.{is_visible}
-use Rattle.rank_query.specs.Meaning.Asked.{Asked}
+use Rattle.rank_query.specs.Meaning.Asked.{Query}
 use Rattle.rank_papers.specs.Meaning.Values.{measure_of_score, unit_text, value_text, value_of}
 use Rattle.rank_papers.specs.Meaning.Report.{field_unless_empty, text_line}
 use Rattle.rank_papers.specs.Report.{Named}
@@ -188,7 +188,7 @@ name_column rank id first last value unit (b ∷ name) eleven ten ten_too =
 
 -- ---- a row
 
-module _ (q : Asked) (row : Named) (is : IsRow row) where
+module _ (q : Query) (row : Named) (is : IsRow row) where
   -- the value that is printed for the row
   abbrev value_of_row : List ℕ
   value_of_row = value_text (measure_of_score q.score) (value_of q.score row.0.score)

@@ -4,13 +4,13 @@ use Rattle.std.specs.List.{join_with_byte, flat_map}
 use Rattle.std.proofs.lemmas.Grind.{flat_map-append}
 use Rattle.std.specs.Prelude.{ℤ}
 use Rattle.rank_query.specs.declared.score.Score.{Score}
-use Rattle.rank_query.specs.Meaning.Asked.{Asked}
+use Rattle.rank_query.specs.Meaning.Asked.{Query}
 use Rattle.rank_papers.specs.Meaning.Values.{measure_of_score, value_of, value_text, unit_text}
 use Rattle.rank_papers.specs.Meaning.Report.{text_line, row_fields}
 use Rattle.rank_papers.specs.Report.{Named, after_blank}
 
 -- the lines of some rows with their ranks
-abbrev pub rows_text : Asked → List (ℕ × Named) → List ℕ
+abbrev pub rows_text : Query → List (ℕ × Named) → List ℕ
 rows_text q rows = flat_map (λ row. text_line (row_fields q row)) rows
 
 -- the fields of a score: its value as it is printed, and its unit

@@ -11,14 +11,14 @@ use Rattle.ghcn_files.specs.Meaning.Listed.{is_station_of}
 use Rattle.ghcn_files.specs.Elements.{same_element}
 use Rattle.ghcn_series.specs.DailyFaults.{is_listed}
 use Rattle.ghcn_series.specs.Says.{data_of}
-use Rattle.ghcn_series.specs.Meaning.Series.{Usable}
-use Rattle.ghcn_series.specs.Series.{Contents, is_series_of, series_of}
+use Rattle.ghcn_series.specs.Meaning.Series.{Series}
+use Rattle.ghcn_series.specs.Series.{Data, is_series_of, series_of}
 use Rattle.ghcn_series.proofs.AllSeries.{same_element-is}
 use Rattle.ghcn_series.proofs.Members.{In, contains-in, in-contains, found_in, kept_in, in_kept, made_in, in_made, in_any}
 use Rattle.ghcn_series.proofs.SaidLines.{held-said}
 use Rattle.ghcn_series.proofs.SaidSeries.{series_said}
 use Rattle.rank_query.specs.Admits.{admits_station}
-use Rattle.rank_query.specs.Meaning.Asked.{Asked, score_element}
+use Rattle.rank_query.specs.Meaning.Asked.{Query, score_element}
 use Rattle.rank_papers.specs.Meaning.Right.{IsAdmittedSeries}
 use Rattle.rank_papers.specs.Right.{IsRightReport}
 use Rattle.rank_papers.specs.RightLaws.{IsHeldSeries, ReportsAreSaid, CertificatesAreSaid}
@@ -31,25 +31,25 @@ listed_is : (stations : List Station) (st : Station) → In stations st → is_l
 listed_is stations st h = in_any (is_station_of st.id) stations st h (same_id-laws.refl st.id)
 
 -- a series that is found has the station and element
-is_of_both : (c : Contents) (id : StationId) (e : Element) (s : Usable) → series_of c id e ≡ Some s
+is_of_both : (c : Data) (id : StationId) (e : Element) (s : Series) → series_of c id e ≡ Some s
     → (s.id ≡ id) × (s.element ≡ e)
 is_of_both c id e s found =
     let both = and_parts (same_id s.id id) (same_element s.element e) (found_in (is_series_of id e) c.series s found).1
     in
     (same_id-is s.id id both.0, same_element-is s.element e both.1)
 
-module _ (q : Asked) (stations : List Station) (files : List (List ℕ)) (c : Contents)
+module _ (q : Query) (stations : List Station) (files : List (List ℕ)) (c : Data)
     (is : data_of stations files ≡ Ok c) where
   -- the list is that of the data
   same_list : c.stations ≡ stations
-  same_list = ap (λ (d : Contents). d.stations) (held-said stations files c is)
+  same_list = ap (λ (d : Data). d.stations) (held-said stations files c is)
 
   -- the series of the query's element of a station
-  abbrev of_station : Station → Option Usable
+  abbrev of_station : Station → Option Series
   of_station st = series_of c st.id (score_element q.score)
 
   -- a series that the data hold is one that the files say
-  held_said : (s : Usable) → IsHeldSeries q c s → IsAdmittedSeries q stations files s
+  held_said : (s : Series) → IsHeldSeries q c s → IsAdmittedSeries q stations files s
   held_said s h =
       let there = made_in of_station (filter (admits_station q) c.stations) s (contains-in _ s h) in
       let st : Station = there.0 in
@@ -65,7 +65,7 @@ module _ (q : Asked) (stations : List Station) (files : List (List ℕ)) (c : Co
       }
 
   -- and the other way round
-  said_held : (s : Usable) → IsAdmittedSeries q stations files s → IsHeldSeries q c s
+  said_held : (s : Series) → IsAdmittedSeries q stations files s → IsHeldSeries q c s
   said_held s is_one =
       let st : Station = is_one.station.0 in
       let listed : In stations st = contains-in stations st is_one.station.1 in
@@ -79,7 +79,7 @@ module _ (q : Asked) (stations : List Station) (files : List (List ℕ)) (c : Co
       ∙ ap (series_of c s.id) (sym is_one.of_element) ∙ own))
 
   -- both
-  series-said : (s : Usable) → IsHeldSeries q c s ↔ IsAdmittedSeries q stations files s
+  series-said : (s : Series) → IsHeldSeries q c s ↔ IsAdmittedSeries q stations files s
   series-said s = (held_said s, said_held s)
 
 -- so a right report of the data is that of what the files say

@@ -6,7 +6,7 @@ use Rattle.std.specs.Option.{option_eq}
 use Rattle.std.specs.Ordering.{int_eq}
 use Rattle.std.specs.Cmp.Lexicographic.{bytes_decides}
 use Rattle.std.proofs.lemmas.Bool.Decides.{Decides-int_eq}
-use Rattle.rank_query.specs.Meaning.Asked.{Asked, IsAsked}
+use Rattle.rank_query.specs.Meaning.Asked.{Query, IsAsked}
 use Rattle.rank_query.specs.Meaning.QueryTexts.{query_text}
 use Rattle.rank_papers.specs.Meaning.Report.{text_line}
 use Rattle.rank_papers.specs.Papers.{same_query}
@@ -19,16 +19,16 @@ use Rattle.rank_papers.specs.Laws.{CertificatesAreRead}
 
 module _ (certificates : CertificatesAreRead) where
   -- a certificate of a query that says nothing else
-  abbrev bare : Asked → Certified
+  abbrev bare : Query → Certified
   bare q = record { version = 1; query = q; kth = None; entries = []; counts = [] }
 
   -- its text is read as it
-  bare_read : (q : Asked) → IsAsked q → read_certificate (certificate_text (bare q)) ≡ Ok (bare q)
+  bare_read : (q : Query) → IsAsked q → read_certificate (certificate_text (bare q)) ≡ Ok (bare q)
   bare_read q asked = (certificates (certificate_text (bare q)) (bare q)).1
       (record { can_be = record { asked = asked; kth = tt; entries = tt; counts = inl (refl, refl) }; text = refl })
 
   -- queries that can be asked are the same if their texts are
-  pub one_query : (a b : Asked) → IsAsked a → IsAsked b → same_query a b ≡ true → a ≡ b
+  pub one_query : (a b : Query) → IsAsked a → IsAsked b → same_query a b ≡ true → a ≡ b
   one_query a b can_a can_b e =
       let texts : query_text a ≡ query_text b = (bytes_decides (query_text a) (query_text b)).0 e in
       let papers : certificate_text (bare a) ≡ certificate_text (bare b) =
@@ -44,9 +44,9 @@ module _ (certificates : CertificatesAreRead) where
       ap (λ (z : Certified). z.query) same
 
 -- a query has one text
-pub own_query : (a b : Asked) → a ≡ b → same_query a b ≡ true
+pub own_query : (a b : Query) → a ≡ b → same_query a b ≡ true
 own_query a b e =
-    ap (λ (x : Asked). same_query x b) e ∙ (bytes_decides (query_text b) (query_text b)).1 refl
+    ap (λ (x : Query). same_query x b) e ∙ (bytes_decides (query_text b) (query_text b)).1 refl
 
 -- ---- scores
 

@@ -8,11 +8,11 @@ use Rattle.std.specs.declared.cmp.Ordering.TheVariants.{Less}
 use Rattle.std.proofs.lemmas.Bool.Decides.{nat_tests}
 use Rattle.ghcn_files.proofs.IdOrder.{id_cmp, comes_first, strictly, strictly_ranks}
 use Rattle.ghcn_files.proofs.Ordered.{Descend, descend-weaker, less, one_rising, sorted-permutation}
-use Rattle.ghcn_series.specs.Meaning.Series.{Usable}
-use Rattle.ghcn_series.specs.Series.{Contents}
+use Rattle.ghcn_series.specs.Meaning.Series.{Series}
+use Rattle.ghcn_series.specs.Series.{Data}
 use Rattle.ghcn_series.specs.Held.{IsContents}
 use Rattle.ghcn_series.proofs.Members.{In, contains-in, in-contains, of_one, for_each, kept_in, in_kept, in_permuted}
-use Rattle.rank_query.specs.Meaning.Asked.{Asked}
+use Rattle.rank_query.specs.Meaning.Asked.{Query}
 use Rattle.rank_scores.specs.Meaning.Candidates.{admitted}
 use Rattle.rank_scores.specs.Morsels.{admitted_series, morsels, has_admitted}
 use Rattle.rank_scores.proofs.QueryCandidates.{morsels_rise}
@@ -24,13 +24,13 @@ use Rattle.rank_papers.proofs.BestOfQuery.{sorted-descends, descends-sorted}
 -- ---- by increasing ID
 
 -- a series comes before another by its ID
-abbrev IsBefore : Usable → Usable → Type 0
-IsBefore a b = strictly (λ (s : Usable). s.id) a b ≡ true
+abbrev IsBefore : Series → Series → Type 0
+IsBefore a b = strictly (λ (s : Series). s.id) a b ≡ true
 
 -- so do the series of a query, each before all after it
-rising : (q : Asked) (IsOne : Usable → Type 0) (xs : List Usable) → AreSeriesOf q IsOne xs → Descend IsBefore xs
+rising : (q : Query) (IsOne : Series → Type 0) (xs : List Series) → AreSeriesOf q IsOne xs → Descend IsBefore xs
 rising q IsOne xs s =
-    let order = id_cmp (λ (u : Usable). u.id) in
+    let order = id_cmp (λ (u : Series). u.id) in
     descend-weaker (λ a b. order a b ≡ Less) IsBefore xs (λ a b e. ap is_lt e) (sorted-descends order xs s.by_id)
 
 -- ---- with an admitted day
@@ -45,9 +45,9 @@ is_some n h = grind (arith, nat_tests)
 
 -- ---- the morsels
 
-module _ (q : Asked) (c : Contents) (right : IsContents c) where
+module _ (q : Query) (c : Data) (right : IsContents c) where
   -- the series with an admitted day, in file order
-  abbrev kept : List Usable
+  abbrev kept : List Series
   kept = filter (has_admitted q) (admitted_series q c)
 
   -- the morsels are those in another order
@@ -63,7 +63,7 @@ module _ (q : Asked) (c : Contents) (right : IsContents c) where
       (in-contains (admitted_series q c) s there.0, is_some (length (admitted q s)) there.1)))
 
   -- and each such series is one
-  is_one : (s : Usable) → Contains (admitted_series q c) s → 0 < length (admitted q s) → Contains (morsels q c) s
+  is_one : (s : Series) → Contains (admitted_series q c) s → 0 < length (admitted q s) → Contains (morsels q c) s
   is_one s there some =
       in-contains (morsels q c) s (of_one (In (morsels q c)) kept s (in_permuted kept (morsels q c) moved)
       (in_kept (has_admitted q) (admitted_series q c) s (contains-in (admitted_series q c) s there)
@@ -77,15 +77,15 @@ module _ (q : Asked) (c : Contents) (right : IsContents c) where
           (contains-in (morsels q c) s h),
       λ h. is_one s h.0 h.1,
     );
-    by_id = descends-sorted (id_cmp (λ (s : Usable). s.id)) (morsels q c)
-        (descend-weaker IsBefore (λ a b. id_cmp (λ (s : Usable). s.id) a b ≡ Less) (morsels q c)
-        (λ a b. less (id_cmp (λ (s : Usable). s.id) a b)) (morsels_rise q c right));
+    by_id = descends-sorted (id_cmp (λ (s : Series). s.id)) (morsels q c)
+        (descend-weaker IsBefore (λ a b. id_cmp (λ (s : Series). s.id) a b ≡ Less) (morsels q c)
+        (λ a b. less (id_cmp (λ (s : Series). s.id) a b)) (morsels_rise q c right));
   }
 
 -- there is one list of the series of a query
-pub one_series : (q : Asked) (IsOne : Usable → Type 0) (xs ys : List Usable) → AreSeriesOf q IsOne xs
+pub one_series : (q : Query) (IsOne : Series → Type 0) (xs ys : List Series) → AreSeriesOf q IsOne xs
     → AreSeriesOf q IsOne ys → xs ≡ ys
 one_series q IsOne xs ys s t =
-    one_rising (strictly (λ (u : Usable). u.id)) (strictly_ranks (λ u. u.id)) xs ys (rising q IsOne xs s)
+    one_rising (strictly (λ (u : Series). u.id)) (strictly_ranks (λ u. u.id)) xs ys (rising q IsOne xs s)
     (rising q IsOne ys t) (λ x h. contains-in ys x ((t.are x).1 ((s.are x).0 (in-contains xs x h))))
     (λ x h. contains-in xs x ((s.are x).1 ((t.are x).0 (in-contains ys x h))))

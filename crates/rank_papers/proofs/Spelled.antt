@@ -6,7 +6,7 @@ use Rattle.std.specs.Cmp.Lexicographic.{bytes_decides}
 use Rattle.std.proofs.lemmas.Bool.Decides.{nat_tests}
 use Rattle.ghcn_fields.specs.Meaning.Bytes.{same_bytes}
 use Rattle.ghcn_fields.specs.Meaning.Dates.{date_text}
-use Rattle.rank_query.specs.Meaning.Asked.{Asked}
+use Rattle.rank_query.specs.Meaning.Asked.{Query}
 use Rattle.rank_papers.specs.declared.measure.Measure.{Measure}
 use Rattle.rank_papers.specs.declared.measure.Measure.TheVariants.{Degrees, Millimetres, WholeMillimetres, Days}
 use Rattle.rank_papers.specs.Meaning.Values.{measure_of_score, unit_text, value_text, value_of}
@@ -171,7 +171,7 @@ row_spelled rank id first last value unit name line eleven ten ten_too id_is fir
     ∙ ap (λ (t : Bool). has_front rank line && t) (back_first value unit name line (length rank + 35))
 
 -- a line is that of the row that was cut out of it if and only if it has these at its front and at its back
-pub line_spelled : (q : Asked) (rank line value unit : List ℕ) (row : Named)
+pub line_spelled : (q : Query) (rank line value unit : List ℕ) (row : Named)
     → Some row ≡ row_in_columns q (length rank) line
     → value ≡ value_text (measure_of_score q.score) (value_of q.score row.0.score)
     → unit ≡ unit_text (measure_of_score q.score) → (n : ℕ) → rank ≡ decimal n

@@ -20,7 +20,7 @@ use Rattle.ghcn_fields.proofs.Digits.{natural-from}
 use Rattle.ghcn_files.specs.Meaning.Ids.{is_visible}
 use Rattle.rank_query.specs.declared.score.Score.{Score}
 use Rattle.rank_query.specs.declared.score.Score.TheVariants.{Highest, Lowest, Sum, Dry, Wet, Hot, Cold}
-use Rattle.rank_query.specs.Meaning.Asked.{Asked}
+use Rattle.rank_query.specs.Meaning.Asked.{Query}
 use Rattle.rank_query.specs.Meaning.Spelling.{IsNumeralOf}
 use Rattle.rank_query.proofs.PrintedWords.{decimal_numeral}
 use Rattle.rank_papers.specs.declared.measure.Measure.{Measure}
@@ -170,7 +170,7 @@ value_fits (Hot t) z h = magnitude_fits z h
 value_fits (Cold t) z h = magnitude_fits z h
 
 -- a score is read of the value that is printed for it
-pub score_in-text : (q : Asked) (z : ℤ) → FitsSigned w64 z
+pub score_in-text : (q : Query) (z : ℤ) → FitsSigned w64 z
     → score_in q (value_text (measure_of_score q.score) (value_of q.score z)) ≡ Some z
 score_in-text q z h =
     ap (λ (o : Option ℤ). in_i64 (option_map (value_of q.score) o))

@@ -6,9 +6,9 @@ use Rattle.std.specs.Option.{option_map}
 use Rattle.std.specs.Int.{w64}
 use Rattle.ghcn_files.specs.Meaning.Ids.{same_id}
 use Rattle.ghcn_files.specs.Ids.{is_id}
-use Rattle.ghcn_series.specs.Meaning.Series.{Usable}
-use Rattle.ghcn_series.specs.Series.{Contents}
-use Rattle.rank_query.specs.Meaning.Asked.{Asked, IsAsked}
+use Rattle.ghcn_series.specs.Meaning.Series.{Series}
+use Rattle.ghcn_series.specs.Series.{Data}
+use Rattle.rank_query.specs.Meaning.Asked.{Query, IsAsked}
 use Rattle.rank_scores.specs.declared.candidate.Candidate.{Candidate}
 use Rattle.rank_scores.specs.Order.{bound_is_below}
 use Rattle.rank_scores.specs.Morsels.{morsels, best_of_query, kth_of_query, IsAbove}
@@ -23,7 +23,7 @@ use Rattle.rank_papers.specs.Meaning.Certificate.{title_line, kth_line, entry_li
 -- count for each entry
 pub record Certified : Type 0 where
   pub version : ℕ
-  pub query : Asked
+  pub query : Query
   pub kth : Option ℤ
   pub entries : List Line
   pub counts : List ℕ
@@ -80,14 +80,14 @@ pub record IsCertificateOf (v : Certified) (bytes : List ℕ) : Type 0 where
 
 -- an entry is right for a series: it names the series, no candidate of the series has a score above the bound, and it
 -- is skipped only if there is a k-th score and the bound is strictly below it
-pub record IsRightEntry (q : Asked) (kth : Option ℤ) (e : Line) (s : Usable) : Type 0 where
+pub record IsRightEntry (q : Query) (kth : Option ℤ) (e : Line) (s : Series) : Type 0 where
   pub named : e.id ≡ s.id
   pub above : IsAbove q s e.bound
   pub fits : FitsSigned w64 e.bound
   pub passed_over : e.skipped ≡ true → bound_is_below kth e.bound ≡ true
 
 -- a right entry for each series of the query, by increasing ID
-abbrev pub AreRightEntries : Asked → Contents → List Line → Type 0
+abbrev pub AreRightEntries : Query → Data → List Line → Type 0
 AreRightEntries q c es = AllZip (IsRightEntry q (kth_of_query q c)) es (morsels q c)
 
 -- how many of these candidates belong to the station of an entry; for one that was skipped none is counted
@@ -100,7 +100,7 @@ counts_of version best es = if version == 2 then map (count_of best) es else []
 
 -- a right certificate of a query and data, whatever its version, its bounds and skips: it has the query, the k-th
 -- score, a right entry for each series, and in version 2 how many of the best candidates belong to each
-pub record IsFoundCertificate (q : Asked) (c : Contents) (bytes : List ℕ) : Type 0 where
+pub record IsFoundCertificate (q : Query) (c : Data) (bytes : List ℕ) : Type 0 where
   pub version : ℕ
   pub known : (version ≡ 1) ⊎ (version ≡ 2)
   pub entries : List Line
@@ -115,7 +115,7 @@ pub record IsFoundCertificate (q : Asked) (c : Contents) (bytes : List ℕ) : Ty
 
 -- what a certificate says is right: it has the query, the k-th score, a right entry for each series, and the
 -- counts that its version has of the best candidates
-pub record SaysRightCertificate (q : Asked) (c : Contents) (v : Certified) : Type 0 where
+pub record SaysRightCertificate (q : Query) (c : Data) (v : Certified) : Type 0 where
   pub asked : v.query ≡ q
   pub kth : v.kth ≡ kth_of_query q c
   pub entries : AreRightEntries q c v.entries
@@ -128,7 +128,7 @@ abbrev pub kth_of_best : ℕ → List Candidate → Option ℤ
 kth_of_best k best = option_map (λ c. c.score) (slice_get best (k - 1))
 
 -- the text of the certificate of version 2 with these best candidates and entries
-abbrev pub certificate_of_best : Asked → List Candidate → List Line → List ℕ
+abbrev pub certificate_of_best : Query → List Candidate → List Line → List ℕ
 certificate_of_best q best es = certificate_text (record {
   version = 2;
   query = q;

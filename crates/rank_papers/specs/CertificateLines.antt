@@ -4,7 +4,7 @@ use Rattle.std.specs.Option.{option_map, option_map_or}
 use Rattle.ghcn_fields.specs.Meaning.Bytes.{same_bytes}
 use Rattle.ghcn_fields.specs.Numbers.{natural, up_to}
 use Rattle.ghcn_files.specs.Ids.{is_id}
-use Rattle.rank_query.specs.Meaning.Asked.{Asked}
+use Rattle.rank_query.specs.Meaning.Asked.{Query}
 use Rattle.rank_papers.specs.declared.fault.PaperFault.{PaperFault}
 use Rattle.rank_papers.specs.declared.fault.PaperFault.TheVariants.{BadReport, BadCertificate, Memory}
 use Rattle.rank_papers.specs.declared.paper.Certificate.{Certificate}
@@ -79,7 +79,7 @@ abbrev pub counts_in : ℕ → List Counted → List ℕ
 counts_in version ls = if version == 2 then map (λ l. l.count) ls else []
 
 -- a certificate with these entries and counts
-abbrev pub with_entries : ℕ → Asked → Option ℤ → Result (List Counted) ℕ → Result Certified ℕ
+abbrev pub with_entries : ℕ → Query → Option ℤ → Result (List Counted) ℕ → Result Certified ℕ
 with_entries version q s (Ok ls) = Ok (record {
   version = version;
   query = q;
@@ -90,7 +90,7 @@ with_entries version q s (Ok ls) = Ok (record {
 with_entries version q s (Err n) = Err n
 
 -- a k-th score, and entries
-abbrev pub behind_query : ℕ → Asked → List (List ℕ) → Result Certified ℕ
+abbrev pub behind_query : ℕ → Query → List (List ℕ) → Result Certified ℕ
 behind_query version q [] = Err 3
 behind_query version q (l ∷ ls) =
     option_map_or (λ s. with_entries version q s (entries_in version 0 ls)) (kth_in l) (Err 3)

@@ -1,8 +1,8 @@
 -- What is true of the texts of reports and certificates, as statements for the contract of a public function.
 use Rattle.std.specs.Prelude.{◌≡◌, ◌↔◌, ℕ, List, Ok, Err}
-use Rattle.ghcn_series.specs.Series.{Contents}
+use Rattle.ghcn_series.specs.Series.{Data}
 use Rattle.ghcn_series.specs.Held.{IsContents}
-use Rattle.rank_query.specs.Meaning.Asked.{Asked, IsAsked}
+use Rattle.rank_query.specs.Meaning.Asked.{Query, IsAsked}
 use Rattle.rank_papers.specs.Report.{IsFoundReport}
 use Rattle.rank_papers.specs.ReportLines.{Reported, IsReportOf, read_report, SaysRightReport}
 use Rattle.rank_papers.specs.Certificate.{Certified, IsCertificateOf, IsFoundCertificate, SaysRightCertificate}
@@ -20,7 +20,7 @@ CertificatesGoWrong = (bytes : List ℕ) (n : ℕ) →
 
 -- a certificate is right for a query and data if and only if it has the form and says what is right
 abbrev pub RightCertificatesSayRight : Type 0
-RightCertificatesSayRight = (q : Asked) (c : Contents) (bytes : List ℕ) → IsAsked q → IsContents c →
+RightCertificatesSayRight = (q : Query) (c : Data) (bytes : List ℕ) → IsAsked q → IsContents c →
     IsFoundCertificate q c bytes ↔ ((v : Certified) × IsCertificateOf v bytes × SaysRightCertificate q c v)
 
 -- a text is read as a value if and only if it is the text of a report that says this
@@ -33,5 +33,5 @@ ReportsGoWrong = (bytes : List ℕ) (n : ℕ) → (read_report bytes ≡ Err n) 
 
 -- a report is right for a query and data if and only if it has the form and says what is right
 abbrev pub RightReportsSayRight : Type 0
-RightReportsSayRight = (q : Asked) (c : Contents) (bytes : List ℕ) → IsAsked q → IsContents c →
+RightReportsSayRight = (q : Query) (c : Data) (bytes : List ℕ) → IsAsked q → IsContents c →
     IsFoundReport q c bytes ↔ ((v : Reported) × IsReportOf v bytes × SaysRightReport q c v)

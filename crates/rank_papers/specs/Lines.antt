@@ -5,7 +5,7 @@ use Rattle.ghcn_fields.specs.Meaning.Bytes.{same_bytes}
 use Rattle.ghcn_fields.specs.Numbers.{natural, signed_by}
 use Rattle.std.specs.Fmt.{signed_decimal}
 use Rattle.ghcn_files.specs.Meaning.StationLines.{is_printable}
-use Rattle.rank_query.specs.Meaning.Asked.{Asked}
+use Rattle.rank_query.specs.Meaning.Asked.{Query}
 use Rattle.rank_query.specs.Reading.{read_query}
 use Rattle.rank_papers.specs.Meaning.Report.{query_line}
 
@@ -80,14 +80,14 @@ abbrev pub number_in : List ℕ → Option ℤ
 number_in field = in_i64 (exactly signed_decimal field (signed_by natural field))
 
 -- a query that was read
-abbrev pub ok_query : {E : Type 0} → Result Asked E → Option Asked
+abbrev pub ok_query : {E : Type 0} → Result Query E → Option Query
 ok_query (Ok q) = Some q
 ok_query (Err e) = None
 
 -- the query that a text denotes, if its bytes can be printed
-abbrev pub query_of_text : List ℕ → Option Asked
+abbrev pub query_of_text : List ℕ → Option Query
 query_of_text text = if list_all is_printable text then ok_query (read_query text) else None
 
 -- the query whose line this is
-abbrev pub query_in : List ℕ → Option Asked
+abbrev pub query_in : List ℕ → Option Query
 query_in line = exactly query_line line (query_of_text (slice_range line 6 (length line - 1)))

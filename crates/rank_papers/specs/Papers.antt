@@ -2,7 +2,7 @@
 use Rattle.std.specs.Prelude.{◌≡◌, ℕ, Bool, true, List, [], ◌∷◌, map, codes, Result, Ok, Err}
 use Rattle.std.specs.List.{AllByRecursion}
 use Rattle.ghcn_fields.specs.Meaning.Bytes.{same_bytes}
-use Rattle.rank_query.specs.Meaning.Asked.{Asked}
+use Rattle.rank_query.specs.Meaning.Asked.{Query}
 use Rattle.rank_query.specs.Meaning.QueryTexts.{query_text}
 use Rattle.rank_scores.specs.declared.candidate.Candidate.{Candidate}
 use Rattle.rank_scores.specs.Meaning.Order.{precedes}
@@ -34,7 +34,7 @@ paper_text paper.Certificate = codes "certificate"
 -- ---- queries and rows
 
 -- two queries are the same: their canonical texts are equal
-abbrev pub same_query : Asked → Asked → Bool
+abbrev pub same_query : Query → Query → Bool
 same_query a b = same_bytes (query_text a) (query_text b)
 
 -- the candidates of rows

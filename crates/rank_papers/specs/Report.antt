@@ -4,8 +4,8 @@ use Rattle.std.specs.List.{find, filter_map}
 use Rattle.std.specs.Option.{option_map}
 use Rattle.ghcn_files.specs.declared.station.Station.{Station}
 use Rattle.ghcn_files.specs.Meaning.Listed.{is_station_of}
-use Rattle.ghcn_series.specs.Series.{Contents}
-use Rattle.rank_query.specs.Meaning.Asked.{Asked}
+use Rattle.ghcn_series.specs.Series.{Data}
+use Rattle.rank_query.specs.Meaning.Asked.{Query}
 use Rattle.rank_scores.specs.declared.candidate.Candidate.{Candidate}
 use Rattle.rank_scores.specs.Morsels.{best_of_query}
 use Rattle.rank_papers.specs.Meaning.Report.{trimmed, report_text, IsReportOfBest}
@@ -35,7 +35,7 @@ abbrev pub with_stations : List Station → List Candidate → List (Candidate �
 with_stations stations cs = filter_map (with_station stations) cs
 
 -- the right report of a query and data: that of the best candidates
-abbrev pub IsFoundReport : Asked → Contents → List ℕ → Type 0
+abbrev pub IsFoundReport : Query → Data → List ℕ → Type 0
 IsFoundReport q c bytes = IsReportOfBest q c.stations (best_of_query q c) bytes
 
 -- the rows of candidates of listed stations
@@ -43,5 +43,5 @@ abbrev pub rows_of_best : List Station → List Candidate → List Named
 rows_of_best stations best = map named (with_stations stations best)
 
 -- the text of the report with these best candidates of listed stations
-abbrev pub text_of_best : Asked → List Station → List Candidate → List ℕ
+abbrev pub text_of_best : Query → List Station → List Candidate → List ℕ
 text_of_best q stations best = report_text q (rows_of_best stations best)

@@ -13,8 +13,8 @@ use Rattle.ghcn_files.specs.declared.station.StationId.{StationId}
 use Rattle.ghcn_files.specs.Ids.{is_id}
 use Rattle.ghcn_files.specs.Meaning.Listed.{is_station_of}
 use Rattle.ghcn_files.specs.Meaning.StationLines.{is_printable}
-use Rattle.ghcn_series.specs.Series.{Contents}
-use Rattle.rank_query.specs.Meaning.Asked.{Asked, IsAsked}
+use Rattle.ghcn_series.specs.Series.{Data}
+use Rattle.rank_query.specs.Meaning.Asked.{Query, IsAsked}
 use Rattle.rank_scores.specs.Morsels.{best_of_query}
 use Rattle.rank_papers.specs.declared.fault.PaperFault.{PaperFault}
 use Rattle.rank_papers.specs.declared.fault.PaperFault.TheVariants.{BadReport, BadCertificate, Memory}
@@ -29,7 +29,7 @@ use Rattle.rank_papers.specs.Lines.{paper_lines, ends_by, up_to_end, exactly, in
 
 -- what a report says: a query, and rows; whether there could be more follows from their number
 pub record Reported : Type 0 where
-  pub query : Asked
+  pub query : Query
   pub rows : List Named
 
 -- the last of some bytes isn't a blank
@@ -64,7 +64,7 @@ abbrev pub name_of : List Station → StationId → Option (List ℕ)
 name_of stations id = option_map (λ station. trimmed station.name) (find (is_station_of id) stations)
 
 -- what a report says is right: it has the query, and its rows are the best candidates with their stations' names
-pub record SaysRightReport (q : Asked) (c : Contents) (v : Reported) : Type 0 where
+pub record SaysRightReport (q : Query) (c : Data) (v : Reported) : Type 0 where
   pub asked : v.query ≡ q
   pub best : map (λ row. row.0) v.rows ≡ best_of_query q c
   pub named : AllByRecursion (λ row. name_of c.stations row.0.id ≡ Some row.1) v.rows
@@ -72,11 +72,11 @@ pub record SaysRightReport (q : Asked) (c : Contents) (v : Reported) : Type 0 wh
 -- ---- a row
 
 -- the line of a row with its rank
-abbrev pub row_line : Asked → ℕ → Named → List ℕ
+abbrev pub row_line : Query → ℕ → Named → List ℕ
 row_line q rank row = text_line (row_fields q (rank, row))
 
 -- the score of a printed value: its digits without the point, and its sign
-abbrev pub score_in : Asked → List ℕ → Option ℤ
+abbrev pub score_in : Query → List ℕ → Option ℤ
 score_in q field = in_i64 (option_map (value_of q.score) (signed_by natural (filter (λ b. not (b == 46)) field)))
 
 -- a row of these, if each is there, the ID is visible and the name can be
@@ -92,7 +92,7 @@ first_word text = take_while (λ b. not (b == 32)) text
 
 -- the row in the columns after a rank of that many digits: ID and days are of fixed width, then come a value, the unit
 -- and the name
-abbrev pub row_in_columns : Asked → ℕ → List ℕ → Option Named
+abbrev pub row_in_columns : Query → ℕ → List ℕ → Option Named
 row_in_columns q digits line =
     let before_end = length line - 1 in
     let value = first_word (slice_range line (digits + 35) before_end) in
@@ -104,29 +104,29 @@ row_in_columns q digits line =
     (score_in q value)
 
 -- the row whose line with this rank this is
-abbrev pub row_in : Asked → ℕ → List ℕ → Option Named
+abbrev pub row_in : Query → ℕ → List ℕ → Option Named
 row_in q rank line = exactly (row_line q rank) line (row_in_columns q (length (decimal rank)) line)
 
 -- ---- the lines of a report
 
 -- the last line of a report with that many rows
-abbrev pub report_end : Asked → ℕ → List ℕ
+abbrev pub report_end : Query → ℕ → List ℕ
 report_end q rows = text_line (end_fields q.k rows)
 
 -- the row after that many others whose line this is, if there may be one more
-abbrev pub row_behind : Asked → ℕ → List ℕ → Option Named
+abbrev pub row_behind : Query → ℕ → List ℕ → Option Named
 row_behind q n line = if nat_lt n q.k then row_in q (suc n) line else None
 
 -- the end line of that many rows, and what comes after it
-abbrev pub ending_of_rows : Asked → ℕ → List ℕ → List ℕ → Result (List Named) ℕ
+abbrev pub ending_of_rows : Query → ℕ → List ℕ → List ℕ → Result (List Named) ℕ
 ending_of_rows q n line behind = ends_by (n + 3) (same_bytes line (report_end q n)) (paper_lines behind)
 
 -- the rows of these lines, which come after that many other rows, up to an end line with the number of all
-abbrev pub rows_in : Asked → ℕ → List (List ℕ) → Result (List Named) ℕ
+abbrev pub rows_in : Query → ℕ → List (List ℕ) → Result (List Named) ℕ
 rows_in q n ls = up_to_end 3 (row_behind q) (report_end q) n ls
 
 -- a report with these rows
-abbrev pub with_rows : Asked → Result (List Named) ℕ → Result Reported ℕ
+abbrev pub with_rows : Query → Result (List Named) ℕ → Result Reported ℕ
 with_rows q (Ok rows) = Ok (record { query = q; rows = rows })
 with_rows q (Err n) = Err n
 

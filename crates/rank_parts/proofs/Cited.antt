@@ -44,11 +44,11 @@ pub use Rattle.ghcn_series.proofs.Members.{In, all_in, any_in, contains-in, for_
 pub use Rattle.ghcn_series.proofs.Members.{in_any, in_kept, in_map, kept_in, map_in, of_one}
 pub use Rattle.ghcn_series.specs.Held.{IsContents}
 pub use Rattle.ghcn_series.specs.Laws.{DataAreRight}
-pub use Rattle.ghcn_series.specs.Meaning.Series.{Usable}
+pub use Rattle.ghcn_series.specs.Meaning.Series.{Series}
 pub use Rattle.ghcn_series.specs.Says.{data_of}
-pub use Rattle.ghcn_series.specs.Series.{Contents, is_series_of, series_of}
+pub use Rattle.ghcn_series.specs.Series.{Data, is_series_of, series_of}
 pub use Rattle.rank_query.specs.Admits.{admits_station}
-pub use Rattle.rank_query.specs.Meaning.Asked.{Asked, IsAsked, score_element}
+pub use Rattle.rank_query.specs.Meaning.Asked.{Query, IsAsked, score_element}
 pub use Rattle.rank_scores.proofs.QueryCandidates.{morsels_rise}
 pub use Rattle.rank_scores.proofs.QueryMorsels.{by_station}
 pub use Rattle.rank_scores.proofs.Ranks.{Descends}

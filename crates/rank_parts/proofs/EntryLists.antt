@@ -1,6 +1,6 @@
 -- Lines one by one: their IDs, which rise, lists that go together, the lines of stations, and scores.
-use Rattle.rank_parts.proofs.Cited.{◌≡◌, true, List, [], ◌∷◌, map, IsStrictWeakOrder, StationId, strictly_ranks, Usable}
-use Rattle.rank_parts.proofs.Cited.{Contents, IsContents, In, Asked, morsels, morsels_rise, Line, IdsRise}
+use Rattle.rank_parts.proofs.Cited.{◌≡◌, true, List, [], ◌∷◌, map, IsStrictWeakOrder, StationId, strictly_ranks, Series}
+use Rattle.rank_parts.proofs.Cited.{Data, IsContents, In, Query, morsels, morsels_rise, Line, IdsRise}
 use Rattle.rank_parts.proofs.Cited.{stands_before, inl, inr, ◌≤◌, length, refl, sym, ◌∙◌, subst, arith, AllByRecursion}
 use Rattle.rank_parts.proofs.Cited.{of_one, ap₂, Option, ℤ, AllZip, IsRightEntry, false, Some, None, ap, ◌≤ℤ◌}
 use Rattle.rank_parts.proofs.Cited.{false_from_ne_true, true_from_ne_false, ints, Station, same_id, same_id-is}
@@ -43,8 +43,8 @@ rise_ids (e ∷ f ∷ es) h =
     ((h.0, more), rest)
 
 -- entries rise that name series of which each has an ID before those of all after it
-pub entries_rise : (q : Asked) (kth : Option ℤ) (es : List Line) (us : List Usable) → AllZip (IsRightEntry q kth) es us
-    → ordered.Descend (λ (a b : Usable). IsBefore a.id b.id) us → IdsRise es
+pub entries_rise : (q : Query) (kth : Option ℤ) (es : List Line) (us : List Series) → AllZip (IsRightEntry q kth) es us
+    → ordered.Descend (λ (a b : Series). IsBefore a.id b.id) us → IdsRise es
 entries_rise q kth [] us h k = tt
 entries_rise q kth (e ∷ []) us h k = tt
 entries_rise q kth (e ∷ f ∷ es) [] h k = absurd h
@@ -62,9 +62,9 @@ same_ids = ordered.one_rising stands_before ranks
 -- ---- morsels
 
 -- the IDs of a query's morsels rise
-pub morsel_ids : (q : Asked) (c : Contents) → IsContents c → RiseAll (map (λ (s : Usable). s.id) (morsels q c))
+pub morsel_ids : (q : Query) (c : Data) → IsContents c → RiseAll (map (λ (s : Series). s.id) (morsels q c))
 morsel_ids q c right =
-    ordered.descend-map (λ (s : Usable). s.id) IsBefore (morsels q c) (morsels_rise q c right)
+    ordered.descend-map (λ (s : Series). s.id) IsBefore (morsels q c) (morsels_rise q c right)
 
 -- ---- two lists of IDs, of which the one has what the other has
 
@@ -123,9 +123,9 @@ zip_each R f (x ∷ xs) =
     )
 
 -- entries and series of the same IDs go together by what holds of any two of one ID
-pub zip_ids : (R : Line → Usable → Type 0) (es : List Line) (ms : List Usable)
-    → ids_of es ≡ map (λ (s : Usable). s.id) ms
-    → ((e : Line) (m : Usable) → In es e → In ms m → e.id ≡ m.id → R e m) → AllZip R es ms
+pub zip_ids : (R : Line → Series → Type 0) (es : List Line) (ms : List Series)
+    → ids_of es ≡ map (λ (s : Series). s.id) ms
+    → ((e : Line) (m : Series) → In es e → In ms m → e.id ≡ m.id → R e m) → AllZip R es ms
 zip_ids R [] [] ids h = tt
 zip_ids R [] (m ∷ ms) ids h = absurd cc
 zip_ids R (e ∷ es) [] ids h = absurd cc
@@ -144,7 +144,7 @@ line_of es id h =
     let any = any_in (λ (e : Line). same_id e.id id) es h in
     (any.0, any.1, same_id-is any.0.id id any.2)
 
-module _ (q : Asked) (c : Contents) (es : List Line) where
+module _ (q : Query) (c : Data) (es : List Line) where
   -- a station whose series is a morsel has a line, if without one it has no morsel
   pub has_where : (st : Station) → IsAbsent q c es st → is_morsel q st (own_series q c st) ≡ true
       → has_line es st.id ≡ true
@@ -152,7 +152,7 @@ module _ (q : Asked) (c : Contents) (es : List Line) where
       let no : false ≡ true = sym (absent none) ∙ morsel in absurd cc)
 
   -- so each morsel has a line, if this is so of each station
-  pub line_where : AllByRecursion (IsAbsent q c es) c.stations → (u : Usable) → In (morsels q c) u
+  pub line_where : AllByRecursion (IsAbsent q c es) c.stations → (u : Series) → In (morsels q c) u
       → (e : Line) × In es e × (e.id ≡ u.id)
   line_where absent u h =
       let st = station_of q c u h in
@@ -162,7 +162,7 @@ module _ (q : Asked) (c : Contents) (es : List Line) where
       (e.0, e.1, e.2 ∙ sym (own_id q c st.0 u st.3))
 
   -- and back
-  pub absent_where : ((u : Usable) → In (morsels q c) u → (e : Line) × In es e × (e.id ≡ u.id))
+  pub absent_where : ((u : Series) → In (morsels q c) u → (e : Line) × In es e × (e.id ≡ u.id))
       → AllByRecursion (IsAbsent q c es) c.stations
   absent_where line = for_each (IsAbsent q c es) c.stations (λ st h none.
       false_from_ne_true (is_morsel q st (own_series q c st)) (λ some.

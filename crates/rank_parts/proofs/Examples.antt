@@ -6,10 +6,10 @@ use Rattle.jiff_core.specs.Calendar.{days_from_civil, day_count, days_of_years, 
 use Rattle.ghcn_fields.specs.Meaning.Dates.{year_and_rest, month_and_day}
 use Rattle.ghcn_files.specs.declared.element.Element.TheVariants.{Tmax}
 use Rattle.ghcn_files.specs.StationLines.{station_of}
-use Rattle.ghcn_series.specs.Meaning.Series.{DayValue, Usable}
-use Rattle.ghcn_series.specs.Series.{Contents}
+use Rattle.ghcn_series.specs.Meaning.Series.{DayValue, Series}
+use Rattle.ghcn_series.specs.Series.{Data}
 use Rattle.rank_query.specs.declared.score.Score.TheVariants.{Highest}
-use Rattle.rank_query.specs.Meaning.Asked.{Asked}
+use Rattle.rank_query.specs.Meaning.Asked.{Query}
 use Rattle.rank_query.specs.Asked.{top}
 use Rattle.rank_query.specs.Words.{says}
 use Rattle.rank_query.specs.Readers.{keyword}
@@ -35,11 +35,11 @@ verdicts = tt
 -- ---- the data
 
 -- a series of daily maxima
-abbrev warm : List ℕ → List DayValue → Usable
+abbrev warm : List ℕ → List DayValue → Series
 warm id days = record { id = record { 0 = id }; element = Tmax; days = days }
 
 -- the data of a part of three listed stations
-abbrev part : List Usable → Contents
+abbrev part : List Series → Data
 part series = record {
   stations = station_of (codes "ZZA00000001  10.0000   20.0000  100.0    ALPHA")
       ∷ station_of (codes "ZZA00000002  11.0000   21.0000  100.0    BRAVO")
@@ -50,27 +50,27 @@ part series = record {
 }
 
 -- the first has the two greatest values of all, one of them tied
-abbrev alpha : Usable
+abbrev alpha : Series
 alpha = warm (codes "ZZA00000001") ((pos 18444, pos 311) ∷ (pos 18445, pos 305) ∷ [])
 
-abbrev bravo : Usable
+abbrev bravo : Series
 bravo = warm (codes "ZZA00000002") ((pos 18444, pos 311) ∷ [])
 
-abbrev charlie : Usable
+abbrev charlie : Series
 charlie = warm (codes "ZZA00000003") ((pos 18444, pos 250) ∷ [])
 
 -- two parts of them, and one without any
-abbrev first_part : Contents
+abbrev first_part : Data
 first_part = part (alpha ∷ charlie ∷ [])
 
-abbrev second_part : Contents
+abbrev second_part : Data
 second_part = part (bravo ∷ [])
 
-abbrev no_part : Contents
+abbrev no_part : Data
 no_part = part []
 
 -- the k highest of all
-abbrev ask : ℕ → Asked
+abbrev ask : ℕ → Query
 ask k = top k (Highest Tmax)
 
 -- ---- the report and the certificate

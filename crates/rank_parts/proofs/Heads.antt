@@ -1,6 +1,6 @@
 -- A right head, as the pieces of a report and a certificate have it.
 use Rattle.rank_parts.proofs.Cited.{◌≡◌, inr, ◌≤◌, List, length, map, refl, subst, arith, nat_le, and_parts, leb-true}
-use Rattle.rank_parts.proofs.Cited.{ints, length-map, count_by-le-length, Asked, IsAsked, Candidate, Named, Reported}
+use Rattle.rank_parts.proofs.Cited.{ints, length-map, count_by-le-length, Query, IsAsked, Candidate, Named, Reported}
 use Rattle.rank_parts.proofs.Cited.{IsReported, Line, Certified, IsCertified, IsCount, count_of, of_rows, IsRightHead}
 use Rattle.rank_parts.proofs.Cited.{ℕ, counts_of}
 use Rattle.rank_parts.proofs.EntryLists.{zip_each}
@@ -10,7 +10,7 @@ abbrev pub recounted : List Named → Certified → Certified
 recounted rows z = record z { version = 2; counts = map (count_of (of_rows rows)) z.entries }
 
 -- a right head is right with the counts of another version
-pub with_counts : (q : Asked) (r : Reported) (z : Certified) (version : ℕ) (counts : List ℕ)
+pub with_counts : (q : Query) (r : Reported) (z : Certified) (version : ℕ) (counts : List ℕ)
     → counts ≡ counts_of version (of_rows r.rows) z.entries → IsRightHead q r z
     → IsRightHead q r (record z { version = version; counts = counts })
 with_counts q r z version counts are h = record {
@@ -24,11 +24,11 @@ with_counts q r z version counts are h = record {
 }
 
 -- a report has at most as many rows as are asked for
-pub few_rows : (q : Asked) (r : Reported) → IsReported r → r.query ≡ q → length r.rows ≤ q.k
-few_rows q r can same = subst (λ (a : Asked). length r.rows ≤ a.k) same (leb-true (length r.rows) r.query.k can.few)
+pub few_rows : (q : Query) (r : Reported) → IsReported r → r.query ≡ q → length r.rows ≤ q.k
+few_rows q r can same = subst (λ (a : Query). length r.rows ≤ a.k) same (leb-true (length r.rows) r.query.k can.few)
 
 -- and there is a row to ask for, and at most a thousand
-pub k_within : (q : Asked) → IsAsked q → (1 ≤ q.k) × (q.k ≤ 1000)
+pub k_within : (q : Query) → IsAsked q → (1 ≤ q.k) × (q.k ≤ 1000)
 k_within q asked =
     let both = and_parts (nat_le 1 q.k) (nat_le q.k 1000) asked.k in
     (leb-true 1 q.k both.0, leb-true q.k 1000 both.1)
@@ -38,7 +38,7 @@ count_can : (ds : List Candidate) (e : Line) → length ds ≤ 1000 → IsCount 
 count_can ds e few = grind (arith, ints, count_by-le-length)
 
 -- so with the counts of the rows the certificate can be, if the report has the query
-pub recounted_can : (q : Asked) (r : Reported) (z : Certified) → IsAsked q → IsReported r → IsCertified z
+pub recounted_can : (q : Query) (r : Reported) (z : Certified) → IsAsked q → IsReported r → IsCertified z
     → r.query ≡ q → IsCertified (recounted r.rows z)
 recounted_can q r z asked report can same =
     let few : length (of_rows r.rows) ≤ 1000 =

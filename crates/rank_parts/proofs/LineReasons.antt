@@ -2,8 +2,8 @@
 use Rattle.rank_parts.proofs.Cited.{◌≡◌, ℕ, Bool, true, false, cond, not, List, [], Option, Some, None, refl, sym, ap}
 use Rattle.rank_parts.proofs.Cited.{◌∙◌, subst, find, AllByRecursion, option_and_then, and_right, both_ways}
 use Rattle.rank_parts.proofs.Cited.{tied_itself, nil_from_length, first_failing, Station, StationId, same_id-is}
-use Rattle.rank_parts.proofs.Cited.{is_station_of, Usable, Contents, series_of, In, of_one, for_each, found_in}
-use Rattle.rank_parts.proofs.Cited.{in-contains, Asked, score_element, admits_station, Candidate, Named, Reported}
+use Rattle.rank_parts.proofs.Cited.{is_station_of, Series, Data, series_of, In, of_one, for_each, found_in}
+use Rattle.rank_parts.proofs.Cited.{in-contains, Query, score_element, admits_station, Candidate, Named, Reported}
 use Rattle.rank_parts.proofs.Cited.{IsReported, Line, Certified, count_of, of_rows, IsRightHead, IdsRise, is_scanned}
 use Rattle.rank_parts.proofs.Cited.{by_bytes, bytes_total, scanned_at, Why, is_morsel, piece_tests, rows_with, worst_of}
 use Rattle.rank_parts.proofs.Cited.{why_at, why_of_line, IsSeen, AreSeen}
@@ -12,20 +12,20 @@ use Rattle.rank_parts.proofs.StationRows.{count_rows}
 
 -- ---- what is looked up
 
-module _ (q : Asked) (d : Contents) (rows : List Named) (e : Line) where
+module _ (q : Query) (d : Data) (rows : List Named) (e : Line) where
   -- the first test that the line fails, of a station and its series
-  abbrev pub failing : Station → Option Usable → Option Why
+  abbrev pub failing : Station → Option Series → Option Why
   failing st o = first_failing
       (piece_tests q st o e (count_of (of_rows rows) e) (rows_with e.id rows) (worst_of q.k rows))
 
   -- the line is refused by it, if the series is a morsel, and otherwise not
-  pub why_is : (st : Station) (o : Option Usable) (b : Bool) → series_of d e.id (score_element q.score) ≡ o
+  pub why_is : (st : Station) (o : Option Series) (b : Bool) → series_of d e.id (score_element q.score) ≡ o
       → find (is_station_of e.id) d.stations ≡ Some st → is_morsel q st o ≡ b
       → why_of_line q d rows e ≡ cond b (failing st o) None
   why_is st o b s f is =
       let id = same_id-is st.id e.id (found_in (is_station_of e.id) d.stations st f).1 in
       ap (option_and_then (why_at q d rows e)) f
-      ∙ ap (λ (u : Option Usable). cond (is_morsel q st u) (failing st u) None)
+      ∙ ap (λ (u : Option Series). cond (is_morsel q st u) (failing st u) None)
       (ap (λ (i : StationId). series_of d i (score_element q.score)) id ∙ s)
       ∙ ap (λ (t : Bool). cond t (failing st o) None) is
 
@@ -38,7 +38,7 @@ module _ (q : Asked) (d : Contents) (rows : List Named) (e : Line) where
       ] refl
 
   -- a line whose series is a morsel is refused by the first test that it fails, with its count, its rows, and the worst
-  pub of_own : (st : Station) (u : Usable) (n : ℕ) (own : List Named) (worst : Option Candidate)
+  pub of_own : (st : Station) (u : Series) (n : ℕ) (own : List Named) (worst : Option Candidate)
       → n ≡ count_of (of_rows rows) e → own ≡ rows_with e.id rows → worst ≡ worst_of q.k rows
       → series_of d e.id (score_element q.score) ≡ Some u → find (is_station_of e.id) d.stations ≡ Some st
       → is_morsel q st (Some u) ≡ true
@@ -67,7 +67,7 @@ none_of rows es up scanned e h none = nil_from_length (rows_with e.id rows) (sym
     (of_one (λ (x : Named). is_scanned es x.0.id ≡ true) rows row scanned k)))) ∙ none)
 
 -- a right head shows all that is asked of rows and lines
-pub head_shows : (q : Asked) (r : Reported) (z : Certified) → IsReported r → IsRightHead q r z
+pub head_shows : (q : Query) (r : Reported) (z : Certified) → IsReported r → IsRightHead q r z
     → AreSeen q r.rows z.entries
 head_shows q r z can h =
     for_each (IsSeen q r.rows) z.entries (λ e k. record {

@@ -2,13 +2,13 @@
 use Rattle.rank_parts.proofs.Cited.{◌≡◌, ◌∙◌, ℕ, ◌+◌, cond, not, length, Some, None, Result, Ok, Err, refl, ap, ◌||◌}
 use Rattle.rank_parts.proofs.Cited.{find, list_all, option_or, option_map, option_map_or, option_and_then, fun_ext}
 use Rattle.rank_parts.proofs.Cited.{and_parts, first_failing, Station, same_element, is_kept, only, same_id}
-use Rattle.rank_parts.proofs.Cited.{is_station_of, is_kept-only, Contents, is_series_of, Asked, score_element, morsels}
+use Rattle.rank_parts.proofs.Cited.{is_station_of, is_kept-only, Data, is_series_of, Query, score_element, morsels}
 use Rattle.rank_parts.proofs.Cited.{data_for, MorselsStay, find-filter, Paper, Reported, Certified, count_of}
 use Rattle.rank_parts.proofs.Cited.{read_papers, of_rows, head_fault, Certificate, OtherSeries, refusal, is_morsel}
 use Rattle.rank_parts.proofs.Cited.{piece_tests, rows_with, worst_of, own_series, Accepted, Refused, refusal_of}
 use Rattle.rank_parts.proofs.Cited.{first_refused, has_line, part_judged, PartVerdictStays}
 
-module _ (series : MorselsStay) (q : Asked) (c : Contents) where
+module _ (series : MorselsStay) (q : Query) (c : Data) where
   -- a station has the same series
   own_stays : own_series q (data_for q c) ≡ own_series q c
   own_stays = let e = score_element q.score in fun_ext (λ (st : Station).

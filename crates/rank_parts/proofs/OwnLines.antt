@@ -1,13 +1,13 @@
 -- What parts say that accept a report and a certificate is so of all data, and back.
 use Rattle.rank_parts.proofs.Cited.{◌≡◌, ℕ, suc, Bool, true, false, cond, List, [], ◌∷◌, length, Option, Some, None}
-use Rattle.rank_parts.proofs.Cited.{refl, Ok, ◌+◌, AllByRecursion, option_or, option_map, option_map_or, Contents}
-use Rattle.rank_parts.proofs.Cited.{Asked, morsels, Reported, Line, Certified, HeadFault, head_fault, Why, Certificate}
+use Rattle.rank_parts.proofs.Cited.{refl, Ok, ◌+◌, AllByRecursion, option_or, option_map, option_map_or, Data}
+use Rattle.rank_parts.proofs.Cited.{Query, morsels, Reported, Line, Certified, HeadFault, head_fault, Why, Certificate}
 use Rattle.rank_parts.proofs.Cited.{OtherSeries, Refusal, refusal, Accepted, Refused, refusal_of, why_of_line}
 use Rattle.rank_parts.proofs.Cited.{first_refused, have_lines, part_judged, ◌↔◌, sym, ◌∙◌, ◌≤◌, not, map, ap, subst}
 use Rattle.rank_parts.proofs.Cited.{arith, ◌||◌, ◌&&◌, ◌==◌, int_le, find, list_all, sum, flat_map, AllZip, length-map}
 use Rattle.rank_parts.proofs.Cited.{length-flat_map, IsPermutation-sym, length_permutation, sum-map, AllZip-long}
 use Rattle.rank_parts.proofs.Cited.{AllZip-map, same_bytes, first_failing, sorted_by, sorted-permutation, Station}
-use Rattle.rank_parts.proofs.Cited.{StationId, same_id, is_station_of, Usable, series_of, IsContents, zip-weaker, In}
+use Rattle.rank_parts.proofs.Cited.{StationId, same_id, is_station_of, Series, series_of, IsContents, zip-weaker, In}
 use Rattle.rank_parts.proofs.Cited.{of_one, in_map, map_in, in_all, for_each, all_in, and_parts, morsel_of}
 use Rattle.rank_parts.proofs.Cited.{score_element, admits_station, Candidate, IsSameFor, IsCut, series_first, Named}
 use Rattle.rank_parts.proofs.Cited.{trimmed, count_of, of_rows, NotACandidate, NotCounted, NotBest, NoBound, NotBelow}
@@ -35,7 +35,7 @@ none_refused reason (f ∷ es) k =
     ] refl
 
 -- a part that accepts sees nothing to refuse: in the head, at any line, after the lines; and the numbers are these
-pub record SeesNothing (q : Asked) (d : Contents) (r : Reported) (z : Certified) (n m : ℕ) : Type 0 where
+pub record SeesNothing (q : Query) (d : Data) (r : Reported) (z : Certified) (n m : ℕ) : Type 0 where
   pub head : head_fault q r z ≡ None
   pub lines : AllByRecursion (λ e. why_of_line q d r.rows e ≡ None) z.entries
   pub all : have_lines q d z.entries ≡ true
@@ -43,7 +43,7 @@ pub record SeesNothing (q : Asked) (d : Contents) (r : Reported) (z : Certified)
   pub long : length z.entries ≡ m
 
 -- so it is
-pub sees_nothing : (q : Asked) (d : Contents) (r : Reported) (z : Certified) (n m : ℕ)
+pub sees_nothing : (q : Query) (d : Data) (r : Reported) (z : Certified) (n m : ℕ)
     → part_judged q d (Ok (r, z)) ≡ Accepted n m → SeesNothing q d r z n m
 sees_nothing q d r z n m e =
     by (head_fault q r z) (first_refused (why_of_line q d r.rows) 4 z.entries)
@@ -69,7 +69,7 @@ sees_nothing q d r z n m e =
 -- ---- series that are the same for a query
 
 -- a line of a station fails the same test with each of them, if both are morsels, or neither is
-same_tests : (q : Asked) (st : Station) (u v : Usable) → IsSameFor q u v
+same_tests : (q : Query) (st : Station) (u v : Series) → IsSameFor q u v
     → is_morsel q st (Some u) ≡ is_morsel q st (Some v) → (e : Line) (n : ℕ) (rows : List Named)
     (worst : Option Candidate) → first_failing (piece_tests q st (Some u) e n rows worst)
     ≡ first_failing (piece_tests q st (Some v) e n rows worst)
@@ -90,14 +90,14 @@ same_tests q st u v same own e n rows worst = λ i. first_failing (
 
 -- ---- the morsels of the parts and of the whole
 
-module _ (q : Asked) (c : Contents) (ds : List Contents) (cut : IsCut q c ds) where
+module _ (q : Query) (c : Data) (ds : List Data) (cut : IsCut q c ds) where
   -- those of the parts, by increasing ID
-  abbrev sorted : List Usable
+  abbrev sorted : List Series
   sorted = sorted_by series_first (flat_map (morsels q) ds)
 
   -- one of all data takes the place of one of a part
-  part_of : (v : Usable) → In (morsels q c) v
-      → (d : Contents) × In ds d × (u : Usable) × In (morsels q d) u × IsSameFor q u v
+  part_of : (v : Series) → In (morsels q c) v
+      → (d : Data) × In ds d × (u : Series) × In (morsels q d) u × IsSameFor q u v
   part_of v h =
       let u = zip_in (IsSameFor q) sorted (morsels q c) cut.morsels v h in
       let d = all_in (morsels q) ds u.0 (permuted_in sorted (flat_map (morsels q) ds)
@@ -106,24 +106,24 @@ module _ (q : Asked) (c : Contents) (ds : List Contents) (cut : IsCut q c ds) wh
       (d.0, d.1, u.0, d.2, u.2)
 
   -- and back
-  whole_of : (d : Contents) → In ds d → (u : Usable) → In (morsels q d) u
-      → (v : Usable) × In (morsels q c) v × IsSameFor q u v
+  whole_of : (d : Data) → In ds d → (u : Series) → In (morsels q d) u
+      → (v : Series) × In (morsels q c) v × IsSameFor q u v
   whole_of d h u k =
       in_zip (IsSameFor q) sorted (morsels q c) cut.morsels u (permuted_in (flat_map (morsels q) ds) sorted
       (sorted-permutation series_first (flat_map (morsels q) ds)) u (in_all (morsels q) ds d u h k))
 
   -- the numbers of the parts' morsels add up to that of all data
-  pub add_up : sum (map (λ (d : Contents). length (morsels q d)) ds) ≡ length (morsels q c)
+  pub add_up : sum (map (λ (d : Data). length (morsels q d)) ds) ≡ length (morsels q c)
   add_up =
-      sum-map (λ (d : Contents). length (morsels q d)) ds ∙ sym (length-flat_map (morsels q) ds)
+      sum-map (λ (d : Data). length (morsels q d)) ds ∙ sym (length-flat_map (morsels q) ds)
       ∙ sym (length_permutation (flat_map (morsels q) ds) sorted
       (sorted-permutation series_first (flat_map (morsels q) ds)))
       ∙ sym (AllZip-long (IsSameFor q) sorted (morsels q c) cut.morsels)
 
-  module _ (d : Contents) (h : In ds d) where
+  module _ (d : Data) (h : In ds d) where
     -- a part's stations are those of all data
     pub same_stations : d.stations ≡ c.stations
-    same_stations = of_one (λ (x : Contents). x.stations ≡ c.stations) ds d cut.stations h
+    same_stations = of_one (λ (x : Data). x.stations ≡ c.stations) ds d cut.stations h
 
     -- a station with a morsel of the part has one of all data, with which a line of it fails the same test
     pub same_morsel : (st : Station) → In d.stations st → is_own q d st ≡ true
@@ -141,21 +141,21 @@ module _ (q : Asked) (c : Contents) (ds : List Contents) (cut : IsCut q c ds) wh
         let own : is_morsel q st (Some u.0) ≡ is_morsel q st (Some v.0) =
         ap (is_morsel q st) (sym u.1) ∙ mine ∙ sym also ∙ ap (is_morsel q st) here in (
           also,
-          λ e n rows worst. ap (λ (o : Option Usable). first_failing (piece_tests q st o e n rows worst)) u.1
+          λ e n rows worst. ap (λ (o : Option Series). first_failing (piece_tests q st o e n rows worst)) u.1
               ∙ same_tests q st u.0 v.0 v.2 own e n rows worst
-              ∙ ap (λ (o : Option Usable). first_failing (piece_tests q st o e n rows worst)) (sym here),
+              ∙ ap (λ (o : Option Series). first_failing (piece_tests q st o e n rows worst)) (sym here),
         )
 
 -- ---- the parts and the whole
 
-module _ (q : Asked) (c : Contents) (ds : List Contents) (right : IsContents c) (cut : IsCut q c ds) (r : Reported)
+module _ (q : Query) (c : Data) (ds : List Data) (right : IsContents c) (cut : IsCut q c ds) (r : Reported)
     (z : Certified) (ns : List ℕ) (m : ℕ) (seen : AllZip (λ d n. SeesNothing q d r z n m) ds ns) where
   -- what a part sees
-  seen_by : (d : Contents) → In ds d → (n : ℕ) × SeesNothing q d r z n m
-  seen_by d h = let s = in_zip (λ (x : Contents) (n : ℕ). SeesNothing q x r z n m) ds ns seen d h in (s.0, s.2)
+  seen_by : (d : Data) → In ds d → (n : ℕ) × SeesNothing q d r z n m
+  seen_by d h = let s = in_zip (λ (x : Data) (n : ℕ). SeesNothing q x r z n m) ds ns seen d h in (s.0, s.2)
 
   -- a morsel has a line
-  line_for : (v : Usable) → In (morsels q c) v → (e : Line) × In z.entries e × (e.id ≡ v.id)
+  line_for : (v : Series) → In (morsels q c) v → (e : Line) × In z.entries e × (e.id ≡ v.id)
   line_for v h =
       let p = part_of q c ds cut v h in
       let st = station_of q p.0 p.2 p.3 in
@@ -173,28 +173,28 @@ module _ (q : Asked) (c : Contents) (ds : List Contents) (right : IsContents c) 
 
   module _ (up : RiseAll (ids_of z.entries)) (long : length z.entries ≡ m) (adds : sum ns ≡ m) where
     -- there are at most as many lines as morsels
-    as_many : length (ids_of z.entries) ≤ length (map (λ (s : Usable). s.id) (morsels q c))
+    as_many : length (ids_of z.entries) ≤ length (map (λ (s : Series). s.id) (morsels q c))
     as_many =
-        let own : ns ≡ map (λ (d : Contents). length (morsels q d)) ds =
-        AllZip-map (λ (d : Contents). length (morsels q d)) ds ns
-        (zip-weaker (λ (d : Contents) (n : ℕ). SeesNothing q d r z n m)
-        (λ (d : Contents) (n : ℕ). n ≡ length (morsels q d)) ds ns (λ d n s. sym s.series) seen) in
+        let own : ns ≡ map (λ (d : Data). length (morsels q d)) ds =
+        AllZip-map (λ (d : Data). length (morsels q d)) ds ns
+        (zip-weaker (λ (d : Data) (n : ℕ). SeesNothing q d r z n m)
+        (λ (d : Data) (n : ℕ). n ≡ length (morsels q d)) ds ns (λ d n s. sym s.series) seen) in
         omega (
           arith,
           length-map z.entries (λ (e : Line). e.id),
-          length-map (morsels q c) (λ (s : Usable). s.id),
+          length-map (morsels q c) (λ (s : Series). s.id),
           ap (λ (ks : List ℕ). sum ks) own ∙ add_up q c ds cut,
           long,
           adds,
         )
 
     -- so each line belongs to a morsel
-    morsel_for : (e : Line) → In z.entries e → (v : Usable) × In (morsels q c) v × (v.id ≡ e.id)
+    morsel_for : (e : Line) → In z.entries e → (v : Series) × In (morsels q c) v × (v.id ≡ e.id)
     morsel_for e h =
-        map_in (λ (s : Usable). s.id) (morsels q c) e.id
-        (no_others (map (λ (s : Usable). s.id) (morsels q c)) (ids_of z.entries) (morsel_ids q c right) up
+        map_in (λ (s : Series). s.id) (morsels q c) e.id
+        (no_others (map (λ (s : Series). s.id) (morsels q c)) (ids_of z.entries) (morsel_ids q c right) up
         (λ i k.
-        let v = map_in (λ (s : Usable). s.id) (morsels q c) i k in
+        let v = map_in (λ (s : Series). s.id) (morsels q c) i k in
         let f = line_for v.0 v.1 in
         subst (In (ids_of z.entries)) (f.2 ∙ v.2) (in_map (λ (x : Line). x.id) z.entries f.0 f.1))
         as_many e.id (in_map (λ (x : Line). x.id) z.entries e h))
@@ -228,8 +228,8 @@ module _ (q : Asked) (c : Contents) (ds : List Contents) (right : IsContents c) 
 
 -- ---- a report and a certificate that are right for the whole are accepted by all parts
 
-module _ (q : Asked) (c : Contents) (ds : List Contents) (cut : IsCut q c ds) (r : Reported) (z : Certified)
-    (pieces : AreRightPieces q c r (recounted r.rows z)) (d : Contents) (h : In ds d) where
+module _ (q : Query) (c : Data) (ds : List Data) (cut : IsCut q c ds) (r : Reported) (z : Certified)
+    (pieces : AreRightPieces q c r (recounted r.rows z)) (d : Data) (h : In ds d) where
   -- no line is refused by the part
   no_reason : (e : Line) → In z.entries e → why_of_line q d r.rows e ≡ None
   no_reason e k =

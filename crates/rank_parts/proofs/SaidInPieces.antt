@@ -1,8 +1,8 @@
 -- A report and a certificate say what is right if and only if all their pieces are right.
 use Rattle.rank_parts.proofs.Cited.{◌≡◌, ℕ, ◌≤◌, true, not, List, length, map, Option, Some, sym, ap, ◌∙◌, subst, ℤ}
 use Rattle.rank_parts.proofs.Cited.{◌&&◌, find, Contains, option_map, and_parts, Station, same_id, same_id-is}
-use Rattle.rank_parts.proofs.Cited.{is_station_of, Usable, Contents, IsContents, In, of_one, for_each, found_in, any_in}
-use Rattle.rank_parts.proofs.Cited.{in_kept, in_map, map_in, contains-in, in-contains, Asked, IsAsked, Candidate}
+use Rattle.rank_parts.proofs.Cited.{is_station_of, Series, Data, IsContents, In, of_one, for_each, found_in, any_in}
+use Rattle.rank_parts.proofs.Cited.{in_kept, in_map, map_in, contains-in, in-contains, Query, IsAsked, Candidate}
 use Rattle.rank_parts.proofs.Cited.{candidates, AreApart, bound_is_below, all_candidates, morsels, best_of_query}
 use Rattle.rank_parts.proofs.Cited.{kth_of_query, IsAbove, Descends, Named, trimmed, Reported, IsReported}
 use Rattle.rank_parts.proofs.Cited.{SaysRightReport, name_of, Line, Certified, IsCertified, IsEntry, IsRightEntry}
@@ -24,7 +24,7 @@ use Rattle.rank_parts.proofs.Heads.{few_rows, k_within}
 
 -- ---- if all pieces are right, the two say what is right
 
-module _ (q : Asked) (c : Contents) (r : Reported) (z : Certified) (asked : IsAsked q) (right : IsContents c)
+module _ (q : Query) (c : Data) (r : Reported) (z : Certified) (asked : IsAsked q) (right : IsContents c)
     (apart : AreApart (all_candidates q c)) (can : IsReported r) (is : IsCertified z)
     (pieces : AreRightPieces q c r z) where
   -- there is a row to ask for
@@ -97,7 +97,7 @@ module _ (q : Asked) (c : Contents) (r : Reported) (z : Certified) (asked : IsAs
       let p = piece e.0 e.1 in
       let same = one_morsel q c u.0 p.line.series u.1 p.morsel (sym e.2 ∙ p.named) in
       let own : Contains (candidates q p.line.series) d = in-contains (candidates q p.line.series) d
-      (subst (λ (s : Usable). In (candidates q s) d) same u.2) in
+      (subst (λ (s : Series). In (candidates q s) d) same u.2) in
       (in_station r.rows e.0.id d (contains-in (of_rows (rows_with e.0.id r.rows)) d
       ((p.line.rows_are d).1 (own, w)))).0
 
@@ -116,29 +116,29 @@ module _ (q : Asked) (c : Contents) (r : Reported) (z : Certified) (asked : IsAs
   -- ---- lines and morsels
 
   -- the IDs of the lines are those of the morsels
-  ids_right : ids_of z.entries ≡ map (λ (s : Usable). s.id) (morsels q c)
+  ids_right : ids_of z.entries ≡ map (λ (s : Series). s.id) (morsels q c)
   ids_right =
-      same_ids (ids_of z.entries) (map (λ (s : Usable). s.id) (morsels q c)) (rise_ids z.entries pieces.head.rise)
+      same_ids (ids_of z.entries) (map (λ (s : Series). s.id) (morsels q c)) (rise_ids z.entries pieces.head.rise)
       (morsel_ids q c right)
       (λ i h.
       let e = map_in (λ (x : Line). x.id) z.entries i h in
       let p = piece e.0 e.1 in
-      subst (In (map (λ (s : Usable). s.id) (morsels q c))) (sym p.named ∙ e.2)
-      (in_map (λ (s : Usable). s.id) (morsels q c) p.line.series p.morsel))
+      subst (In (map (λ (s : Series). s.id) (morsels q c))) (sym p.named ∙ e.2)
+      (in_map (λ (s : Series). s.id) (morsels q c) p.line.series p.morsel))
       (λ i h.
-      let u = map_in (λ (s : Usable). s.id) (morsels q c) i h in
+      let u = map_in (λ (s : Series). s.id) (morsels q c) i h in
       let e = line_where q c z.entries pieces.absent u.0 u.1 in
       subst (In (ids_of z.entries)) (e.2 ∙ u.2) (in_map (λ (x : Line). x.id) z.entries e.0 e.1))
 
   -- a line and a morsel of one ID are right
-  entry_right : (e : Line) (u : Usable) → In z.entries e → In (morsels q c) u → e.id ≡ u.id
+  entry_right : (e : Line) (u : Series) → In z.entries e → In (morsels q c) u → e.id ≡ u.id
       → IsRightEntry q (kth_of_query q c) e u
   entry_right e u h k named =
       let p = piece e h in
       let same = one_morsel q c p.line.series u p.morsel k (sym p.named ∙ named) in
       record {
         named = named;
-        above = subst (λ (s : Usable). IsAbove q s e.bound) same p.line.above;
+        above = subst (λ (s : Series). IsAbove q s e.bound) same p.line.above;
         fits = (of_one IsEntry z.entries e is.entries h).bound;
         passed_over = λ s. subst (λ (o : Option ℤ). bound_is_below o e.bound ≡ true)
             (kth_worst q c apart r.rows some best) (p.line.passed_over s);
@@ -162,7 +162,7 @@ module _ (q : Asked) (c : Contents) (r : Reported) (z : Certified) (asked : IsAs
 
 -- ---- if they do, all pieces are right
 
-module _ (q : Asked) (c : Contents) (r : Reported) (z : Certified) (asked : IsAsked q) (right : IsContents c)
+module _ (q : Query) (c : Data) (r : Reported) (z : Certified) (asked : IsAsked q) (right : IsContents c)
     (apart : AreApart (all_candidates q c)) (version : z.version ≡ 2)
     (says : SaysRightReport q c r × SaysRightCertificate q c z) where
   -- there is a row to ask for
@@ -186,7 +186,7 @@ module _ (q : Asked) (c : Contents) (r : Reported) (z : Certified) (asked : IsAs
 
   -- ---- lines and morsels
 
-  module _ (e : Line) (u : Usable) (h : In (morsels q c) u) (line : IsRightEntry q (kth_of_query q c) e u) where
+  module _ (e : Line) (u : Series) (h : In (morsels q c) u) (line : IsRightEntry q (kth_of_query q c) e u) where
     -- a row of a morsel's station is one of its candidates
     of_morsel : (d : Candidate) → In (of_rows r.rows) d → d.id ≡ u.id
         → In (candidates q u) d × (is_within_worst (worst_of q.k r.rows) d ≡ true)
@@ -194,7 +194,7 @@ module _ (q : Asked) (c : Contents) (r : Reported) (z : Certified) (asked : IsAs
         let is = (rows_are d).0 k in
         let v = candidate_in q c d is.0 in
         let same = one_morsel q c v.0 u v.1 h (sym (candidate_id q c v.0 d v.2) ∙ i) in
-        (subst (λ (s : Usable). In (candidates q s) d) same v.2, is.1)
+        (subst (λ (s : Series). In (candidates q s) d) same v.2, is.1)
 
     -- a line that is skipped has a bound below the worst
     low : e.skipped ≡ true → bound_is_below (score_of (worst_of q.k r.rows)) e.bound ≡ true

@@ -1,8 +1,8 @@
 -- The rows of a report: the best candidates up to the worst of them, and those of one station.
 use Rattle.rank_parts.proofs.Cited.{◌≡◌, ℕ, suc, ◌-◌, ◌≤◌, true, List, [], ◌∷◌, length, take, filter, Option, Some}
 use Rattle.rank_parts.proofs.Cited.{None, refl, sym, ap, ◌∙◌, arith, ◌↔◌, slice_get, length-map, take_all}
-use Rattle.rank_parts.proofs.Cited.{IsPermutation-sym, slice_get-map, slice_get_within, Contents, In, kept_in, in_kept}
-use Rattle.rank_parts.proofs.Cited.{Asked, Candidate, AreApart, all_candidates, best_of_query, kth_of_query, Descends}
+use Rattle.rank_parts.proofs.Cited.{IsPermutation-sym, slice_get-map, slice_get_within, Data, In, kept_in, in_kept}
+use Rattle.rank_parts.proofs.Cited.{Query, Candidate, AreApart, all_candidates, best_of_query, kth_of_query, Descends}
 use Rattle.rank_parts.proofs.Cited.{Named, kth_of_best, of_rows, is_within_worst, score_of, kth-best, last_taken}
 use Rattle.rank_parts.proofs.Cited.{permuted_in, kept_descends, within_front, first_within, in_order}
 use Rattle.rank_parts.proofs.Cited.{ordered-permutation, ordered-descends, best_first, worst_of, inl, false, cond}
@@ -42,11 +42,11 @@ module _ (xs : List Candidate) (falls : Descends xs) (n : ℕ) (cs : List Candid
 -- ---- rows
 
 -- the candidates of a query up to the worst row, in order
-abbrev pub inside : Asked → Contents → List Named → List Candidate
+abbrev pub inside : Query → Data → List Named → List Candidate
 inside q c rows = filter (is_within_worst (worst_of q.k rows)) (in_order (all_candidates q c))
 
 -- which they are
-pub inside_are : (q : Asked) (c : Contents) (rows : List Named) (d : Candidate) →
+pub inside_are : (q : Query) (c : Data) (rows : List Named) (d : Candidate) →
     In (inside q c rows) d ↔ (In (all_candidates q c) d × (is_within_worst (worst_of q.k rows) d ≡ true))
 inside_are q c rows d =
     let all : List Candidate = all_candidates q c in
@@ -58,7 +58,7 @@ inside_are q c rows d =
           h.1,
     )
 
-module _ (q : Asked) (c : Contents) (apart : AreApart (all_candidates q c)) (rows : List Named) where
+module _ (q : Query) (c : Data) (apart : AreApart (all_candidates q c)) (rows : List Named) where
   -- each precedes all after it
   pub inside_falls : Descends (inside q c rows)
   inside_falls = kept_descends (is_within_worst (worst_of q.k rows)) (in_order (all_candidates q c))
@@ -176,7 +176,7 @@ station_within worst rows id falls within = record {
 }
 
 -- so it is with the rows of a report
-pub rows_within : (q : Asked) (rows : List Named) (id : StationId) → IsAsked q → AreInOrder (of_rows rows)
+pub rows_within : (q : Query) (rows : List Named) (id : StationId) → IsAsked q → AreInOrder (of_rows rows)
     → length rows ≤ q.k → AreRowsWithin (worst_of q.k rows) (of_rows (rows_with id rows))
 rows_within q rows id asked order few =
     let falls = order_descends (of_rows rows) order in

@@ -4,7 +4,7 @@ use Rattle.rank_parts.proofs.Cited.{take, filter, Option, Some, None, refl, sym,
 use Rattle.rank_parts.proofs.Cited.{slice_get, ◌&&◌, list_all, filter_map, cons_option, count_by, option_map_or}
 use Rattle.rank_parts.proofs.Cited.{and_from, take_all, list_all_more, list_all_at, length_permutation, sum_by_more}
 use Rattle.rank_parts.proofs.Cited.{slice_get_within, get_or_from_slice_get, sorted-permutation, Element, Station}
-use Rattle.rank_parts.proofs.Cited.{Usable, Contents, series_of, Asked, score_element, admits_station, has_admitted}
+use Rattle.rank_parts.proofs.Cited.{Series, Data, series_of, Query, score_element, admits_station, has_admitted}
 use Rattle.rank_parts.proofs.Cited.{admitted_series, morsels, morsel_at, passing, id_comes_first, by_station, Line}
 use Rattle.rank_parts.proofs.Cited.{is_morsel, or_made, is_own, has_line, have_lines, is_count_by, ◌<◌, Result, Ok, Err}
 use Rattle.rank_parts.proofs.Cited.{nat_lt, IsPartitionPoint, IsSearchInRange, IsBinarySearchResult, is_ok, Less, Equal}
@@ -17,9 +17,9 @@ past_end [] i e = omega arith
 past_end (x ∷ xs) zero e = absurd cc
 past_end (x ∷ xs) (suc i) e = omega (arith, past_end xs i e)
 
-module _ (q : Asked) (d : Contents) where
+module _ (q : Query) (d : Data) where
   -- a station with a morsel is one more
-  one_counted : (a : Bool) (o : Option Usable) (us : List Usable)
+  one_counted : (a : Bool) (o : Option Series) (us : List Series)
       → length (cons_option (passing (has_admitted q) (cond a o None)) us)
       ≡ cond (a && option_map_or (has_admitted q) o false) (1 + length us) (length us)
   one_counted false o us = refl
@@ -33,9 +33,9 @@ module _ (q : Asked) (d : Contents) where
       sym (is_count_by (λ (sts : List Station). length (filter_map (morsel_at q d) sts)) (is_own q d) refl
       (λ st sts. one_counted (admits_station q st) (series_of d st.id (score_element q.score))
       (filter_map (morsel_at q d) sts)) d.stations)
-      ∙ ap (λ (us : List Usable). length us) (by_station q d d.stations)
+      ∙ ap (λ (us : List Series). length us) (by_station q d d.stations)
       ∙ sym (length_permutation (filter (has_admitted q) (admitted_series q d)) (morsels q d)
-      (sorted-permutation (λ (a b : Usable). id_comes_first a.id b.id)
+      (sorted-permutation (λ (a b : Series). id_comes_first a.id b.id)
       (filter (has_admitted q) (admitted_series q d))))
 
   module _ (es : List Line) where
@@ -86,7 +86,7 @@ module _ (q : Asked) (d : Contents) where
         ∙ ap (λ (b : Bool). not b || has_line es st.id) own ∙ line)
 
 -- a station has a morsel if its series, which was looked up, is one
-pub own_is : (q : Asked) (d : Contents) (st : Station) (el : Element) (o : Option Usable) (b : Bool)
+pub own_is : (q : Query) (d : Data) (st : Station) (el : Element) (o : Option Series) (b : Bool)
     → el ≡ score_element q.score → o ≡ series_of d st.id el → b ≡ is_morsel q st o → is_own q d st ≡ b
 own_is q d st el o b e f g =
     ap (λ (x : Element). is_morsel q st (series_of d st.id x)) (sym e) ∙ ap (is_morsel q st) (sym f) ∙ sym g

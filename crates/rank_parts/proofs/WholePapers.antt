@@ -1,7 +1,7 @@
 -- A report and a certificate that all parts accept are right for the whole.
 use Rattle.rank_parts.proofs.Cited.{◌≡◌, ℕ, ◌<◌, List, [], ◌∷◌, length, map, Option, Result, Ok, Err, refl, sym, ap}
-use Rattle.rank_parts.proofs.Cited.{◌∙◌, subst, arith, flat_map, sum, AllZip, option_map_or, Station, Contents}
-use Rattle.rank_parts.proofs.Cited.{IsContents, DataAreRight, data_of, Asked, IsAsked, Candidate, morsels, kth_of_query}
+use Rattle.rank_parts.proofs.Cited.{◌∙◌, subst, arith, flat_map, sum, AllZip, option_map_or, Station, Data}
+use Rattle.rank_parts.proofs.Cited.{IsContents, DataAreRight, data_of, Query, IsAsked, Candidate, morsels, kth_of_query}
 use Rattle.rank_parts.proofs.Cited.{IsCut, IsDataOf, Filed, CutByFiles, IsFoundReport, Reported, IsReported, SaysRightReport}
 use Rattle.rank_parts.proofs.Cited.{Certified, IsCertified, IsFoundCertificate, IsRightEntry, SaysRightCertificate, count_of}
 use Rattle.rank_parts.proofs.Cited.{counts_of, Paper, read_papers, papers_read, CertificatesAreRead}
@@ -16,13 +16,13 @@ use Rattle.rank_parts.proofs.Heads.{recounted, with_counts, recounted_can}
 -- ---- a report and a certificate that were read
 
 -- of two lists that go together, of which the one isn't empty, two first elements
-one_of_each : (R : Contents → ℕ → Type 0) (es : List Contents) (ns : List ℕ) → 0 < length es → AllZip R es ns
-    → (d : Contents) × (n : ℕ) × R d n
+one_of_each : (R : Data → ℕ → Type 0) (es : List Data) (ns : List ℕ) → 0 < length es → AllZip R es ns
+    → (d : Data) × (n : ℕ) × R d n
 one_of_each R [] ns some h = absurd (omega (arith, some))
 one_of_each R (d ∷ es) [] some h = absurd h
 one_of_each R (d ∷ es) (n ∷ ns) some h = (d, n, h.0)
 
-module _ (heads : HeadsAreRight) (pieces : RightInPieces) (q : Asked) (c : Contents) (ds : List Contents) (r : Reported)
+module _ (heads : HeadsAreRight) (pieces : RightInPieces) (q : Query) (c : Data) (ds : List Data) (r : Reported)
     (z : Certified) (asked : IsAsked q) (dataset : IsContents c) (cut : IsCut q c ds) (report : IsReported r)
     (certificate : IsCertified z) where
   -- a report and a certificate that all parts accept say what is right
@@ -30,9 +30,9 @@ module _ (heads : HeadsAreRight) (pieces : RightInPieces) (q : Asked) (c : Conte
       → AllZip (λ d n. part_judged q d (Ok (r, z)) ≡ Accepted n m) ds ns → sum ns ≡ m
       → SaysRightReport q c r × SaysRightCertificate q c z
   accepted_say m ns some h adds =
-      let seen = zip-weaker (λ (d : Contents) (n : ℕ). part_judged q d (Ok (r, z)) ≡ Accepted n m)
-      (λ (d : Contents) (n : ℕ). SeesNothing q d r z n m) ds ns (λ d n e. sees_nothing q d r z n m e) h in
-      let first = (one_of_each (λ (d : Contents) (n : ℕ). SeesNothing q d r z n m) ds ns some seen).2 in
+      let seen = zip-weaker (λ (d : Data) (n : ℕ). part_judged q d (Ok (r, z)) ≡ Accepted n m)
+      (λ (d : Data) (n : ℕ). SeesNothing q d r z n m) ds ns (λ d n e. sees_nothing q d r z n m e) h in
+      let first = (one_of_each (λ (d : Data) (n : ℕ). SeesNothing q d r z n m) ds ns some seen).2 in
       let head = (heads q r z asked report certificate).0 first.head in
       let up = rise_ids z.entries head.rise in
       let can_be = recounted_can q r z asked report certificate head.report in
@@ -73,15 +73,15 @@ module _ (heads : HeadsAreRight) (pieces : RightInPieces) (q : Asked) (c : Conte
 
     -- so each part accepts them
     accepted_by : AllZip (λ d n. part_judged q d (Ok (r, z)) ≡ Accepted n (length z.entries)) ds
-        (map (λ (d : Contents). length (morsels q d)) ds)
+        (map (λ (d : Data). length (morsels q d)) ds)
     accepted_by =
-        (zip_each (λ (d : Contents) (n : ℕ). part_judged q d (Ok (r, z)) ≡ Accepted n (length z.entries))
-        (λ (d : Contents). length (morsels q d)) ds).1 (λ d h.
+        (zip_each (λ (d : Data) (n : ℕ). part_judged q d (Ok (r, z)) ≡ Accepted n (length z.entries))
+        (λ (d : Data). length (morsels q d)) ds).1 (λ d h.
         ap (λ (f : Option Refusal). option_map_or Refused f (Accepted (length (morsels q d)) (length z.entries)))
         (nothing_refused q c ds cut r z pieces_of d h ((heads q r z asked report certificate).1 head_of)))
 
     -- and the numbers of their series add up
-    added : sum (map (λ (d : Contents). length (morsels q d)) ds) ≡ length z.entries
+    added : sum (map (λ (d : Data). length (morsels q d)) ds) ≡ length z.entries
     added =
         add_up q c ds cut ∙ AllZip-long (IsRightEntry q (kth_of_query q c)) z.entries (morsels q c) told.entries
 
@@ -91,7 +91,7 @@ module _ (certificates : CertificatesAreRead) (right_certificates : RightCertifi
     (reports : ReportsAreRead) (right_reports : RightReportsSayRight) (heads : HeadsAreRight)
     (pieces : RightInPieces) where
   -- a report and a certificate that all parts accept are right for all data
-  right_whole : (q : Asked) (c : Contents) (ds : List Contents) (report certificate : List ℕ) → IsAsked q → IsContents c
+  right_whole : (q : Query) (c : Data) (ds : List Data) (report certificate : List ℕ) → IsAsked q → IsContents c
       → IsCut q c ds → 0 < length ds → AllAccept q report certificate ds
       → IsFoundReport q c report × IsFoundCertificate q c certificate
   right_whole q c ds report certificate asked dataset cut some all =
@@ -108,13 +108,13 @@ module _ (certificates : CertificatesAreRead) (right_certificates : RightCertifi
             (right_certificates q c certificate asked dataset).1 (z, are.1, both.1),
           )
       by (Err bad) e h =
-          let one = one_of_each (λ (d : Contents) (n : ℕ). part_judged q d (Err bad) ≡ Accepted n all.lines) ds
+          let one = one_of_each (λ (d : Data) (n : ℕ). part_judged q d (Err bad) ≡ Accepted n all.lines) ds
           all.series some h in
           let no : part_judged q one.0 (Err bad) ≡ Accepted one.1 all.lines = one.2 in
           absurd cc
 
   -- and a right report and a right certificate are accepted by all parts
-  all_accept : (q : Asked) (c : Contents) (ds : List Contents) (report certificate : List ℕ) → IsAsked q → IsContents c
+  all_accept : (q : Query) (c : Data) (ds : List Data) (report certificate : List ℕ) → IsAsked q → IsContents c
       → IsCut q c ds → IsFoundReport q c report → IsFoundCertificate q c certificate → AllAccept q report certificate ds
   all_accept q c ds report certificate asked dataset cut is_report is_certificate =
       let said = (right_reports q c report asked dataset).0 is_report in
@@ -122,9 +122,9 @@ module _ (certificates : CertificatesAreRead) (right_certificates : RightCertifi
       let read = (papers_read reports certificates report certificate said.0 told.0).1 (said.1, told.1) in
       record {
         lines = length told.0.entries;
-        series = map (λ (d : Contents). length (morsels q d)) ds;
+        series = map (λ (d : Data). length (morsels q d)) ds;
         accepted = subst (λ (x : Result (Reported × Certified) (Paper × ℕ)). AllZip (λ d n. part_judged q d x
-            ≡ Accepted n (length told.0.entries)) ds (map (λ (d : Contents). length (morsels q d)) ds)) (sym read)
+            ≡ Accepted n (length told.0.entries)) ds (map (λ (d : Data). length (morsels q d)) ds)) (sym read)
             (accepted_by heads pieces q c ds said.0 told.0 asked dataset cut said.1.can_be told.1.can_be said.2 told.2);
         sum = added heads pieces q c ds said.0 told.0 asked dataset cut said.1.can_be told.1.can_be said.2 told.2;
       }
@@ -143,7 +143,7 @@ abbrev without_papers : List (List ℕ) → Filed
 without_papers files = (files, ([], []))
 
 -- their data
-data_filed : (stations : List Station) (parts : List (List (List ℕ))) (ds : List Contents)
+data_filed : (stations : List Station) (parts : List (List (List ℕ))) (ds : List Data)
     → AllZip (AreDataOf stations) parts ds → AllZip (IsDataOf stations) (map without_papers parts) ds
 data_filed stations [] [] h = tt
 data_filed stations [] (d ∷ ds) h = absurd h

@@ -8,10 +8,10 @@ use Rattle.ghcn_files.specs.declared.station.Station.{Station}
 use Rattle.ghcn_files.specs.declared.station.StationId.{StationId}
 use Rattle.ghcn_files.specs.Meaning.Ids.{same_id}
 use Rattle.ghcn_files.specs.Meaning.Listed.{is_station_of}
-use Rattle.ghcn_series.specs.Meaning.Series.{Usable}
-use Rattle.ghcn_series.specs.Series.{Contents, series_of}
+use Rattle.ghcn_series.specs.Meaning.Series.{Series}
+use Rattle.ghcn_series.specs.Series.{Data, series_of}
 use Rattle.ghcn_series.specs.Held.{IsContents}
-use Rattle.rank_query.specs.Meaning.Asked.{Asked, IsAsked, score_element}
+use Rattle.rank_query.specs.Meaning.Asked.{Query, IsAsked, score_element}
 use Rattle.rank_scores.specs.declared.candidate.Candidate.{Candidate}
 use Rattle.rank_papers.specs.Report.{Named}
 use Rattle.rank_papers.specs.ReportLines.{Reported, IsReported, IsReportOf, SaysRightReport}
@@ -32,23 +32,23 @@ abbrev pub worst_of : ℕ → List Named → Option Candidate
 worst_of k rows = option_map (λ row. row.0) (slice_get rows (k - 1))
 
 -- the series of the query's element of a station
-abbrev pub own_series : Asked → Contents → Station → Option Usable
+abbrev pub own_series : Query → Data → Station → Option Series
 own_series q c st = series_of c st.id (score_element q.score)
 
 -- ---- all pieces
 
 -- a line with its count is accepted by itself: its station is listed, and no test fails
-abbrev pub IsAccepted : Asked → Contents → List Named → Line → ℕ → Type 0
+abbrev pub IsAccepted : Query → Data → List Named → Line → ℕ → Type 0
 IsAccepted q c rows e n = (st : Station) × (find (is_station_of e.id) c.stations ≡ Some st)
     × (first_failing (piece_tests q st (own_series q c st) e n (rows_with e.id rows) (worst_of q.k rows)) ≡ None)
 
 -- a listed station without a line is accepted by itself: it isn't a morsel
-abbrev pub IsAbsent : Asked → Contents → List Line → Station → Type 0
+abbrev pub IsAbsent : Query → Data → List Line → Station → Type 0
 IsAbsent q c es st =
     list_any (λ e. same_id e.id st.id) es ≡ false → is_morsel q st (own_series q c st) ≡ false
 
 -- the head is right, each line is accepted by itself, and so is each listed station without a line
-pub record AreRightPieces (q : Asked) (c : Contents) (r : Reported) (z : Certified) : Type 0 where
+pub record AreRightPieces (q : Query) (c : Data) (r : Reported) (z : Certified) : Type 0 where
   pub head : IsRightHead q r z
   pub lines : AllZip (IsAccepted q c r.rows) z.entries z.counts
   pub absent : AllByRecursion (IsAbsent q c z.entries) c.stations
@@ -56,12 +56,12 @@ pub record AreRightPieces (q : Asked) (c : Contents) (r : Reported) (z : Certifi
 -- a report and a certificate of version 2 say what is right if and only if their pieces are right, in whatever order
 -- these are checked
 abbrev pub RightInPieces : Type 0
-RightInPieces = (q : Asked) (c : Contents) (r : Reported) (z : Certified) → IsAsked q → IsContents c → IsReported r
+RightInPieces = (q : Query) (c : Data) (r : Reported) (z : Certified) → IsAsked q → IsContents c → IsReported r
     → IsCertified z → z.version ≡ 2
     → (SaysRightReport q c r × SaysRightCertificate q c z) ↔ AreRightPieces q c r z
 
 -- so the verdict on the texts of such a report and such a certificate accepts if and only if their pieces are right
 abbrev pub AcceptedInPieces : Type 0
-AcceptedInPieces = (q : Asked) (c : Contents) (report certificate : List ℕ) (r : Reported) (z : Certified)
+AcceptedInPieces = (q : Query) (c : Data) (report certificate : List ℕ) (r : Reported) (z : Certified)
     → IsAsked q → IsContents c → IsReportOf r report → IsCertificateOf z certificate → z.version ≡ 2
     → (verdict q c report certificate ≡ Accepted) ↔ AreRightPieces q c r z

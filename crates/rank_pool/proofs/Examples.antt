@@ -6,7 +6,7 @@ use Rattle.ghcn_files.specs.declared.station.StationId.{StationId}
 use Rattle.rank_scores.specs.declared.candidate.Candidate.{Candidate}
 use Rattle.rank_scores.specs.Order.{best, kth_score}
 use Rattle.rank_pool.specs.First.{first, kth, above}
-use Rattle.rank_pool.specs.Pools.{Pooled, empty_pool, taken, last_score}
+use Rattle.rank_pool.specs.Pools.{Pool, empty_pool, taken, last_score}
 
 -- three stations
 abbrev a : StationId
@@ -27,7 +27,7 @@ abbrev offered : List Candidate
 offered = on_day a (pos 18445) (pos 305) ∷ on_day a (pos 18444) (pos 311) ∷ on_day a (pos 18446) (pos 306) ∷ []
 
 -- two places, and what they are offered
-abbrev pool_of : List Candidate → Pooled
+abbrev pool_of : List Candidate → Pool
 pool_of cs = fold taken (empty_pool 2) cs
 
 -- the k-th score, once k candidates were offered

@@ -11,7 +11,7 @@ use Rattle.ghcn_fields.specs.Sorting.{placed}
 use Rattle.rank_scores.specs.declared.candidate.Candidate.{Candidate}
 use Rattle.rank_scores.specs.Order.{bound_is_below}
 use Rattle.rank_pool.specs.First.{comes_first, in_order, first, kth, above}
-use Rattle.rank_pool.specs.Pools.{Pooled, IsPool, HoldsFirst, taken, last_score}
+use Rattle.rank_pool.specs.Pools.{Pool, IsPool, HoldsFirst, taken, last_score}
 use Rattle.rank_pool.proofs.Orders.{InTurn, in_order-turn}
 use Rattle.rank_pool.proofs.Places.{first-in_order}
 use Rattle.rank_pool.proofs.Counts.{ScoresFall, falls, at_place}
@@ -27,7 +27,7 @@ take_first (suc k) x xs some =
     ap (λ (n : ℕ). x ∷ take n xs) one
 
 -- a pool stays one with one candidate more
-pub still_pool : (p : Pooled) (x : Candidate) (new : List Candidate) → IsPool p
+pub still_pool : (p : Pool) (x : Candidate) (new : List Candidate) → IsPool p
     → new ≡ take p.size (placed comes_first x p.held) → IsPool (record { size = p.size; held = new })
 still_pool p x new h e =
     let held : new ≡ first p.size (x ∷ p.held) =
@@ -40,7 +40,7 @@ still_pool p x new h e =
     }
 
 -- if a candidate scores below the last place, the pool stays as it is
-pub falls_out : (p : Pooled) (x : Candidate) (s : ℤ) → IsPool p → last_score p ≡ Some s → int_lt x.score s ≡ true
+pub falls_out : (p : Pool) (x : Candidate) (s : ℤ) → IsPool p → last_score p ≡ Some s → int_lt x.score s ≡ true
     → p ≡ taken p x
 falls_out p x s pool last low =
     let below : bound_is_below (last_score p) x.score ≡ true =
@@ -51,14 +51,14 @@ falls_out p x s pool last low =
     (sym (low_past x p.held p.size fall (omega (arith, many)) ∙ take_all p.size p.held pool.few))
 
 -- so it does if all of some candidates score below it
-pub all_fall_out : (p : Pooled) (xs : List Candidate) (s : ℤ) → IsPool p → last_score p ≡ Some s
+pub all_fall_out : (p : Pool) (xs : List Candidate) (s : ℤ) → IsPool p → last_score p ≡ Some s
     → AllByRecursion (λ x. x.score <ℤ s) xs → p ≡ fold taken p xs
 all_fall_out p [] s pool last low = refl
 all_fall_out p (x ∷ xs) s pool last low =
     let under : x.score <ℤ s = low.0 in
     let below : int_lt x.score s ≡ true = grind (arith, ints) in
     all_fall_out p xs s pool last low.1
-    ∙ ap (λ (q : Pooled). fold taken q xs) (falls_out p x s pool last below)
+    ∙ ap (λ (q : Pool). fold taken q xs) (falls_out p x s pool last below)
 
 -- what doesn't fail is done
 pub was_ok : {T E : Type 0} (P Q : Type 0) (r : Result T E) → OnOk r P → OnErr r Q → (Q → ⊥) → P
@@ -89,6 +89,6 @@ last-kth (suc j) xs some =
     ∙ slice_get-take (in_order xs) (suc j) j (omega arith))
 
 -- the score of a pool's last place is the k-th score of all that it was offered
-pub last_is_kth : (p : Pooled) (xs : List Candidate) → 0 < p.size → HoldsFirst p xs → last_score p ≡ kth p.size xs
+pub last_is_kth : (p : Pool) (xs : List Candidate) → 0 < p.size → HoldsFirst p xs → last_score p ≡ kth p.size xs
 last_is_kth p xs some h = ap (λ (l : List Candidate). last_score (record { size = p.size; held = l })) h
     ∙ last-kth p.size xs some

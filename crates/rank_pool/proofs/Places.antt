@@ -6,7 +6,7 @@ use Rattle.std.proofs.lemmas.List.Sorted.{IsPermutation-append_comm, IsPermutati
 use Rattle.ghcn_fields.specs.Sorting.{placed}
 use Rattle.rank_scores.specs.declared.candidate.Candidate.{Candidate}
 use Rattle.rank_pool.specs.First.{comes_first, in_order, first}
-use Rattle.rank_pool.specs.Pools.{Pooled, taken, HoldsFirst}
+use Rattle.rank_pool.specs.Pools.{Pool, taken, HoldsFirst}
 use Rattle.rank_pool.proofs.Orders.{InTurn, in_order-turn, sorted-fixed, take-all}
 use Rattle.rank_pool.proofs.Moves.{same_order}
 
@@ -38,7 +38,7 @@ placed_cut (suc k) x (y ∷ ys) =
     grind arith
 
 -- a pool that held the first of some candidates holds the first of these and one more
-pub holds-push : (p : Pooled) (xs : List Candidate) (c : Candidate) → HoldsFirst p xs
+pub holds-push : (p : Pool) (xs : List Candidate) (c : Candidate) → HoldsFirst p xs
     → HoldsFirst (taken p c) (xs ++ c ∷ [])
 holds-push p xs c h =
     ap (λ (l : List Candidate). take p.size (placed comes_first c l)) h
@@ -46,17 +46,17 @@ holds-push p xs c h =
     ∙ sym (ap (take p.size) (in_order-push xs c))
 
 -- so does one that became what it is with one more
-pub holds_taken : (p new : Pooled) (xs : List Candidate) (c : Candidate) → new ≡ taken p c → HoldsFirst p xs
+pub holds_taken : (p new : Pool) (xs : List Candidate) (c : Candidate) → new ≡ taken p c → HoldsFirst p xs
     → HoldsFirst new (xs ++ c ∷ [])
-holds_taken p new xs c e h = subst (λ (o : Pooled). HoldsFirst o (xs ++ c ∷ [])) (sym e) (holds-push p xs c h)
+holds_taken p new xs c e h = subst (λ (o : Pool). HoldsFirst o (xs ++ c ∷ [])) (sym e) (holds-push p xs c h)
 
 -- a pool keeps its size
-pub size-fold : (p : Pooled) (ys : List Candidate) → (fold taken p ys).size ≡ p.size
+pub size-fold : (p : Pool) (ys : List Candidate) → (fold taken p ys).size ≡ p.size
 size-fold p [] = refl
 size-fold p (y ∷ ys) = size-fold (taken p y) ys
 
 -- a pool that held the first of some candidates holds the first of these and all that it is offered
-pub holds-fold : (p : Pooled) (xs ys : List Candidate) → HoldsFirst p xs → HoldsFirst (fold taken p ys) (xs ++ ys)
+pub holds-fold : (p : Pool) (xs ys : List Candidate) → HoldsFirst p xs → HoldsFirst (fold taken p ys) (xs ++ ys)
 holds-fold p xs [] h = h ∙ ap (first p.size) (sym (append-nil xs))
 holds-fold p xs (y ∷ ys) h =
     holds-fold (taken p y) (xs ++ y ∷ []) ys (holds-push p xs y h)
@@ -89,7 +89,7 @@ first-first_left k xs ys =
     ∙ ap (take k) (in_order-append_comm ys xs)
 
 -- a pool that is offered what another holds, holds the first of all that both were offered
-pub holds-merged : (p o : Pooled) (xs ys : List Candidate) → o.size ≡ p.size → HoldsFirst p xs → HoldsFirst o ys
+pub holds-merged : (p o : Pool) (xs ys : List Candidate) → o.size ≡ p.size → HoldsFirst p xs → HoldsFirst o ys
     → HoldsFirst (fold taken p o.held) (xs ++ ys)
 holds-merged p o xs ys same h g =
     let size : (fold taken p o.held).size ≡ p.size = size-fold p o.held in

@@ -5,31 +5,31 @@ use Rattle.std.specs.List.Sorted.{IsPermutation}
 use Rattle.rank_scores.specs.declared.candidate.Candidate.{Candidate}
 use Rattle.rank_scores.specs.Order.{AreApart, best, kth_score, bound_is_below}
 use Rattle.rank_pool.specs.First.{in_order, first, kth, above}
-use Rattle.rank_pool.specs.Pools.{Pooled, taken, last_score, HoldsFirst}
+use Rattle.rank_pool.specs.Pools.{Pool, taken, last_score, HoldsFirst}
 
 -- ---- pools
 
 -- a pool that held the first of some candidates holds the first of these and one more
 abbrev pub HoldsOneMore : Type 0
-HoldsOneMore = (p : Pooled) (xs : List Candidate) (c : Candidate) → HoldsFirst p xs
+HoldsOneMore = (p : Pool) (xs : List Candidate) (c : Candidate) → HoldsFirst p xs
     → HoldsFirst (taken p c) (xs ++ c ∷ [])
 
 -- a pool that held the first of some candidates holds the first of these and all that it is offered
 abbrev pub HoldsAllOffered : Type 0
-HoldsAllOffered = (p : Pooled) (xs ys : List Candidate) → HoldsFirst p xs → HoldsFirst (fold taken p ys) (xs ++ ys)
+HoldsAllOffered = (p : Pool) (xs ys : List Candidate) → HoldsFirst p xs → HoldsFirst (fold taken p ys) (xs ++ ys)
 
 -- a pool keeps its size, whatever it is offered
 abbrev pub KeepsItsSize : Type 0
-KeepsItsSize = (p : Pooled) (ys : List Candidate) → (fold taken p ys).size ≡ p.size
+KeepsItsSize = (p : Pool) (ys : List Candidate) → (fold taken p ys).size ≡ p.size
 
 -- a pool that is offered what another of its size holds, holds the first of all that both were offered
 abbrev pub HoldsMerged : Type 0
-HoldsMerged = (p o : Pooled) (xs ys : List Candidate) → o.size ≡ p.size → HoldsFirst p xs → HoldsFirst o ys →
+HoldsMerged = (p o : Pool) (xs ys : List Candidate) → o.size ≡ p.size → HoldsFirst p xs → HoldsFirst o ys →
     HoldsFirst (fold taken p o.held) (xs ++ ys)
 
 -- the score of a pool's last place is the k-th score of all that it was offered
 abbrev pub LastIsKth : Type 0
-LastIsKth = (p : Pooled) (xs : List Candidate) → 0 < p.size → HoldsFirst p xs → last_score p ≡ kth p.size xs
+LastIsKth = (p : Pool) (xs : List Candidate) → 0 < p.size → HoldsFirst p xs → last_score p ≡ kth p.size xs
 
 -- ---- the first
 

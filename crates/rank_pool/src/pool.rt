@@ -27,11 +27,11 @@ pub struct Pool {
 }
 
 impl Model for Pool {
-    ghost use Rattle.rank_pool.specs.Pools.{Pooled, IsPool, last_score};
+    ghost use Rattle.rank_pool.specs.Pools.{Pool, IsPool, last_score};
     ghost use Rattle.std.specs.Prelude.{◌≡◌, ◌<◌};
     ghost use Rattle.std.specs.VecDeque.{deque_capacity};
 
-    ghost Value = { Pooled };
+    ghost Value = { Pool };
 
     ghost view = { λ p. record { size = p.size; held = p.held.items } };
 

@@ -2,7 +2,7 @@
 use Rattle.rank_query.proofs.Cited.{◌≡◌, ℕ, ◌<◌, ◌≤◌, ◌^◌, true, ◌++◌, length, codes, IsTrue, refl, length-append}
 use Rattle.rank_query.proofs.Cited.{arith, Some, None, ℤ, pos, neg_ℤ, ◌≤ℤ◌, Option, AllByRecursion, and_parts}
 use Rattle.rank_query.proofs.Cited.{nat_tests, ints, is_within, Score, Highest, Lowest, Sum, Dry, Wet, Hot, Cold}
-use Rattle.rank_query.proofs.Cited.{Region, Everywhere, Inside, Country, State, Only, Asked, IsAsked, is_score, is_fall}
+use Rattle.rank_query.proofs.Cited.{Region, Everywhere, Inside, Country, State, Only, Query, IsAsked, is_score, is_fall}
 use Rattle.rank_query.proofs.Cited.{is_heat, is_month, is_season, is_region, score_words, region_words, season_words}
 use Rattle.rank_query.proofs.Cited.{period_words, query_words, query_text, SpellsWord, IsSpelling, QueryWord, Exactly}
 use Rattle.rank_query.proofs.Cited.{Count, Tenths, Edge, TwoMonths, Season, AllYear, Months, Dates, dates_text}
@@ -151,12 +151,12 @@ texts_spell [] all = tt
 texts_spell (w ∷ words) all = (all.0.spelt, texts_spell words all.1)
 
 -- a canonical text spells its query, and is short and printable
-pub record IsCanonical (q : Asked) : Type 0 where
+pub record IsCanonical (q : Query) : Type 0 where
   pub spells : IsSpelling (query_text q) q
   pub line : IsShortLine (query_text q)
 
 -- so it is for each query that may be asked
-pub canonical : (q : Asked) → IsAsked q → IsCanonical q
+pub canonical : (q : Query) → IsAsked q → IsCanonical q
 canonical q is =
     let score = score_printed q.score is.score in
     let region = region_printed q.region is.region in

@@ -51,7 +51,7 @@ pub use Rattle.rank_query.specs.FaultKinds.{is_dates_word}
 pub use Rattle.rank_query.specs.FaultKinds.{is_decimal, is_number, other, place_behind}
 pub use Rattle.rank_query.specs.FaultPlaces.{BeginQuery, EndsTooEarly, IsFirstWrong, IsFirstWrongAt, SpellNone}
 pub use Rattle.rank_query.specs.FaultPlaces.{StandsAmong, StandsIn}
-pub use Rattle.rank_query.specs.Meaning.Asked.{Asked, IsAsked, is_code, is_fall, is_heat, is_period, is_day_of_2000}
+pub use Rattle.rank_query.specs.Meaning.Asked.{Query, IsAsked, is_code, is_fall, is_heat, is_period, is_day_of_2000}
 pub use Rattle.rank_query.specs.Meaning.Asked.{is_region, is_score, is_season}
 pub use Rattle.rank_query.specs.Meaning.QueryTexts.{Count, Edge, Exactly, QueryWord, Tenths, TwoMonths, dates_text}
 pub use Rattle.rank_query.specs.Meaning.QueryTexts.{per_words, period_words, query_text, query_words, region_words}

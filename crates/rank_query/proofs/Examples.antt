@@ -2,14 +2,14 @@
 use Rattle.rank_query.proofs.Cited.{◌≡◌, ℕ, [], ◌∷◌, ◌++◌, refl, Some, Ok, Err, codes, pos, neg_ℤ, ℤ, days_from_civil}
 use Rattle.rank_query.proofs.Cited.{day_count, days_of_years, days_of_months, Tmax, Tmin, Prcp, Score, Highest, Lowest}
 use Rattle.rank_query.proofs.Cited.{Sum, Dry, Wet, Hot, Cold, Region, Inside, Country, Season, Months, Dates, State}
-use Rattle.rank_query.proofs.Cited.{Only, UnexpectedWord, QueryEnds, OutOfLimits, BadDate, BadBox, EmptyPeriod, Asked}
+use Rattle.rank_query.proofs.Cited.{Only, UnexpectedWord, QueryEnds, OutOfLimits, BadDate, BadBox, EmptyPeriod, Query}
 use Rattle.rank_query.proofs.Cited.{words_of, says, keyword, number, element, heat, months, dates, degrees, code, date}
 use Rattle.rank_query.proofs.Cited.{sum_at, no_score_at, score_at, box_at, region_at, season_at, days_at, period_at}
 use Rattle.rank_query.proofs.Cited.{per_at, read_words, read_query, group, Station as ByStation, Year as ByYear}
 use Rattle.rank_query.specs.Asked.{top}
 
 -- a query of a region and all days
-abbrev pub asked_in : Region → ℕ → Score → Asked
+abbrev pub asked_in : Region → ℕ → Score → Query
 asked_in r k s = record (top k s) { region = r }
 
 -- the words of a text, whatever the blanks
@@ -80,7 +80,7 @@ unfolding read_query read_words keyword says number element score_at no_score_at
 boxes_refused = (refl, refl, refl, refl, refl)
 
 -- wet spells in a box
-abbrev pub in_box_of : ℤ → ℤ → ℤ → ℤ → Asked
+abbrev pub in_box_of : ℤ → ℤ → ℤ → ℤ → Query
 in_box_of south west north east = asked_in (Inside south west north east) 1 Wet
 
 -- a box over the date line, and one at the edges of the world
@@ -180,15 +180,15 @@ unfolding read_query read_words keyword says number heat score_at no_score_at re
 colds_read = (refl, refl, refl, refl, refl, refl, refl)
 
 -- dry days of a season
-abbrev dry_in : Season → Asked
+abbrev dry_in : Season → Query
 dry_in s = record (top 1 Dry) { season = s }
 
 -- of some months
-abbrev pub dry_months : ℕ → ℕ → Asked
+abbrev pub dry_months : ℕ → ℕ → Query
 dry_months first last = dry_in (Months first last)
 
 -- and of some days of the year 2000, from a first to a last one
-abbrev pub dry_days : ℤ → ℤ → Asked
+abbrev pub dry_days : ℤ → ℤ → Query
 dry_days first last = dry_in (Dates first last)
 
 -- seasons, of one year or over its turn
@@ -241,7 +241,7 @@ unfolding read_query read_words keyword says number element score_at no_score_at
 dates_refused = (refl, refl, refl)
 
 -- dry days of a period
-abbrev pub dry_from : ℤ → ℤ → Asked
+abbrev pub dry_from : ℤ → ℤ → Query
 dry_from first last = record (top 1 Dry) { period = Some (first, last) }
 
 -- a period from a day to itself, one that ends before it begins, reported before a word too many, and a word too many

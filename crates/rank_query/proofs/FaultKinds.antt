@@ -5,7 +5,7 @@ use Rattle.rank_query.proofs.Cited.{◌∙◌, subst, arith, nat_lt, ℤ, pos, n
 use Rattle.rank_query.proofs.Cited.{length-reverse, reverse-reverse, Element, Score, Highest, Lowest, Sum, Dry, Wet}
 use Rattle.rank_query.proofs.Cited.{Hot, Cold, Region, Everywhere, Inside, Country, Season, AllYear, Months, Dates}
 use Rattle.rank_query.proofs.Cited.{State, Only, QueryFault, QueryTooLong, UnexpectedWord, QueryEnds, OutOfLimits}
-use Rattle.rank_query.proofs.Cited.{BadDate, BadBox, EmptyPeriod, Asked, may_be_negative, is_fall, is_heat, is_month}
+use Rattle.rank_query.proofs.Cited.{BadDate, BadBox, EmptyPeriod, Query, may_be_negative, is_fall, is_heat, is_month}
 use Rattle.rank_query.proofs.Cited.{Word, words_of, numbered_words, ◌>>=◌, keyword, one_word, made_into, number}
 use Rattle.rank_query.proofs.Cited.{element, heat, months, degrees, code, date, tenths_in, two_numbers, dates}
 use Rattle.rank_query.proofs.Cited.{no_score_at, sum_at, score_at, box_at, everywhere_at, region_at, Per, Each, group}
@@ -247,7 +247,7 @@ unfolding per_at
 per_part = rows_part per_rows each_at (group_row, tt) (always_part Each)
 
 -- no word may follow
-nothing_kind : (past : List (List ℕ)) (ws : List Word) (q : Asked) (fault : QueryFault) → IsSettled past
+nothing_kind : (past : List (List ℕ)) (ws : List Word) (q : Query) (fault : QueryFault) → IsSettled past
     → nothing_more ws q ≡ Err fault → IsFaultBehind past ws fault
 nothing_kind past [] q fault settled e = absurd cc
 nothing_kind past (w ∷ rest) q fault settled e =
@@ -308,7 +308,7 @@ fault_kind text fault e = elim (cases_Bool (nat_lt 256 (length text))) [
 ]
 
 -- if the reading fails, the error is that of one of the words
-pub if_fault_kind : (text : List ℕ) (r : Result Asked QueryFault) → r ≡ read_query text
+pub if_fault_kind : (text : List ℕ) (r : Result Query QueryFault) → r ≡ read_query text
     → IfErr r (λ fault. IsFaultAmong fault (words_of text))
 if_fault_kind text (Ok q) e = tt
 if_fault_kind text (Err fault) e = fault_kind text fault (sym e)

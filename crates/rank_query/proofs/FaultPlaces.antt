@@ -3,7 +3,7 @@ use Rattle.rank_query.proofs.Cited.{cases_Bool, ◌≡◌, ℕ, ◌+◌, ◌⊎�
 use Rattle.rank_query.proofs.Cited.{Err, refl, sym, ap, ◌∙◌, subst, append_assoc, append-nil, IfErr, arith, nat_lt}
 use Rattle.rank_query.proofs.Cited.{enumerate_from, AllByRecursion, map-append, length-map, nat_tests, QueryFault}
 use Rattle.rank_query.proofs.Cited.{QueryTooLong, UnexpectedWord, QueryEnds, OutOfLimits, BadDate, BadBox, EmptyPeriod}
-use Rattle.rank_query.proofs.Cited.{Asked, Word, words_of, numbered_words, SpellsQuery, read_words, read_query}
+use Rattle.rank_query.proofs.Cited.{Query, Word, words_of, numbered_words, SpellsQuery, read_words, read_query}
 use Rattle.rank_query.proofs.Cited.{BeginQuery, IsFirstWrong, IsFirstWrongAt, SpellNone, StandsAmong, StandsIn}
 use Rattle.rank_query.proofs.OneWords.{HasNoBlank, words_no_blank}
 use Rattle.rank_query.proofs.ReadingSteps.{unnumbered, unnumbered-enumerate_from}
@@ -53,7 +53,7 @@ place_of n (v ∷ words) (b ∷ before) w behind e =
 
 -- words after which a query is read begin one
 begun : (before left : List Word) → AllByRecursion HasNoBlank (unnumbered (before ++ left))
-    → GoesOn Asked Any (λ tail. read_words (before ++ tail)) → BeginQuery (unnumbered before)
+    → GoesOn Query Any (λ tail. read_words (before ++ tail)) → BeginQuery (unnumbered before)
 begun before left clean on =
     let all = blank_in_neither before on.tail (blank_in_front before left clean) on.clean in
     record {
@@ -73,7 +73,7 @@ ended before w fault place stops begin =
     let words : (unnumbered before ++ w.1 ∷ []) ++ begin.more ≡ unnumbered before ++ w.1 ∷ begin.more = append_assoc
     (unnumbered before) (w.1 ∷ []) begin.more in
     let read = spelt_read ((unnumbered before ++ w.1 ∷ []) ++ begin.more) begin.query begin.can_be_asked begin.spelt in
-    let both : ◌≡◌ {A = Result Asked QueryFault} (Ok begin.query) (Err fault) = sym read
+    let both : ◌≡◌ {A = Result Query QueryFault} (Ok begin.query) (Err fault) = sym read
     ∙ ap (λ ws. read_words (enumerate_from 1 ws)) words ∙ ap read_words rest.1 ∙ stops rest.0 in
     absurd cc
 
@@ -99,7 +99,7 @@ by_left : (text : List ℕ) (fault : QueryFault) (before left : List Word) → r
 by_left text fault before [] e words numbered begins at =
     let same : words_of text ≡ unnumbered before = words ∙ ap unnumbered (append-nil before) in
     let none : SpellNone (words_of text) = λ q is spelt.
-    let both : ◌≡◌ {A = Result Asked QueryFault} (Ok q) (Err fault) = sym (spelt_read (words_of text) q is spelt) ∙ e in
+    let both : ◌≡◌ {A = Result Query QueryFault} (Ok q) (Err fault) = sym (spelt_read (words_of text) q is spelt) ∙ e in
     absurd cc in
     subst (StandsAmong (words_of text)) (sym at) (subst BeginQuery (sym same) begins, none)
 by_left text fault before (w ∷ behind) e words numbered begins at =
@@ -132,7 +132,7 @@ fault_stands text fault e = elim (cases_Bool (nat_lt 256 (length text))) [
 ]
 
 -- if the reading fails, the error is where it is reported
-pub if_fault_stands : (text : List ℕ) (r : Result Asked QueryFault) → r ≡ read_query text
+pub if_fault_stands : (text : List ℕ) (r : Result Query QueryFault) → r ≡ read_query text
     → IfErr r (λ fault. StandsIn text fault)
 if_fault_stands text (Ok q) e = tt
 if_fault_stands text (Err fault) e = fault_stands text fault (sym e)

@@ -1,7 +1,7 @@
 -- Where the reading of a query stops.
 use Rattle.rank_query.proofs.Cited.{◌≡◌, ℕ, true, inl, inr, List, [], ◌∷◌, None, Result, Ok, Err, codes, refl, sym, ap}
 use Rattle.rank_query.proofs.Cited.{◌∙◌, AllByRecursion, Score, Region, Everywhere, Season, AllYear, QueryFault}
-use Rattle.rank_query.proofs.Cited.{UnexpectedWord, Asked, Word, says, ◌>>=◌, Read, one_word, by_word, number, score_at}
+use Rattle.rank_query.proofs.Cited.{UnexpectedWord, Query, Word, says, ◌>>=◌, Read, one_word, by_word, number, score_at}
 use Rattle.rank_query.proofs.Cited.{region_at, season_at, period_at, per_at, nothing_more, read_words, ℤ, Option, Each}
 use Rattle.rank_query.proofs.Spellings.{asked}
 use Rattle.rank_query.proofs.Stops.{Reading, then, GoesOn, Stops, StopsFirst, ReadsPart, stops_behind, stops_word}
@@ -19,38 +19,38 @@ use Rattle.rank_query.proofs.GroupStops.{per_parts}
 use Rattle.rank_query.proofs.GroupWords.{per_rows}
 
 -- what is read after a period
-abbrev from_group : ℕ → Score → Region → Season → Option (ℤ × ℤ) → Reading Asked
+abbrev from_group : ℕ → Score → Region → Season → Option (ℤ × ℤ) → Reading Query
 from_group k s r t p ws = per_at ws >>= λ g. nothing_more g.1 (asked k s r t p g.0)
 
 -- after a season
-abbrev from_period : ℕ → Score → Region → Season → Reading Asked
+abbrev from_period : ℕ → Score → Region → Season → Reading Query
 from_period k s r t ws = period_at ws >>= λ p. from_group k s r t p.0 p.1
 
 -- after a region
-abbrev from_season : ℕ → Score → Region → Reading Asked
+abbrev from_season : ℕ → Score → Region → Reading Query
 from_season k s r ws = season_at ws >>= λ t. from_period k s r t.0 t.1
 
 -- and after a score
-abbrev from_region : ℕ → Score → Reading Asked
+abbrev from_region : ℕ → Score → Reading Query
 from_region k s ws = region_at ws >>= λ r. from_season k s r.0 r.1
 
 -- if a word comes next, all that is read as this is stops where this stops
-abbrev StopsAhead : Reading Asked → Type 0
+abbrev StopsAhead : Reading Query → Type 0
 StopsAhead next =
-    (whole : Reading Asked) (w : Word) (ws : List Word) (fault : QueryFault)
-    → ((rest : List Word) → whole (w ∷ rest) ≡ next (w ∷ rest)) → GoesOn Asked Any whole
-    → whole (w ∷ ws) ≡ Err fault → Stops Asked Any whole fault (w ∷ ws)
+    (whole : Reading Query) (w : Word) (ws : List Word) (fault : QueryFault)
+    → ((rest : List Word) → whole (w ∷ rest) ≡ next (w ∷ rest)) → GoesOn Query Any whole
+    → whole (w ∷ ws) ≡ Err fault → Stops Query Any whole fault (w ∷ ws)
 
 -- if nothing more is asked each word is wrong
-nothing_ahead : (q : Asked) → StopsAhead (λ ws. nothing_more ws q)
+nothing_ahead : (q : Query) → StopsAhead (λ ws. nothing_more ws q)
 nothing_ahead q whole w ws fault same on e =
-    let here : ◌≡◌ {A = Result Asked QueryFault} (Err (UnexpectedWord w.0)) (Err fault) = sym (same ws) ∙ e in
+    let here : ◌≡◌ {A = Result Query QueryFault} (Err (UnexpectedWord w.0)) (Err fault) = sym (same ws) ∙ e in
     stops_word [] w ws on (told (UnexpectedWord w.0) fault w refl here) (λ more. same more ∙ here)
 
 -- a part that may be missing, and what is read after it
 optional_ahead : {A : Type 0} (Good : A → Type 0) (rows : List (List ℕ × (List Word → Read A))) (none : A)
-    (onward : A → Reading Asked)
-    → AllByRecursion (λ row. ReadsPart A Good row.1) rows → ((x : A) → Good x → StopsFirst Asked Any (onward x))
+    (onward : A → Reading Query)
+    → AllByRecursion (λ row. ReadsPart A Good row.1) rows → ((x : A) → Good x → StopsFirst Query Any (onward x))
     → StopsAhead (onward none) → StopsAhead (λ ws. by_word rows (λ ws. Ok (none, ws)) ws >>= λ x. onward x.0 x.1)
 optional_ahead {A} Good rows none onward parts firsts ahead whole w ws fault same on e =
     elim (by_first Good rows (λ ws. Ok (none, ws)) w parts) [
@@ -65,13 +65,13 @@ optional_ahead {A} Good rows none onward parts firsts ahead whole w ws fault sam
     ]
 
 -- no word is needed, and if one comes it stops there or goes on
-first_from : (next : Reading Asked) (q : Asked) → next [] ≡ Ok q → StopsAhead next → StopsFirst Asked Any next
+first_from : (next : Reading Query) (q : Query) → next [] ≡ Ok q → StopsAhead next → StopsFirst Query Any next
 first_from next q reads ahead = record { on = on; stops = stops } where
-  on : GoesOn Asked Any next
+  on : GoesOn Query Any next
   on = record { tail = []; clean = tt; value = q; good = tt; reads = reads }
 
-  stops : (ws : List Word) (fault : QueryFault) → next ws ≡ Err fault → Stops Asked Any next fault ws
-  stops [] fault e = let ok : ◌≡◌ {A = Result Asked QueryFault} (Ok q) (Err fault) = sym reads ∙ e in absurd cc
+  stops : (ws : List Word) (fault : QueryFault) → next ws ≡ Err fault → Stops Query Any next fault ws
+  stops [] fault e = let ok : ◌≡◌ {A = Result Query QueryFault} (Ok q) (Err fault) = sym reads ∙ e in absurd cc
   stops (w ∷ ws) fault e = ahead next w ws fault (λ rest. refl) on e
 
 -- from a group on
@@ -85,7 +85,7 @@ group_ahead k s r t p =
 
 -- a group may be missing
 group_first : (k : ℕ) (s : Score) (r : Region) (t : Season) (p : Option (ℤ × ℤ))
-    → StopsFirst Asked Any (from_group k s r t p)
+    → StopsFirst Query Any (from_group k s r t p)
 unfolding per_at
 group_first k s r t p = first_from (from_group k s r t p) (asked k s r t p Each) refl (group_ahead k s r t p)
 
@@ -97,7 +97,7 @@ period_ahead k s r t =
     (λ p period. group_first k s r t p) (group_ahead k s r t None)
 
 -- a period and a group may both be missing
-period_first : (k : ℕ) (s : Score) (r : Region) (t : Season) → StopsFirst Asked Any (from_period k s r t)
+period_first : (k : ℕ) (s : Score) (r : Region) (t : Season) → StopsFirst Query Any (from_period k s r t)
 unfolding period_at per_at
 period_first k s r t = first_from (from_period k s r t) (asked k s r t None Each) refl (period_ahead k s r t)
 
@@ -109,7 +109,7 @@ season_ahead k s r =
     (period_ahead k s r AllYear)
 
 -- a season, a period and a group may all be missing
-season_first : (k : ℕ) (s : Score) (r : Region) → StopsFirst Asked Any (from_season k s r)
+season_first : (k : ℕ) (s : Score) (r : Region) → StopsFirst Query Any (from_season k s r)
 unfolding season_at period_at per_at
 season_first k s r = first_from (from_season k s r) (asked k s r AllYear None Each) refl (season_ahead k s r)
 
@@ -121,7 +121,7 @@ region_ahead k s =
     (season_ahead k s Everywhere)
 
 -- a region and all that comes after it may be missing
-region_first : (k : ℕ) (s : Score) → StopsFirst Asked Any (from_region k s)
+region_first : (k : ℕ) (s : Score) → StopsFirst Query Any (from_region k s)
 unfolding region_at season_at period_at per_at
 region_first k s = first_from (from_region k s) (asked k s Everywhere AllYear None Each) refl (region_ahead k s)
 
@@ -136,17 +136,17 @@ unfolding says
 top_itself = refl
 
 -- after "top"
-abbrev from_rows : Reading Asked
+abbrev from_rows : Reading Query
 from_rows ws = then (one_word (number 1 1000)) (λ k. then score_at (from_region k)) ws
 
 -- the number of rows, the score and the rest
-rows_first : StopsFirst Asked Any from_rows
+rows_first : StopsFirst Query Any from_rows
 rows_first =
     first_then (λ k. then score_at (from_region k)) (part_word (reads_number 1 1000 one_row))
     (λ k rows. first_then (from_region k) score_part (λ s score. region_first k s))
 
 -- the reading of a query can go on before each of its errors
-pub query_first : StopsFirst Asked Any read_words
+pub query_first : StopsFirst Query Any read_words
 unfolding read_words
 query_first =
     first_same Any (then (one_word (the_word (codes "top"))) (λ x. from_rows)) read_words

@@ -1,7 +1,7 @@
 -- What is read as a query can be asked.
 use Rattle.rank_query.proofs.Cited.{ints, arith, ◌≡◌, ℕ, List, [], ◌∷◌, None, Result, Ok, Err, codes, inl, inr, refl}
 use Rattle.rank_query.proofs.Cited.{sym, subst, length, IfOk, nat_lt, AllByRecursion, Everywhere, AllYear, QueryFault}
-use Rattle.rank_query.proofs.Cited.{QueryTooLong, Asked, IsAsked, Word, numbered_words, Read, keyword, one_word}
+use Rattle.rank_query.proofs.Cited.{QueryTooLong, Query, IsAsked, Word, numbered_words, Read, keyword, one_word}
 use Rattle.rank_query.proofs.Cited.{by_word, number, score_at, region_at, season_at, period_at, per_at, read_words}
 use Rattle.rank_query.proofs.Cited.{read_query, IsSpelling}
 use Rattle.rank_query.proofs.Spellings.{asked, nothing_left, read_spells}
@@ -30,7 +30,7 @@ by_word_good Good (row ∷ table) other ws rest x parts is e =
     ]
 
 -- the query of some words can be asked
-pub words_asked : (ws : List Word) (q : Asked) → read_words ws ≡ Ok q → IsAsked q
+pub words_asked : (ws : List Word) (q : Query) → read_words ws ≡ Ok q → IsAsked q
 unfolding read_words region_at season_at period_at
 words_asked ws q e =
     let top = bind_ok (keyword (codes "top") ws) _ q e in
@@ -49,12 +49,12 @@ words_asked ws q e =
     (record { k = rows; score = score; region = region; season = season; period = period })
 
 -- what is read as a query can be asked
-pub read_asked : (text : List ℕ) (q : Asked) → read_query text ≡ Ok q → IsAsked q
+pub read_asked : (text : List ℕ) (q : Query) → read_query text ≡ Ok q → IsAsked q
 unfolding read_query
 read_asked text q e = words_asked (numbered_words text) q (else_ok (nat_lt 256 (length text)) QueryTooLong _ q e)
 
 -- if the reading succeeds, the query can be asked and the text spells it
-pub if_read : (text : List ℕ) (r : Result Asked QueryFault) → r ≡ read_query text
+pub if_read : (text : List ℕ) (r : Result Query QueryFault) → r ≡ read_query text
     → IfOk r (λ q. IsAsked q × IsSpelling text q)
 if_read text (Ok q) e = (read_asked text q (sym e), read_spells text q (sym e))
 if_read text (Err fault) e = tt

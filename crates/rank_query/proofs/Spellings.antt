@@ -1,7 +1,7 @@
 -- What is read as a query spells it, and what spells a query is read as it.
 use Rattle.rank_query.proofs.Cited.{ints, ◌≡◌, ℕ, ◌≤◌, false, List, [], ◌∷◌, ◌++◌, length, Option, Ok, codes, refl, sym}
 use Rattle.rank_query.proofs.Cited.{ap, ◌∙◌, subst, append_assoc, append-nil, arith, nat_lt, ℤ, enumerate_from}
-use Rattle.rank_query.proofs.Cited.{AllByRecursion, nat_tests, Score, Region, Season, QueryTooLong, Asked, IsAsked}
+use Rattle.rank_query.proofs.Cited.{AllByRecursion, nat_tests, Score, Region, Season, QueryTooLong, Query, IsAsked}
 use Rattle.rank_query.proofs.Cited.{Word, words_of, numbered_words, says, keyword, one_word, number, score_at}
 use Rattle.rank_query.proofs.Cited.{region_at, season_at, period_at, per_at, nothing_more, read_words, read_query}
 use Rattle.rank_query.proofs.Cited.{SpellsQuery, IsSpelling, Count, QueryWord, score_words, region_words, season_words}
@@ -17,7 +17,7 @@ use Rattle.rank_query.proofs.PeriodWords.{period_took, period_read, no_season}
 use Rattle.rank_query.proofs.GroupWords.{per_took, per_read, no_period}
 
 -- if nothing more comes, nothing is left
-pub nothing_left : (ws : List Word) (q r : Asked) → nothing_more ws q ≡ Ok r → (ws ≡ []) × (q ≡ r)
+pub nothing_left : (ws : List Word) (q r : Query) → nothing_more ws q ≡ Ok r → (ws ≡ []) × (q ≡ r)
 nothing_left [] q r e = (refl, cc)
 nothing_left (w ∷ ws) q r e = cc
 
@@ -27,7 +27,7 @@ none_spelt [] all = refl
 none_spelt (w ∷ words) all = absurd all
 
 -- what is asked by its parts
-abbrev pub asked : ℕ → Score → Region → Season → Option (ℤ × ℤ) → Per → Asked
+abbrev pub asked : ℕ → Score → Region → Season → Option (ℤ × ℤ) → Per → Query
 asked k s r t p g = record { k = k; score = s; region = r; season = t; period = p; per = g }
 
 -- the words of the parts of a query come one after another
@@ -49,7 +49,7 @@ query_spelt ws left k s r t p g front spelt clean =
     (refl, subst (λ these. SpellAll (unnumbered left) (Count k ∷ these)) (sym order) (spelt all.1))
 
 -- the query that was read is spelt by the words
-pub words_spell : (ws : List Word) (q : Asked) → AllByRecursion HasNoBlank (unnumbered ws) → read_words ws ≡ Ok q
+pub words_spell : (ws : List Word) (q : Query) → AllByRecursion HasNoBlank (unnumbered ws) → read_words ws ≡ Ok q
     → SpellsQuery (unnumbered ws) q
 unfolding read_words
 words_spell ws q no_blank e =
@@ -72,19 +72,19 @@ words_spell ws q no_blank e =
     (keyword_took (codes "top") ws top.0 top.1) rows no_blank)
 
 -- and the words of a text are words
-text_spells : (text : List ℕ) (q : Asked) → read_words (numbered_words text) ≡ Ok q → IsSpelling text q
+text_spells : (text : List ℕ) (q : Query) → read_words (numbered_words text) ≡ Ok q → IsSpelling text q
 text_spells text q e =
     let same : unnumbered (numbered_words text) ≡ words_of text = unnumbered-enumerate_from 1 (words_of text) in
     subst (λ ws. SpellsQuery ws q) same
     (words_spell (numbered_words text) q (subst (AllByRecursion HasNoBlank) (sym same) (words_no_blank text)) e)
 
 -- what is read as a query spells it
-pub read_spells : (text : List ℕ) (q : Asked) → read_query text ≡ Ok q → IsSpelling text q
+pub read_spells : (text : List ℕ) (q : Query) → read_query text ≡ Ok q → IsSpelling text q
 unfolding read_query
 read_spells text q e = text_spells text q (else_ok (nat_lt 256 (length text)) QueryTooLong _ q e)
 
 -- words that spell a query that may be asked are read as it
-pub spelt_read : (ws : List (List ℕ)) (q : Asked) → IsAsked q → SpellsQuery ws q
+pub spelt_read : (ws : List (List ℕ)) (q : Query) → IsAsked q → SpellsQuery ws q
     → read_words (enumerate_from 1 ws) ≡ Ok q
 unfolding read_words keyword says
 spelt_read [] q is spelling = absurd spelling
@@ -102,7 +102,7 @@ spelt_read (w ∷ k ∷ ws) q is spelling =
     grind (arith, ints)
 
 -- and so is a text of at most 256 bytes
-pub spelling_read : (text : List ℕ) (q : Asked) → IsAsked q → IsSpelling text q → length text ≤ 256
+pub spelling_read : (text : List ℕ) (q : Query) → IsAsked q → IsSpelling text q → length text ≤ 256
     → read_query text ≡ Ok q
 unfolding read_query
 spelling_read text q is spelling short =

@@ -3,7 +3,7 @@ use Rattle.rank_query.proofs.Cited.{ints, ◌≡◌, ℕ, ◌+◌, Bool, ◌⊎�
 use Rattle.rank_query.proofs.Cited.{Result, Ok, Err, refl, sym, ap, ◌∙◌, subst, is_some, arith, ℤ, AllByRecursion}
 use Rattle.rank_query.proofs.Cited.{read_date, is_within, natural, scaled_field, Element, element_of, is_number_within}
 use Rattle.rank_query.proofs.Cited.{number_of, QueryFault, UnexpectedWord, QueryEnds, OutOfLimits, BadDate, BadBox}
-use Rattle.rank_query.proofs.Cited.{Asked, is_code, Word, says, ◌>>=◌, Read, keyword, one_word, made_into, by_word}
+use Rattle.rank_query.proofs.Cited.{Query, is_code, Word, says, ◌>>=◌, Read, keyword, one_word, made_into, by_word}
 use Rattle.rank_query.proofs.Cited.{number, element, degrees, code, date, two_days, dates, place_behind, edge, has_form}
 use Rattle.rank_query.proofs.Cited.{cases_Bool}
 use mathlib.Core.List.{reverse_aux}
@@ -98,20 +98,20 @@ keyword_step text g past (w ∷ rest) fault e settled next = elim (cases_Bool (s
 ]
 
 -- how it goes on after a part
-abbrev pub Next : (A : Type 0) → (A × List Word → Result Asked QueryFault) → QueryFault → Type 0
+abbrev pub Next : (A : Type 0) → (A × List Word → Result Query QueryFault) → QueryFault → Type 0
 Next A g fault =
     (past : List (List ℕ)) (x : A) (rest : List Word) → IsSettled past → g (x, rest) ≡ Err fault
     → IsFaultBehind past rest fault
 
 -- a part of a query, after words that settle
 abbrev pub Part : (A : Type 0) → (List Word → Read A) → Type 0
-Part A read = (past : List (List ℕ)) (ws : List Word) (g : A × List Word → Result Asked QueryFault) (fault : QueryFault)
+Part A read = (past : List (List ℕ)) (ws : List Word) (g : A × List Word → Result Query QueryFault) (fault : QueryFault)
     → IsSettled past → (read ws >>= g) ≡ Err fault → Next A g fault → IsFaultBehind past ws fault
 
 -- what is read after a word of its own
 abbrev pub Row : (A : Type 0) → List ℕ → (List Word → Read A) → Type 0
 Row A text read =
-    (past : List (List ℕ)) (ws : List Word) (g : A × List Word → Result Asked QueryFault) (fault : QueryFault)
+    (past : List (List ℕ)) (ws : List Word) (g : A × List Word → Result Query QueryFault) (fault : QueryFault)
     → (read ws >>= g) ≡ Err fault → Next A g fault → IsFaultBehind (text ∷ past) ws fault
 
 -- a row, or one of those below it

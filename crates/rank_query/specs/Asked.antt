@@ -5,10 +5,10 @@ use Rattle.rank_query.specs.declared.region.Region.TheVariants.{Everywhere}
 use Rattle.rank_query.specs.declared.per.Per.TheVariants.{Each}
 use Rattle.rank_query.specs.declared.season.Season.{Season}
 use Rattle.rank_query.specs.declared.season.Season.TheVariants.{AllYear, Months, Dates}
-use Rattle.rank_query.specs.Meaning.Asked.{Asked}
+use Rattle.rank_query.specs.Meaning.Asked.{Query}
 
 -- the first k by a score, everywhere and always
-abbrev pub top : ℕ → Score → Asked
+abbrev pub top : ℕ → Score → Query
 top k score = record { k = k; score = score; region = Everywhere; season = AllYear; period = None; per = Each }
 
 -- the first and the last month of a season that is given by months

@@ -5,13 +5,13 @@ use Rattle.ghcn_fields.specs.Meaning.Dates.{date_text}
 use Rattle.rank_query.specs.declared.fault.QueryFault.{QueryFault}
 use Rattle.rank_query.specs.declared.fault.QueryFault.TheVariants.{QueryTooLong, UnexpectedWord, QueryEnds}
 use Rattle.rank_query.specs.declared.fault.QueryFault.TheVariants.{OutOfLimits, BadDate, BadBox, EmptyPeriod}
-use Rattle.rank_query.specs.Meaning.Asked.{Asked, IsAsked}
+use Rattle.rank_query.specs.Meaning.Asked.{Query, IsAsked}
 use Rattle.rank_query.specs.Meaning.Words.{words_of}
 use Rattle.rank_query.specs.Spelling.{SpellsQuery}
 
 -- words begin a query: with some words after them they spell one that can be asked
 pub record BeginQuery (ws : List (List ℕ)) : Type 0 where
-  pub query : Asked
+  pub query : Query
   pub can_be_asked : IsAsked query
   pub more : List (List ℕ)
   pub spelt : SpellsQuery (ws ++ more) query
@@ -39,7 +39,7 @@ pub record EndsTooEarly (before : List (List ℕ)) (word : List ℕ) : Type 0 wh
 
 -- words spell no query that can be asked
 abbrev pub SpellNone : List (List ℕ) → Type 0
-SpellNone ws = (q : Asked) → IsAsked q → SpellsQuery ws q → ⊥
+SpellNone ws = (q : Query) → IsAsked q → SpellsQuery ws q → ⊥
 
 -- where an error is among the words of a text that isn't too long
 abbrev pub StandsAmong : List (List ℕ) → QueryFault → Type 0

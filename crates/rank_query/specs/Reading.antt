@@ -12,7 +12,7 @@ use Rattle.rank_query.specs.declared.fault.QueryFault.{QueryFault}
 use Rattle.rank_query.specs.declared.fault.QueryFault.TheVariants.{QueryTooLong, UnexpectedWord, EmptyPeriod}
 use Rattle.rank_query.specs.declared.per.Per.{Per}
 use Rattle.rank_query.specs.declared.per.Per.TheVariants.{Each}
-use Rattle.rank_query.specs.Meaning.Asked.{Asked, is_fall}
+use Rattle.rank_query.specs.Meaning.Asked.{Query, is_fall}
 use Rattle.rank_query.specs.Words.{Word, numbered_words}
 use Rattle.rank_query.specs.Readers.{◌>>=◌, Read, next_word, keyword, one_word, made_into, by_word}
 use Rattle.rank_query.specs.WordValues.{number, element, heat, months, dates, degrees, code, date, group}
@@ -144,12 +144,12 @@ unfoldable pub per_at : List Word → Read Per
 per_at ws = by_word ((codes "per", one_word group) ∷ []) each_at ws
 
 -- the query, if no word is left
-abbrev pub nothing_more : List Word → Asked → Result Asked QueryFault
+abbrev pub nothing_more : List Word → Query → Result Query QueryFault
 nothing_more [] q = Ok q
 nothing_more (w ∷ ws) q = Err (UnexpectedWord w.0)
 
 -- the query of these words
-unfoldable pub read_words : List Word → Result Asked QueryFault
+unfoldable pub read_words : List Word → Result Query QueryFault
 read_words ws = do
   after_top ← keyword (codes "top") ws
   k ← one_word (number 1 1000) after_top
@@ -168,5 +168,5 @@ read_words ws = do
   })
 
 -- the query of a text of at most 256 bytes
-unfoldable pub read_query : List ℕ → Result Asked QueryFault
+unfoldable pub read_query : List ℕ → Result Query QueryFault
 read_query text = if nat_lt 256 (length text) then Err QueryTooLong else read_words (numbered_words text)

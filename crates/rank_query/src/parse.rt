@@ -1,7 +1,7 @@
 //! Reading a query text from left to right, up to the first error.
 
 ghost use Rattle.std.specs.Prelude.{◌≡◌, ◌≤◌, length, Some, IfOk, IfErr, IsTrue};
-ghost use Rattle.rank_query.specs.Meaning.Asked.{Asked, IsAsked, is_score, is_region, is_season, is_period};
+ghost use Rattle.rank_query.specs.Meaning.Asked.{Query, IsAsked, is_score, is_region, is_season, is_period};
 ghost use Rattle.rank_query.specs.Meaning.QueryTexts.{query_text};
 ghost use Rattle.rank_query.specs.Spelling.{IsSpelling};
 ghost use Rattle.rank_query.specs.FaultKinds.{IsFaultAmong};
@@ -42,10 +42,10 @@ impl Query {
         // What is read as a query can be asked, and the text spells it.
         ensures spelt { IfOk result (λ q. IsAsked q × IsSpelling text.now q) }
         // What spells a query is read as it.
-        ensures only { (q : Asked) → IsAsked q → IsSpelling text.now q → length text.now ≤ 256
+        ensures only { (q : Query) → IsAsked q → IsSpelling text.now q → length text.now ≤ 256
             → result ≡ Ok q }
         // So is its canonical text.
-        ensures canonical { (q : Asked) → IsAsked q → text.now ≡ query_text q → result ≡ Ok q }
+        ensures canonical { (q : Query) → IsAsked q → text.now ≡ query_text q → result ≡ Ok q }
         // An error is at the first word with which no query goes on.
         ensures fault { IfErr result (λ fault. StandsIn text.now fault) }
         // Which error it is follows from what the grammar has at the word's place.

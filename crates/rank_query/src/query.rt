@@ -24,9 +24,9 @@ pub struct Query {
 }
 
 impl Model for Query {
-    ghost use Rattle.rank_query.specs.Meaning.Asked.{Asked, IsAsked};
+    ghost use Rattle.rank_query.specs.Meaning.Asked.{Query, IsAsked};
 
-    ghost Value = { Asked };
+    ghost Value = { Query };
 
     ghost view = { λ q. record {
       k = q.k;

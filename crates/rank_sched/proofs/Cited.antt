@@ -57,11 +57,11 @@ pub use Rattle.ghcn_files.specs.declared.station.Station.{Station}
 pub use Rattle.ghcn_files.specs.declared.station.StationId.{StationId}
 pub use Rattle.ghcn_series.proofs.ListFacts.{all-filter, from_all}
 pub use Rattle.ghcn_series.specs.Held.{IsContents}
-pub use Rattle.ghcn_series.specs.Meaning.Series.{DayValue, Usable, value_on}
-pub use Rattle.ghcn_series.specs.Series.{Contents, IsSeries, series_of}
+pub use Rattle.ghcn_series.specs.Meaning.Series.{DayValue, Series, value_on}
+pub use Rattle.ghcn_series.specs.Series.{Data, IsSeries, series_of}
 pub use Rattle.rank_query.specs.Asked.{top}
 pub use Rattle.rank_query.specs.Meaning.Admits.{region_holds}
-pub use Rattle.rank_query.specs.Meaning.Asked.{Asked, IsAsked, is_score, score_element}
+pub use Rattle.rank_query.specs.Meaning.Asked.{Query, IsAsked, is_score, score_element}
 pub use Rattle.rank_query.specs.declared.region.Region.{Region}
 pub use Rattle.rank_query.specs.declared.region.Region.TheVariants.{Only}
 pub use Rattle.rank_query.specs.declared.score.Score.{Score}
@@ -88,7 +88,7 @@ pub use Rattle.rank_pool.proofs.Offers.{last_is_kth as last_of_pool}
 pub use Rattle.rank_pool.proofs.Places.{first-first_left, holds-fold, in_order-append_comm, size-fold}
 pub use Rattle.rank_pool.proofs.Ranked.{best-first, in_order-permutation, kth_score-kth}
 pub use Rattle.rank_pool.specs.First.{above, first, in_order, kth}
-pub use Rattle.rank_pool.specs.Pools.{HoldsFirst, Pooled, empty_pool, last_score, taken}
+pub use Rattle.rank_pool.specs.Pools.{HoldsFirst, Pool, empty_pool, last_score, taken}
 pub use Rattle.rank_sched.specs.Answers.{AreBestOfQuery, AreRecordsAlone, IsAnswer, IsAnswerOfCrew, best_of_plan}
 pub use Rattle.rank_sched.specs.Answers.{line_of, lines_of, records_in}
 pub use Rattle.rank_sched.specs.Exchanges.{Exchange, IsRightSkip, SeeUpward, best_pool, exchange, exchanges, morsels_of}
@@ -107,7 +107,7 @@ pub use Rattle.rank_sched.specs.Laws.{is_look, is_settle}
 pub use Rattle.rank_sched.specs.Machine.{Does, IsClaim, IsLook, IsSettle, IsStep, Leads, State, Worker, after}
 pub use Rattle.rank_sched.specs.Machine.{all_stopped, drawn, floor_after, greater_floor, has_stopped, is_awaited, moved}
 pub use Rattle.rank_sched.specs.Machine.{new_worker, record_of, refusal, replayed, started, worker_of}
-pub use Rattle.rank_sched.specs.Plan.{AreDrawnInTurn, IsPlan, Morsel, Planned, drawn_cmp, is_drawn_first, measure_of}
+pub use Rattle.rank_sched.specs.Plan.{AreDrawnInTurn, IsPlan, Morsel, Plan, drawn_cmp, is_drawn_first, measure_of}
 pub use Rattle.rank_sched.specs.Plan.{measured, measured_at, measures, planned, planned_morsel}
 pub use Rattle.rank_sched.specs.Run.{HasSettled, IsAnswered, IsEmptyHaul, IsReplayed, IsRunning, IsSameHaul, Refuses}
 pub use Rattle.rank_sched.specs.Run.{Running, Steps, is_stopped, new_run, state_of, worker_with}

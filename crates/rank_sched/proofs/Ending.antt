@@ -3,7 +3,7 @@ use Rattle.rank_sched.proofs.Cited.{rules, ◌≡◌, ℕ, ◌+◌, ◌<◌, Boo
 use Rattle.rank_sched.proofs.Cited.{set, refl, sym, ap, ◌∙◌, append-nil, append_assoc, arith, common_steps}
 use Rattle.rank_sched.proofs.Cited.{flat_map-append, ◌||◌, ◌&&◌, nat_le, fold, count_by, AllByRecursion, take-nil}
 use Rattle.rank_sched.proofs.Cited.{get_or-set_same, get_or-set_other, length-set, HasEachBelow, all_below, Candidate}
-use Rattle.rank_sched.proofs.Cited.{bound_is_below, best, Pooled, empty_pool, taken, HoldsFirst, last_score, size-fold}
+use Rattle.rank_sched.proofs.Cited.{bound_is_below, best, Pool, empty_pool, taken, HoldsFirst, last_score, size-fold}
 use Rattle.rank_sched.proofs.Cited.{holds-fold, best-first, Record, Haul, Task, all_of_task, IsFair, morsels_of}
 use Rattle.rank_sched.proofs.Cited.{best_pool, pool_of, records_of, all_records, AreHaulsFrom, is_justified}
 use Rattle.rank_sched.proofs.Cited.{was_skipped, stays, is_taken_back, back_below, mark, AreMarks, AreWithin}
@@ -14,12 +14,12 @@ use Rattle.rank_sched.proofs.Finished.{best_there, decides}
 -- ---- pools
 
 -- the best of some candidates, and then of others
-pub best_more : (k : ℕ) (p : Pooled) (xs ys : List Candidate) → p ≡ best_pool k xs
+pub best_more : (k : ℕ) (p : Pool) (xs ys : List Candidate) → p ≡ best_pool k xs
     → fold taken p ys ≡ best_pool k (xs ++ ys)
 best_more k p xs ys e = grind (arith, size-fold, holds-fold)
 
 -- a new pool has the best of nothing
-pub new_pool : (t : Task) (k : ℕ) (p : Pooled) (rs : List Record) → k ≡ t.k → p ≡ empty_pool k → rs ≡ []
+pub new_pool : (t : Task) (k : ℕ) (p : Pool) (rs : List Record) → k ≡ t.k → p ≡ empty_pool k → rs ≡ []
     → p ≡ pool_of t rs
 new_pool t k p rs same e none = cc (take-nil t.k)
 
@@ -33,7 +33,7 @@ own_pools t w [] h = tt
 own_pools t w (x ∷ hs) h = grind (arith, own_pools t (w + 1) hs h.1)
 
 -- a pool that takes another's candidates
-pub merged : (t : Task) (p q p' : Pooled) (rs ss : List Record) → p ≡ pool_of t rs → q ≡ pool_of t ss
+pub merged : (t : Task) (p q p' : Pool) (rs ss : List Record) → p ≡ pool_of t rs → q ≡ pool_of t ss
     → p' ≡ fold taken p q.held
     → ((xs ys : List Candidate) → HoldsFirst p xs → HoldsFirst q ys → HoldsFirst p' (xs ++ ys))
     → p' ≡ pool_of t (rs ++ ss)
@@ -71,18 +71,18 @@ module _ (t : Task) (rs : List Record) (i : ℕ) where
   back_kept e = grind (arith, append-nil)
 
   -- what holds of marks and pool before the morsel i
-  pub record IsBefore (n : ℕ) (marks : List Bool) (pool : Pooled) : Type 0 where
+  pub record IsBefore (n : ℕ) (marks : List Bool) (pool : Pool) : Type 0 where
     pub marks_are : AreMarks (stays_so_far t rs i) n marks
     pub pool_is : HasBackBelow t rs i pool
 
 -- a morsel that wasn't skipped, or whose skip stays, changes nothing
-step_kept : (t : Task) (rs : List Record) (i n : ℕ) (marks : List Bool) (pool : Pooled) → i < n
+step_kept : (t : Task) (rs : List Record) (i n : ℕ) (marks : List Bool) (pool : Pool) → i < n
     → mark marks i ≡ stays t rs i → is_taken_back t rs i ≡ false
     → IsBefore t rs i n marks pool → IsBefore t rs (i + 1) n marks pool
 step_kept t rs i n marks pool low own kept h = grind (arith, back_kept)
 
 -- a skip that is undone loses its mark, and its candidates are offered
-step_back : (t : Task) (rs : List Record) (i n : ℕ) (marks marks' : List Bool) (pool pool' : Pooled) → i < n
+step_back : (t : Task) (rs : List Record) (i n : ℕ) (marks marks' : List Bool) (pool pool' : Pool) → i < n
     → was_skipped rs i ≡ true → is_justified t rs i ≡ false
     → marks' ≡ set marks i false → length marks' ≡ length marks → pool' ≡ fold taken pool (t.candidates i)
     → IsBefore t rs i n marks pool → IsBefore t rs (i + 1) n marks' pool'
@@ -103,20 +103,20 @@ back_counted t [] all n marks within h = refl
 back_counted t (r ∷ rs) all n marks within h = grind (arith, common_steps, back_counted t rs all n marks within.1 h)
 
 -- the best of what was scanned, or had its skip undone, are the best
-pub best_are : (t : Task) (rs : List Record) (pool : Pooled) → IsFair t → HasEachBelow t.len (morsels_of rs)
+pub best_are : (t : Task) (rs : List Record) (pool : Pool) → IsFair t → HasEachBelow t.len (morsels_of rs)
     → HasBackBelow t rs t.len pool → pool.held ≡ best t.k (all_of_task t)
 best_are t rs pool fair once h = grind (arith, best_there, best-first)
 
 -- ---- what the loops and calls of the end return
 
 -- what the pool says of the morsel
-pub told : (t : Task) (rs : List Record) (i n : ℕ) (marks : List Bool) (pool : Pooled) (just : Bool) → IsFair t
+pub told : (t : Task) (rs : List Record) (i n : ℕ) (marks : List Bool) (pool : Pool) (just : Bool) → IsFair t
     → HasEachBelow t.len (morsels_of rs) → IsBefore t rs i n marks pool
     → just ≡ bound_is_below (last_score pool) (t.bound i) → just ≡ is_justified t rs i
 told t rs i n marks pool just fair once h e = grind (arith, last_is_kth, decides)
 
 -- one morsel more was tried, by its mark and by what the pool said of it
-pub tried : (t : Task) (rs : List Record) (i n : ℕ) (marks marks' : List Bool) (pool pool' : Pooled)
+pub tried : (t : Task) (rs : List Record) (i n : ℕ) (marks marks' : List Bool) (pool pool' : Pool)
     (marked just : Bool) → i < n → mark marks i ≡ marked → just ≡ is_justified t rs i → IsBefore t rs i n marks pool
     → marks' ≡ cond (marked && not just) (set marks i false) marks
     → pool' ≡ cond (marked && not just) (fold taken pool (t.candidates i)) pool → IsBefore t rs (i + 1) n marks' pool'
@@ -131,7 +131,7 @@ tried t rs i n marks marks' pool pool' false just low read said h e took =
     rw (e, took) (step_kept t rs i n marks pool low (grind arith) (grind arith) h)
 
 -- before no morsel more, all skips are tried
-pub all_tried : (t : Task) (rs : List Record) (i : ℕ) (marks : List Bool) (pool : Pooled) → i ≡ t.len → IsFair t
+pub all_tried : (t : Task) (rs : List Record) (i : ℕ) (marks : List Bool) (pool : Pool) → i ≡ t.len → IsFair t
     → HasEachBelow t.len (morsels_of rs) → IsBefore t rs i t.len marks pool
     → AreMarks (stays t rs) t.len marks × (pool.held ≡ best t.k (all_of_task t))
 all_tried t rs i marks pool same fair once h = grind (arith, best_are)

@@ -1,8 +1,8 @@
 -- Worked plans, runs and answers, by computation.
 use Rattle.rank_sched.proofs.Cited.{◌≡◌, ℕ, List, [], ◌∷◌, ◌++◌, refl, Some, None, Option, true, false, Bool, map}
-use Rattle.rank_sched.proofs.Cited.{codes, ℤ, pos, flat_map, StationId, Station, Tmax, station_of, DayValue, Usable}
-use Rattle.rank_sched.proofs.Cited.{Contents, Highest, Asked, top, best_of_query, Record, Line, Event, Claim, Look}
-use Rattle.rank_sched.proofs.Cited.{Settle, StepFault, NoWorker, NotNow, Morsel, Planned, planned, measures, task_of}
+use Rattle.rank_sched.proofs.Cited.{codes, ℤ, pos, flat_map, StationId, Station, Tmax, station_of, DayValue, Series}
+use Rattle.rank_sched.proofs.Cited.{Data, Highest, Query, top, best_of_query, Record, Line, Event, Claim, Look}
+use Rattle.rank_sched.proofs.Cited.{Settle, StepFault, NoWorker, NotNow, Morsel, Plan, planned, measures, task_of}
 use Rattle.rank_sched.proofs.Cited.{State, started, refusal, replayed, all_stopped, taken_back, lines_of, best_of_plan}
 
 -- ---- the data of the worked runs
@@ -32,11 +32,11 @@ abbrev pub c : StationId
 c = record { 0 = codes "ZZA00000003" }
 
 -- a series of highest temperatures
-abbrev pub warm : StationId → List DayValue → Usable
+abbrev pub warm : StationId → List DayValue → Series
 warm id days = record { id = id; element = Tmax; days = days }
 
 -- three stations, of which these are the values on 2020-07-01, and on 2020-07-02 the first has one more
-abbrev pub of_three : ℤ → ℤ → ℤ → Contents
+abbrev pub of_three : ℤ → ℤ → ℤ → Data
 of_three x y z = record {
   stations = alpha ∷ bravo ∷ charlie ∷ [];
   series = warm a ((pos 18444, x) ∷ []) ∷ warm b ((pos 18444, y) ∷ []) ∷ warm c ((pos 18444, z) ∷ []) ∷ [];
@@ -44,7 +44,7 @@ of_three x y z = record {
 }
 
 -- two stations that reached 31.1 degrees on one day, and one that reached 25.0
-abbrev pub dataset : Contents
+abbrev pub dataset : Data
 dataset = record {
   stations = alpha ∷ bravo ∷ charlie ∷ [];
   series = warm a ((pos 18444, pos 311) ∷ (pos 18445, pos 305) ∷ []) ∷ warm b ((pos 18444, pos 311) ∷ []) ∷ warm c
@@ -53,25 +53,25 @@ dataset = record {
 }
 
 -- one station that has no series
-abbrev pub nothing : Contents
+abbrev pub nothing : Data
 nothing = record { stations = alpha ∷ []; series = []; unlisted = 0 }
 
 -- the k highest temperatures, anywhere and at any time
-abbrev pub ask : ℕ → Asked
+abbrev pub ask : ℕ → Query
 ask k = top k (Highest Tmax)
 
 -- the highest k of the three stations
-abbrev pub plan : ℕ → Planned
+abbrev pub plan : ℕ → Plan
 plan k = planned (ask k) dataset
 
 -- ---- plans
 
 -- the stations of a plan, in the order in which their morsels are drawn
-ids : Planned → List StationId
+ids : Plan → List StationId
 ids p = map (λ (m : Morsel). m.series.id) p.morsels
 
 -- the bounds of a plan's morsels, in that order
-bounds : Planned → List ℤ
+bounds : Plan → List ℤ
 bounds p = map (λ (m : Morsel). m.bound) p.morsels
 
 -- ties by ID
@@ -105,7 +105,7 @@ abbrev pub Left : Type 0
 Left = State × ℕ × Option StepFault
 
 -- what is left of some workers' run over a plan by these events
-abbrev pub run : Planned → ℕ → Option ℤ → List Event → Left
+abbrev pub run : Plan → ℕ → Option ℤ → List Event → Left
 run p workers guess es = replayed (task_of p) 0 (started (task_of p) workers guess) es
 
 -- all that the workers have written down, worker after worker

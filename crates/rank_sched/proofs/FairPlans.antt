@@ -2,9 +2,9 @@
 use Rattle.rank_sched.proofs.Cited.{rules, ◌≡◌, ℕ, zero, suc, ◌<◌, ◌≤◌, true, List, [], ◌∷◌, length, map, filter}
 use Rattle.rank_sched.proofs.Cited.{Option, Some, None, refl, arith, pos, ◌≤ℤ◌, slice_get, AllByRecursion}
 use Rattle.rank_sched.proofs.Cited.{option_map_or, ints, recursion_from_All, All-from_recursion, All-permutation}
-use Rattle.rank_sched.proofs.Cited.{IsPermutation-trans, IsScore, Usable, Contents, IsContents, Asked, candidates}
+use Rattle.rank_sched.proofs.Cited.{IsPermutation-trans, IsScore, Series, Data, IsContents, Query, candidates}
 use Rattle.rank_sched.proofs.Cited.{has_admitted, admitted_series, morsels, all_candidates, IsAskedOf, AreApart, bound}
-use Rattle.rank_sched.proofs.Cited.{computed-IsBound, bound-above, Morsel, Planned, measured, is_drawn_first, planned}
+use Rattle.rank_sched.proofs.Cited.{computed-IsBound, bound-above, Morsel, Plan, measured, is_drawn_first, planned}
 use Rattle.rank_sched.proofs.Cited.{AreDrawnInTurn, IsPlan, task_of, all_of_task, PlansAreFair, all_apart}
 use Rattle.rank_sched.proofs.Cited.{morsels_asked, sorted-permutation, from_all}
 use Rattle.rank_sched.proofs.PlanBest.{plan_alike, apart_alike}
@@ -13,18 +13,18 @@ use Rattle.rank_sched.proofs.PlanMade.{by_id, few_morsels}
 use Rattle.rank_sched.proofs.ScoreRanges.{candidates_ranged}
 
 -- a series that the query asks about, with its bound
-pub record IsMeasured (q : Asked) (m : Morsel) : Type 0 where
+pub record IsMeasured (q : Query) (m : Morsel) : Type 0 where
   pub bounded : m.bound ≡ bound q m.series
   pub asked : IsAskedOf q m.series
 
 -- series that the query asks about are measured with their bounds
-all_measured : (q : Asked) (us : List Usable) → AllByRecursion (IsAskedOf q) us
+all_measured : (q : Query) (us : List Series) → AllByRecursion (IsAskedOf q) us
     → AllByRecursion (IsMeasured q) (map (measured q) us)
 all_measured q [] h = tt
 all_measured q (u ∷ us) h = (record { bounded = refl; asked = h.0 }, all_measured q us h.1)
 
 -- the morsels of the plan are measured
-pub plan_measured : (q : Asked) (c : Contents) → IsContents c → AllByRecursion (IsMeasured q) (planned q c).morsels
+pub plan_measured : (q : Query) (c : Data) → IsContents c → AllByRecursion (IsMeasured q) (planned q c).morsels
 plan_measured q c right =
     let ms : List Morsel = map (measured q) (filter (has_admitted q) (admitted_series q c)) in
     recursion_from_All (IsMeasured q) (planned q c).morsels
@@ -34,11 +34,11 @@ plan_measured q c right =
     (morsels_asked q c right))))
 
 -- the morsels of a plan are measured
-measured_of : (p : Planned) → IsPlan p → AllByRecursion (IsMeasured p.query) p.morsels
+measured_of : (p : Plan) → IsPlan p → AllByRecursion (IsMeasured p.query) p.morsels
 measured_of p is = grind (arith, plan_measured)
 
 -- no candidate's score is above the bound of its morsel
-pub plan_bounded : (p : Planned) → IsPlan p → (m : ℕ)
+pub plan_bounded : (p : Plan) → IsPlan p → (m : ℕ)
     → AllByRecursion (λ c. c.score ≤ℤ (task_of p).bound m) ((task_of p).candidates m)
 plan_bounded p is m = by_morsel (slice_get p.morsels m) refl
   where
@@ -51,7 +51,7 @@ plan_bounded p is m = by_morsel (slice_get p.morsels m) refl
         rw own.bounded (grind (arith, bound-above, computed-IsBound))
 
 -- all candidates of a plan are apart
-pub plan_apart : (p : Planned) → IsPlan p → AreApart (all_of_task (task_of p))
+pub plan_apart : (p : Plan) → IsPlan p → AreApart (all_of_task (task_of p))
 plan_apart p is =
     let made = planned p.query is.dataset in
     let apart = apart_alike (all_of_task (task_of made)) (all_candidates p.query is.dataset)
@@ -80,12 +80,12 @@ falls (x ∷ ms) zero (suc n) h le lt = at_all ms n (each_lower x ms h.0) (omega
     at_all (y ∷ ns) (suc i) a l = at_all ns i a.1 (omega arith)
 
 -- the bounds of a plan fall
-pub plan_falls : (p : Planned) → IsPlan p → (m n : ℕ) → m ≤ n → n < (task_of p).len
+pub plan_falls : (p : Plan) → IsPlan p → (m n : ℕ) → m ≤ n → n < (task_of p).len
     → (task_of p).bound n ≤ℤ (task_of p).bound m
 plan_falls p is m n le lt = grind (arith, falls, sorted-in_turn)
 
 -- each candidate's score can be a floor
-pub plan_scores : (p : Planned) → IsPlan p → (m : ℕ)
+pub plan_scores : (p : Plan) → IsPlan p → (m : ℕ)
     → AllByRecursion (λ c. IsScore c.score) ((task_of p).candidates m)
 plan_scores p is m = grind (arith, ints, from_all, measured_of p is, candidates_ranged)
 

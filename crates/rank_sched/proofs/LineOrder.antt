@@ -2,7 +2,7 @@
 use Rattle.rank_sched.proofs.Cited.{◌≡◌, ℕ, zero, suc, ◌+◌, ◌<◌, ◌≤◌, Bool, List, [], ◌∷◌, ◌++◌, length, take, map}
 use Rattle.rank_sched.proofs.Cited.{Some, refl, sym, ap, ◌∙◌, subst, arith, rules, slice_get, enumerate_from}
 use Rattle.rank_sched.proofs.Cited.{IsDistinct, IsPermutation, IsSortedBy, option_map, ints, take_all, same_id}
-use Rattle.rank_sched.proofs.Cited.{strictly, one_sort, distinct-map, distinct-mapped, Record, Line, Morsel, Planned}
+use Rattle.rank_sched.proofs.Cited.{strictly, one_sort, distinct-map, distinct-mapped, Record, Line, Morsel, Plan}
 use Rattle.rank_sched.proofs.Cited.{IsPlan, task_of, stays, line_of, lines_of, mark, AreMarks, marked_line}
 use Rattle.rank_sched.proofs.Cited.{marked_lines}
 use Rattle.rank_sched.proofs.PlanMade.{plan_distinct}
@@ -14,7 +14,7 @@ line_ids marks n [] = refl
 line_ids marks n (m ∷ ms) = ap (λ ids. m.series.id ∷ ids) (line_ids marks (n + 1) ms)
 
 -- what a sort by ID makes of the lines of a plan's morsels
-pub lines_sorted : (p : Planned) (marks : List Bool) (xs ys : List Line) → IsPlan p
+pub lines_sorted : (p : Plan) (marks : List Bool) (xs ys : List Line) → IsPlan p
     → xs ≡ map (marked_line marks) (enumerate_from 0 p.morsels) → IsPermutation xs ys
     → IsSortedBy (strictly (λ l. l.id)) ys → ys ≡ marked_lines marks p.morsels
 lines_sorted p marks xs ys is e perm up =
@@ -53,13 +53,13 @@ pub lines_all : (marks : List Bool) (ms : List Morsel) (i : ℕ) (xs : List Line
 lines_all marks ms i xs far e = cc (take_all i ms far)
 
 -- lines by marks of the skips that stay are the lines of the answer
-lines_alike : (p : Planned) (rs : List Record) (marks : List Bool) (n : ℕ) (ms : List Morsel)
+lines_alike : (p : Plan) (rs : List Record) (marks : List Bool) (n : ℕ) (ms : List Morsel)
     → ((m : ℕ) → m < n + length ms → mark marks m ≡ stays (task_of p) rs m)
     → map (marked_line marks) (enumerate_from n ms) ≡ map (line_of p rs) (enumerate_from n ms)
 lines_alike p rs marks n [] h = refl
 lines_alike p rs marks n (x ∷ ms) h = grind (arith, lines_alike p rs marks (n + 1) ms (λ m lt. h m (omega arith)))
 
 -- and so are all of them in their order
-pub lines_are : (p : Planned) (rs : List Record) (marks : List Bool)
+pub lines_are : (p : Plan) (rs : List Record) (marks : List Bool)
     → AreMarks (stays (task_of p) rs) (length p.morsels) marks → marked_lines marks p.morsels ≡ lines_of p rs
 lines_are p rs marks h = grind (arith, lines_alike)

@@ -1,7 +1,7 @@
 -- A run with one worker: of each morsel a claim, a look and a settle, and then a last claim.
 use Rattle.rank_sched.proofs.Cited.{rules, ◌≡◌, ℕ, ◌+◌, ◌<◌, ◌≤◌, Bool, true, false, List, [], ◌∷◌, ◌++◌, length}
 use Rattle.rank_sched.proofs.Cited.{Option, Some, None, refl, ap, ◌∙◌, arith, ℤ, ◌&&◌, slice_get, slice_set, list_all}
-use Rattle.rank_sched.proofs.Cited.{Haul, Answer, Event, Claim, Look, Settle, Planned, task_of, Worker, worker_of}
+use Rattle.rank_sched.proofs.Cited.{Haul, Answer, Event, Claim, Look, Settle, Plan, task_of, Worker, worker_of}
 use Rattle.rank_sched.proofs.Cited.{is_awaited, refusal, has_stopped, all_stopped, all_records, AreSound, AreUnderFloor}
 use Rattle.rank_sched.proofs.Cited.{AreHaulsOf, Running, new_run, is_stopped, Steps, IsReplayed, IsAnswer}
 use Rattle.rank_sched.proofs.Cited.{IsAnswerOfCrew, AreRecordsAlone, records_in, length-set, AllZip-long}
@@ -9,7 +9,7 @@ use Rattle.rank_sched.proofs.Replays.{replayed-push}
 use Rattle.rank_sched.proofs.Machines.{not_refused}
 
 -- a machine of one worker that runs a plan under a guess, drew n numbers, and doesn't refuse this event
-pub record Awaits (p : Planned) (guess : Option ℤ) (n : ℕ) (e : Event) (m : Running) : Type 0 where
+pub record Awaits (p : Plan) (guess : Option ℤ) (n : ℕ) (e : Event) (m : Running) : Type 0 where
   pub running : m.failed ≡ false
   pub plan : m.plan ≡ p
   pub guessed : m.guess ≡ guess
@@ -20,7 +20,7 @@ pub record Awaits (p : Planned) (guess : Option ℤ) (n : ℕ) (e : Event) (m : 
   pub replayed : IsReplayed p 1 guess events m
 
 -- at the start it claims
-pub awaits_first : (p : Planned) (guess : Option ℤ) → Awaits p guess 0 (Claim 0) (new_run p 1 guess)
+pub awaits_first : (p : Plan) (guess : Option ℤ) → Awaits p guess 0 (Claim 0) (new_run p 1 guess)
 awaits_first p guess = search rules
 
 -- the first of some workers is the one that was put there
@@ -29,7 +29,7 @@ first_set [] v lt = absurd (omega arith)
 first_set (w ∷ vs) v lt = refl
 
 -- after a step it doesn't refuse the event that the worker's turn waits for
-awaits_next : (p : Planned) (guess : Option ℤ) (n n' : ℕ) (e e' : Event) (m m' : Running) (v : Worker)
+awaits_next : (p : Plan) (guess : Option ℤ) (n n' : ℕ) (e e' : Event) (m m' : Running) (v : Worker)
     → worker_of e ≡ 0 → worker_of e' ≡ 0 → Awaits p guess n e m → Steps m e m'
     → m'.state.workers ≡ slice_set m.state.workers (worker_of e) v → is_awaited v.turn e' ≡ true → m'.state.next ≡ n'
     → Awaits p guess n' e' m'
@@ -48,7 +48,7 @@ awaits_next p guess n n' e e' m m' v own own' a s set turn next =
       replayed = search (rules, replayed-push);
     }
 
-module _ (p : Planned) (guess : Option ℤ) (n : ℕ) (m m' : Running) where
+module _ (p : Plan) (guess : Option ℤ) (n : ℕ) (m m' : Running) where
   -- a claim of a morsel
   pub awaits_look : n < length p.morsels → Awaits p guess n (Claim 0) m → Steps m (Claim 0) m'
       → Awaits p guess (n + 1) (Look 0) m'
@@ -74,7 +74,7 @@ haul_records [] [] z = refl
 haul_records (v ∷ vs) (h ∷ hs) z = cc (haul_records vs hs z.1)
 haul_records vs hs z = absurd z
 
-module _ (p : Planned) (guess : Option ℤ) (n : ℕ) (m m' : Running) (a : Awaits p guess n (Claim 0) m)
+module _ (p : Plan) (guess : Option ℤ) (n : ℕ) (m m' : Running) (a : Awaits p guess n (Claim 0) m)
     (s : Steps m (Claim 0) m') where
   -- with the last claim all have stopped
   last_stops : length p.morsels ≤ n → all_stopped m'.state.workers ≡ true

@@ -5,7 +5,7 @@ use Rattle.rank_sched.proofs.Cited.{get_or, replicate, Option, Some, None, Resul
 use Rattle.rank_sched.proofs.Cited.{ap, ◌∙◌, arith, append-nil, ℤ, IfSome, rules, not, slice_get, slice_set}
 use Rattle.rank_sched.proofs.Cited.{AllByRecursion, flat_map, IsScore, length-each_below, last_score, Record, Haul}
 use Rattle.rank_sched.proofs.Cited.{Event, Claim, Look, Settle, StepFault, NoWorker, NotNow, Turn, Idle, Claimed}
-use Rattle.rank_sched.proofs.Cited.{Looked, Planned, IsPlan, Task, task_of, morsels_of, Worker, State, new_worker}
+use Rattle.rank_sched.proofs.Cited.{Looked, Plan, IsPlan, Task, task_of, morsels_of, Worker, State, new_worker}
 use Rattle.rank_sched.proofs.Cited.{started, worker_of, is_awaited, drawn, record_of, greater_floor, floor_after}
 use Rattle.rank_sched.proofs.Cited.{IsStep, all_stopped, unsettled, NumbersRise, AreSoundFrom, IsSoundState, IsSoundEnd}
 use Rattle.rank_sched.proofs.Cited.{AreHaulsOf, AreSound, AreUnderFloor, new_run, is_stopped, Running, worker_with}
@@ -190,13 +190,13 @@ zipped k (suc n) [] e h = absurd (omega (arith, e))
 zipped k (suc n) (x ∷ hs) e h = cc (zipped k n hs (omega (arith, e)) h.1)
 
 -- idle turns and empty hauls under the guess are the state at the start
-pub start_state : (p : Planned) (guess : Option ℤ) (k workers : ℕ) (turns : List Turn) (hs : List Haul)
+pub start_state : (p : Plan) (guess : Option ℤ) (k workers : ℕ) (turns : List Turn) (hs : List Haul)
     → k ≡ p.query.k → turns ≡ replicate workers Idle → length hs ≡ workers → AllByRecursion (IsEmptyHaul k) hs
     → state_of 0 guess turns hs ≡ started (task_of p) workers guess
 start_state p guess k workers turns hs same idle len empty = grind (arith, zipped)
 
 -- what is true of every machine is true of one at the start
-pub start_running : (p : Planned) (guess : Option ℤ) (workers : ℕ) → IsPlan p → IfSome guess IsScore → 0 < workers
+pub start_running : (p : Plan) (guess : Option ℤ) (workers : ℕ) → IsPlan p → IfSome guess IsScore → 0 < workers
     → workers ≤ 64 → IsRunning (new_run p workers guess)
 start_running p guess workers is ok some few =
     let len : length (replicate workers (new_worker p.query.k)) ≡ workers =

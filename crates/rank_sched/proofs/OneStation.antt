@@ -3,8 +3,8 @@ use Rattle.rank_sched.proofs.Cited.{◌≡◌, ℕ, Bool, true, false, List, [],
 use Rattle.rank_sched.proofs.Cited.{◌∙◌, subst, ℤ, cond, option_to_list, if◌then◌else◌, slice_get, find, filter_map}
 use Rattle.rank_sched.proofs.Cited.{cons_option, AllByRecursion, IsDistinct, option_map, option_and_then, slice_get-map}
 use Rattle.rank_sched.proofs.Cited.{StationId, Station, same_id, is_station_of, place_of, found-at_place}
-use Rattle.rank_sched.proofs.Cited.{none-without_place, same_id-is, same_id-turned, Contents, series_of, IsContents}
-use Rattle.rank_sched.proofs.Cited.{Region, Only, Asked, score_element, region_holds, has_admitted, passing, measured}
+use Rattle.rank_sched.proofs.Cited.{none-without_place, same_id-is, same_id-turned, Data, series_of, IsContents}
+use Rattle.rank_sched.proofs.Cited.{Region, Only, Query, score_element, region_holds, has_admitted, passing, measured}
 use Rattle.rank_sched.proofs.Cited.{measured_at, measure_of, measures, planned_morsel}
 use Rattle.rank_sched.specs.declared.plan.Morsel as code
 use Rattle.rank_sched.proofs.PlanMade.{cons-alone}
@@ -47,11 +47,11 @@ joined f None r e = absurd cc
 joined f (Some x) r e = cc
 
 -- the bound at a place is that of the station there
-pub measured_of : (q : Asked) (c : Contents) (place : ℕ) (bound : Option ℤ) → slice_get (measures q c) place ≡ Some bound
+pub measured_of : (q : Query) (c : Data) (place : ℕ) (bound : Option ℤ) → slice_get (measures q c) place ≡ Some bound
     → option_map (measure_of q c) (slice_get c.stations place) ≡ Some bound
 measured_of q c place bound at = sym (slice_get-map (measure_of q c) c.stations place) ∙ at
 
-module _ (q : Asked) (c : Contents) (id : StationId) (is : IsContents c) (only : q.region ≡ Only id) where
+module _ (q : Query) (c : Data) (id : StationId) (is : IsContents c) (only : q.region ≡ Only id) where
   -- no other station is admitted
   not_admitted : (st : Station) → is_station_of id st ≡ false → measured_at q c st ≡ None
   not_admitted st other =

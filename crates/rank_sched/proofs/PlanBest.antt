@@ -2,12 +2,12 @@
 use Rattle.rank_sched.proofs.Cited.{flat_map-map, ◌≡◌, ℕ, zero, suc, Bool, List, [], ◌∷◌, ◌++◌, length, length-append}
 use Rattle.rank_sched.proofs.Cited.{take, map, filter, Some, refl, sym, ap, ◌∙◌, append_assoc, arith, rules, IfOk}
 use Rattle.rank_sched.proofs.Cited.{Result, Ok, Err, slice_get, flat_map, range_with_len, option_map, option_map_or}
-use Rattle.rank_sched.proofs.Cited.{IsPermutation-sym, IsDistinct-IsPermutation, placed, sorted_by, Contents, Asked}
+use Rattle.rank_sched.proofs.Cited.{IsPermutation-sym, IsDistinct-IsPermutation, placed, sorted_by, Data, Query}
 use Rattle.rank_sched.proofs.Cited.{Candidate, candidates, begin_alike, AreApart, kth_score, admitted_series}
 use Rattle.rank_sched.proofs.Cited.{has_admitted, all_candidates, morsels, asked_alone, all_apart, in_order, kth}
 use Rattle.rank_sched.proofs.Cited.{in_order-append_comm, in_order-permutation, best-first, kth_score-kth, Alike}
 use Rattle.rank_sched.proofs.Cited.{alike-right, alike-left, Record, Answer, IsAnswer, AreBestOfQuery, best_of_plan}
-use Rattle.rank_sched.proofs.Cited.{Planned, Morsel, measured, is_drawn_first, planned, task_of, all_of_task}
+use Rattle.rank_sched.proofs.Cited.{Plan, Morsel, measured, is_drawn_first, planned, task_of, all_of_task}
 use Rattle.rank_sched.proofs.Cited.{PlanHasTheBest, ints}
 
 -- ---- the same candidates in another order
@@ -41,7 +41,7 @@ by_place f front [] = refl
 by_place {A} f front (x ∷ ms) = grind (arith, get_behind, length-append, append_assoc, by_place f (front ++ x ∷ []) ms)
 
 -- the candidates of a plan are the query's, in another order
-pub plan_alike : (q : Asked) (c : Contents) → Alike (all_of_task (task_of (planned q c))) (all_candidates q c)
+pub plan_alike : (q : Query) (c : Data) → Alike (all_of_task (task_of (planned q c))) (all_candidates q c)
 plan_alike q c =
     let f : Morsel → List Candidate = λ m. candidates q m.series in
     let ms : List Morsel = map (measured q) (morsels q c) in
@@ -87,7 +87,7 @@ plan_has_best q c asked right =
     kth_same k xs ys e b = grind (arith, ints, kth_score-kth k xs b, kth_score-kth, apart_alike)
 
 -- so the best of an answer are those of the query
-pub best_of_answer : {E : Type 0} (p : Planned) (rs : List Record) (r : Result Answer E) → IfOk r (IsAnswer p rs)
+pub best_of_answer : {E : Type 0} (p : Plan) (rs : List Record) (r : Result Answer E) → IfOk r (IsAnswer p rs)
     → IfOk r (λ a. AreBestOfQuery p a.best.items)
 best_of_answer p rs (Ok a) is = λ q c asked right e. is.best_are ∙ ap best_of_plan e ∙ (plan_has_best q c asked right).0
 best_of_answer p rs (Err e) is = tt

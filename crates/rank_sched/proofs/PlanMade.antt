@@ -3,8 +3,8 @@ use Rattle.rank_sched.proofs.Cited.{◌≡◌, ℕ, zero, suc, ◌<◌, ◌≤�
 use Rattle.rank_sched.proofs.Cited.{Option, Some, refl, ap, ◌∙◌, arith, option_to_list, rules, slice_get, filter_map}
 use Rattle.rank_sched.proofs.Cited.{cons_option, IsDistinct, IsPermutation, IsSortedBy, option_map, IsPermutation-map}
 use Rattle.rank_sched.proofs.Cited.{length_permutation, IsPermutation-trans, IsPermutation-sym}
-use Rattle.rank_sched.proofs.Cited.{IsDistinct-IsPermutation, sorted_by, Station, Contents, IsContents, Asked}
-use Rattle.rank_sched.proofs.Cited.{has_admitted, admitted_series, morsels, Morsel, Planned, measured, is_drawn_first}
+use Rattle.rank_sched.proofs.Cited.{IsDistinct-IsPermutation, sorted_by, Station, Data, IsContents, Query}
+use Rattle.rank_sched.proofs.Cited.{has_admitted, admitted_series, morsels, Morsel, Plan, measured, is_drawn_first}
 use Rattle.rank_sched.proofs.Cited.{planned, IsPlan, measured_at, PlanIsTheOne, series_among, morsels_apart}
 use Rattle.rank_sched.proofs.Cited.{distinct-map, sorted-permutation}
 use Rattle.rank_sched.proofs.PlanOrder.{sorted-in_turn, strictly, sort-in_turn, of_one_station, of_one_station-symm}
@@ -44,7 +44,7 @@ kept-more f (x ∷ xs) (suc i) o e = simp (cons-append, kept-more f xs i o e)
 
 -- ---- the morsels by station
 
-module _ (q : Asked) (c : Contents) where
+module _ (q : Query) (c : Data) where
   -- the morsels station by station are the series that are asked about, with their bounds
   by_station : (sts : List Station) → filter_map (measured_at q c) sts ≡ map (measured q)
       (filter (has_admitted q) (series_among q c sts))
@@ -76,7 +76,7 @@ module _ (q : Asked) (c : Contents) where
       (rw (e ∙ by_station c.stations) at (IsPermutation-map seen xs ys p))) (sort-in_turn seen ys up)
 
 -- plans with the same parts
-same_plan : (p r : Planned) → p.query ≡ r.query → p.stations ≡ r.stations → p.morsels ≡ r.morsels → p ≡ r
+same_plan : (p r : Plan) → p.query ≡ r.query → p.stations ≡ r.stations → p.morsels ≡ r.morsels → p ≡ r
 same_plan p r a b d = search rules
 
 -- the plan is the only one with its properties
@@ -95,9 +95,9 @@ kept-length f [] = omega arith
 kept-length f (x ∷ xs) = grind (arith, kept-length f xs)
 
 -- a plan has no more morsels than there may be stations
-pub few_morsels : (p : Planned) → IsPlan p → length p.morsels ≤ 1_048_576
+pub few_morsels : (p : Plan) → IsPlan p → length p.morsels ≤ 1_048_576
 few_morsels p is =
-    let q : Asked = p.query in
+    let q : Query = p.query in
     let sts : List Station = is.dataset.stations in
     let ms : List Morsel = map (measured q) (morsels q is.dataset) in
     let one = length_permutation (map (measured q) (filter (has_admitted q) (series_among q is.dataset sts))) ms
@@ -108,7 +108,7 @@ few_morsels p is =
     omega (arith, kept-length (measured_at q is.dataset) sts, ap length (by_station q is.dataset sts))
 
 -- the morsels of a plan belong to different stations
-pub plan_distinct : (p : Planned) → IsPlan p → IsDistinct of_one_station p.morsels
+pub plan_distinct : (p : Plan) → IsPlan p → IsDistinct of_one_station p.morsels
 plan_distinct p is =
     let ms : List Morsel = map (measured p.query) (morsels p.query is.dataset) in
     let sorted : IsDistinct of_one_station (sorted_by is_drawn_first ms) =

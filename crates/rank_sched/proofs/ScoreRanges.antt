@@ -1,8 +1,8 @@
 -- The score of each candidate can be a floor: it lies from -2^31 to 2^31.
 use Rattle.rank_sched.proofs.Cited.{rules, ◌≡◌, ℕ, zero, suc, ◌*◌, ◌≤◌, Bool, true, List, [], ◌∷◌, Option, Some, arith}
 use Rattle.rank_sched.proofs.Cited.{ℤ, pos, neg_ℤ, ◌+ℤ◌, ◌≤ℤ◌, AllByRecursion, option_map, ints, is_within, IsScore}
-use Rattle.rank_sched.proofs.Cited.{StationId, DayValue, Usable, IsSeries, value_on, all-filter, Score, Highest, Lowest}
-use Rattle.rank_sched.proofs.Cited.{Sum, Dry, Wet, Hot, Cold, Asked, IsAsked, is_score, run_from, run_len, Shape}
+use Rattle.rank_sched.proofs.Cited.{StationId, DayValue, Series, IsSeries, value_on, all-filter, Score, Highest, Lowest}
+use Rattle.rank_sched.proofs.Cited.{Sum, Dry, Wet, Hot, Cold, Query, IsAsked, is_score, run_from, run_len, Shape}
 use Rattle.rank_sched.proofs.Cited.{Windows, Spells, shape, plus, window_total, test_of, begun, candidate}
 use Rattle.rank_sched.proofs.Cited.{contenders_among, contenders, candidates, admitted, Candidate, IsSmall}
 use Rattle.rank_sched.proofs.Cited.{admitted-small, all-made, each, None, refl, subst}
@@ -95,7 +95,7 @@ module _ (days : List DayValue) (small : AllByRecursion (λ x. IsSmall x.1) days
   by_score id (Cold t) right = spells_right id (test_of (spells.Cold t))
 
 -- the score of each candidate of a series can be a floor
-pub candidates_ranged : (q : Asked) (s : Usable) → IsAsked q → IsSeries s
+pub candidates_ranged : (q : Query) (s : Series) → IsAsked q → IsSeries s
     → AllByRecursion (λ c. IsScore c.score) (candidates q s)
 candidates_ranged q s asked right = all-filter (λ c. IsScore c.score) _ (contenders q s)
     (by_score (admitted q s) (admitted-small q s right) s.id q.score asked.score)

@@ -5,7 +5,7 @@ use Rattle.ghcn_fields.specs.Floor.{IsAtLeast}
 use Rattle.rank_scores.specs.declared.candidate.Candidate.{Candidate}
 use Rattle.rank_scores.specs.Order.{bound_is_below}
 use Rattle.rank_pool.specs.First.{first, kth}
-use Rattle.rank_pool.specs.Pools.{Pooled}
+use Rattle.rank_pool.specs.Pools.{Pool}
 use Rattle.rank_sched.specs.declared.record.Record.{Record}
 use Rattle.rank_sched.specs.Task.{Task}
 
@@ -22,11 +22,11 @@ abbrev pub scanned : Task → List Record → List Candidate
 scanned t rs = flat_map (scanned_for t) rs
 
 -- the pool that has the best k of some candidates
-abbrev pub best_pool : ℕ → List Candidate → Pooled
+abbrev pub best_pool : ℕ → List Candidate → Pool
 best_pool k xs = record { size = k; held = first k xs }
 
 -- the pool of a worker with these records: the best of what it scanned
-abbrev pub pool_of : Task → List Record → Pooled
+abbrev pub pool_of : Task → List Record → Pool
 pool_of t rs = best_pool t.k (scanned t rs)
 
 -- a record skips its morsel if and only if the floor that was seen is a score, and the bound is strictly below it

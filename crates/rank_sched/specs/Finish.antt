@@ -2,7 +2,7 @@
 use Rattle.std.specs.Prelude.{◌≡◌, ℕ, ◌<◌, Bool, false, not, ◌&&◌, List, length, map, ◌++◌, count_by, slice_index_or}
 use Rattle.std.specs.List.{AllByRecursion, enumerate_from}
 use Rattle.ghcn_fields.specs.Sorting.{sorted_by}
-use Rattle.rank_pool.specs.Pools.{Pooled}
+use Rattle.rank_pool.specs.Pools.{Pool}
 use Rattle.rank_scores.specs.Morsels.{id_comes_first}
 use Rattle.rank_sched.specs.declared.record.Record.{Record}
 use Rattle.rank_sched.specs.declared.line.Line.{Line}
@@ -25,7 +25,7 @@ abbrev pub AreWithin : ℕ → List Record → Type 0
 AreWithin n rs = AllByRecursion (λ r. r.morsel < n) rs
 
 -- the pool has the best of what was scanned, or had its skip undone below n
-abbrev pub HasBackBelow : Task → List Record → ℕ → Pooled → Type 0
+abbrev pub HasBackBelow : Task → List Record → ℕ → Pool → Type 0
 HasBackBelow t rs n pool = pool ≡ best_pool t.k (scanned t rs ++ back_below t rs n)
 
 -- the line of a morsel with its number, by the marks of skips

@@ -4,9 +4,9 @@ use Rattle.std.specs.Prelude.{Option, None, Some, Result, ℤ, ◌≤ℤ◌, sli
 use Rattle.std.specs.List.{AllByRecursion}
 use Rattle.ghcn_fields.specs.Counting.{times, HasEachBelow}
 use Rattle.ghcn_fields.specs.Floor.{IsAtLeast}
-use Rattle.ghcn_series.specs.Series.{Contents}
+use Rattle.ghcn_series.specs.Series.{Data}
 use Rattle.ghcn_series.specs.Held.{IsContents}
-use Rattle.rank_query.specs.Meaning.Asked.{Asked, IsAsked}
+use Rattle.rank_query.specs.Meaning.Asked.{Query, IsAsked}
 use Rattle.rank_scores.specs.declared.candidate.Candidate.{Candidate}
 use Rattle.rank_scores.specs.Order.{bound_is_below}
 use Rattle.rank_scores.specs.Morsels.{best_of_query, kth_of_query}
@@ -16,7 +16,7 @@ use Rattle.rank_sched.specs.declared.haul.Haul.{Haul}
 use Rattle.rank_sched.specs.declared.event.Event.{Event}
 use Rattle.rank_sched.specs.declared.event.Event.TheVariants.{Claim, Look, Settle}
 use Rattle.rank_sched.specs.declared.event.StepFault.{StepFault}
-use Rattle.rank_sched.specs.Plan.{Morsel, Planned, planned, IsPlanOf, IsPlan}
+use Rattle.rank_sched.specs.Plan.{Morsel, Plan, planned, IsPlanOf, IsPlan}
 use Rattle.rank_sched.specs.Task.{Task, task_of, all_of_task, IsFair}
 use Rattle.rank_sched.specs.Exchanges.{Exchange, morsels_of, scanned, IsRightSkip, exchange, raised_in, seen_in}
 use Rattle.rank_sched.specs.Exchanges.{SeeUpward}
@@ -32,15 +32,15 @@ use Rattle.rank_sched.specs.Answers.{best_of_plan, line_of, AreRecordsAlone}
 
 -- a plan is the one list of its query's morsels with their bounds, each once, in which they are drawn in turn
 abbrev pub PlanIsTheOne : Type 0
-PlanIsTheOne = (q : Asked) (c : Contents) (p : Planned) → IsContents c → IsPlanOf q c p ↔ (p ≡ planned q c)
+PlanIsTheOne = (q : Query) (c : Data) (p : Plan) → IsContents c → IsPlanOf q c p ↔ (p ≡ planned q c)
 
 -- what a plan asks is fair
 abbrev pub PlansAreFair : Type 0
-PlansAreFair = (p : Planned) → IsPlan p → IsFair (task_of p)
+PlansAreFair = (p : Plan) → IsPlan p → IsFair (task_of p)
 
 -- the best of a plan's candidates are the best of the query, and the k-th score is the query's
 abbrev pub PlanHasTheBest : Type 0
-PlanHasTheBest = (q : Asked) (c : Contents) → IsAsked q → IsContents c →
+PlanHasTheBest = (q : Query) (c : Data) → IsAsked q → IsContents c →
     (best_of_plan (planned q c) ≡ best_of_query q c) ×
     (kth q.k (all_of_task (task_of (planned q c))) ≡ kth_of_query q c)
 
@@ -229,7 +229,7 @@ FewerWorkersAreSound = (t : Task) (guess : Option ℤ) (fewer more : ℕ) (rs : 
 
 -- a line is a scan if and only if its morsel's record isn't a skip or the skip is undone; never are both true
 abbrev pub ScansHaveOneCause : Type 0
-ScansHaveOneCause = (p : Planned) (rs : List Record) (i : ℕ) (r : Record) (x : Morsel)
+ScansHaveOneCause = (p : Plan) (rs : List Record) (i : ℕ) (r : Record) (x : Morsel)
     → HasEachBelow (length p.morsels) (morsels_of rs) → slice_get rs i ≡ Some r →
     (((line_of p rs (r.morsel, x)).skipped ≡ false)
     ↔ ((r.skipped ≡ false) ⊎ (is_taken_back (task_of p) rs r.morsel ≡ true)))

@@ -6,7 +6,7 @@ use Rattle.std.specs.Option.{option_map_or}
 use Rattle.std.specs.Int.{int_max}
 use Rattle.ghcn_fields.specs.Faults.{first_failing}
 use Rattle.rank_scores.specs.Order.{bound_is_below}
-use Rattle.rank_pool.specs.Pools.{Pooled, empty_pool, taken, last_score}
+use Rattle.rank_pool.specs.Pools.{Pool, empty_pool, taken, last_score}
 use Rattle.rank_sched.specs.declared.record.Record.{Record}
 use Rattle.rank_sched.specs.declared.event.Event.{Event}
 use Rattle.rank_sched.specs.declared.event.Event.TheVariants.{Claim, Look, Settle}
@@ -22,7 +22,7 @@ pub record Worker : Type 0 where
   pub turn : Turn
   pub claims : List ℕ
   pub records : List Record
-  pub pool : Pooled
+  pub pool : Pool
 
 -- the number that the next claim draws, the floor, and the workers by number
 pub record State : Type 0 where
@@ -79,7 +79,7 @@ greater_floor (Some a) None = Some a
 greater_floor (Some a) (Some b) = Some (int_max a b)
 
 -- the floor after a record: the greater of itself and the pool's k-th score, unless the morsel was skipped
-abbrev pub floor_after : Option ℤ → Record → Pooled → Option ℤ
+abbrev pub floor_after : Option ℤ → Record → Pool → Option ℤ
 floor_after floor r pool = if r.skipped then floor else greater_floor floor (last_score pool)
 
 -- an idle worker draws the next number
@@ -158,7 +158,7 @@ abbrev pub with_worker : ℕ → Option ℤ → List Worker → ℕ → Worker �
 with_worker next floor vs w v = record { next = next; floor = floor; workers = slice_set vs w v }
 
 -- a settled worker, and the floor after its record
-abbrev pub settled : Task → State → ℕ → Worker → Record → Pooled → State
+abbrev pub settled : Task → State → ℕ → Worker → Record → Pool → State
 settled t s w v r pool = with_worker s.next (floor_after s.floor r pool) s.workers w
     (record { turn = Idle; claims = v.claims; records = v.records ++ r ∷ []; pool = pool })
 

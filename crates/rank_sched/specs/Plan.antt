@@ -9,22 +9,22 @@ use Rattle.std.specs.Ordering.{int_eq, int_cmp, nat_cmp, on, flip_args, then_cmp
 use Rattle.std.specs.Cmp.Lexicographic.{slice_cmp}
 use Rattle.ghcn_fields.specs.Sorting.{sorted_by}
 use Rattle.ghcn_files.specs.declared.station.Station.{Station}
-use Rattle.ghcn_series.specs.Meaning.Series.{Usable}
-use Rattle.ghcn_series.specs.Series.{Contents}
+use Rattle.ghcn_series.specs.Meaning.Series.{Series}
+use Rattle.ghcn_series.specs.Series.{Data}
 use Rattle.ghcn_series.specs.Held.{IsContents}
-use Rattle.rank_query.specs.Meaning.Asked.{Asked, IsAsked}
+use Rattle.rank_query.specs.Meaning.Asked.{Query, IsAsked}
 use Rattle.rank_scores.specs.Morsels.{morsel_at, morsels, id_comes_first}
 use Rattle.rank_blocks.specs.Bounds.{bound}
 use Rattle.rank_sched.specs.declared.plan.Morsel as code
 
 -- a series of a query, and its bound
 pub record Morsel : Type 0 where
-  pub series : Usable
+  pub series : Series
   pub bound : ℤ
 
 -- what contracts see of a plan: the query, the listed stations, and the morsels by number
-pub record Planned : Type 0 where
-  pub query : Asked
+pub record Plan : Type 0 where
+  pub query : Query
   pub stations : List Station
   pub morsels : List Morsel
 
@@ -33,7 +33,7 @@ abbrev pub planned_morsel : code.Morsel → Morsel
 planned_morsel m = record { series = m.series.now; bound = m.bound }
 
 -- a series with its bound under a query
-abbrev pub measured : Asked → Usable → Morsel
+abbrev pub measured : Query → Series → Morsel
 measured q s = record { series = s; bound = bound q s }
 
 -- a is drawn before b: by greater bound, then by smaller ID
@@ -45,7 +45,7 @@ abbrev pub drawn_cmp : Morsel → Morsel → Ordering
 drawn_cmp = then_cmp (on (λ m. m.bound) (flip_args int_cmp)) (on (λ m. m.series.id.0) (slice_cmp nat_cmp))
 
 -- the plan of a query over some data: all its morsels, each with its bound, in the order in which they are drawn
-abbrev pub planned : Asked → Contents → Planned
+abbrev pub planned : Query → Data → Plan
 planned q c = record {
   query = q;
   stations = c.stations;
@@ -59,27 +59,27 @@ AreDrawnInTurn [] = Unit {0}
 AreDrawnInTurn (m ∷ ms) = AllByRecursion (λ n. is_drawn_first m n ≡ true) ms × AreDrawnInTurn ms
 
 -- the same by properties: the query's morsels with their bounds, each once, and each is drawn before all after it
-pub record IsPlanOf (q : Asked) (c : Contents) (p : Planned) : Type 0 where
+pub record IsPlanOf (q : Query) (c : Data) (p : Plan) : Type 0 where
   pub asked : p.query ≡ q
   pub listed : p.stations ≡ c.stations
   pub morsels_are : IsPermutation (map (measured q) (morsels q c)) p.morsels
   pub in_turn : AreDrawnInTurn p.morsels
 
 -- what is true of every plan: it is that of its query over some data
-pub record IsPlan (p : Planned) : Type 0 where
+pub record IsPlan (p : Plan) : Type 0 where
   pub asked : IsAsked p.query
-  pub dataset : Contents
+  pub dataset : Data
   pub right : IsContents dataset
   pub plan : p ≡ planned p.query dataset
 
 -- the morsel of a station with its bound, if the station has one
-abbrev pub measured_at : Asked → Contents → Station → Option Morsel
+abbrev pub measured_at : Query → Data → Station → Option Morsel
 measured_at q c st = option_map (measured q) (morsel_at q c st)
 
 -- the bound of a station that is a morsel
-abbrev pub measure_of : Asked → Contents → Station → Option ℤ
+abbrev pub measure_of : Query → Data → Station → Option ℤ
 measure_of q c st = option_map (bound q) (morsel_at q c st)
 
 -- the bounds of all listed stations in file order, none if a station isn't a morsel
-abbrev pub measures : Asked → Contents → List (Option ℤ)
+abbrev pub measures : Query → Data → List (Option ℤ)
 measures q c = map (measure_of q c) c.stations

@@ -9,7 +9,7 @@ use Rattle.rank_sched.specs.declared.haul.Haul.{Haul}
 use Rattle.rank_sched.specs.declared.event.Event.{Event}
 use Rattle.rank_sched.specs.declared.event.StepFault.{StepFault}
 use Rattle.rank_sched.specs.declared.event.StepFault.TheVariants.{NoWorker, NotNow, Memory}
-use Rattle.rank_sched.specs.Plan.{Planned, IsPlan}
+use Rattle.rank_sched.specs.Plan.{Plan, IsPlan}
 use Rattle.rank_sched.specs.Task.{Task, task_of}
 use Rattle.rank_sched.specs.Exchanges.{morsels_of, scanned_for}
 use Rattle.rank_sched.specs.Machine.{Worker, State, started, refusal, IsStep, Reaches, all_stopped}
@@ -18,7 +18,7 @@ use Rattle.rank_sched.specs.Hauls.{records_of}
 
 -- a machine: its plan and guess, its state, and whether it has failed, that is, met out of memory
 pub record Running : Type 0 where
-  pub plan : Planned
+  pub plan : Plan
   pub guess : Option ℤ
   pub state : State
   pub failed : Bool
@@ -61,7 +61,7 @@ pub record IsRunning (m : Running) : Type 0 where
   pub sound : IsSoundState (task_of m.plan) m.guess m.state
 
 -- a machine at the start
-abbrev pub new_run : Planned → ℕ → Option ℤ → Running
+abbrev pub new_run : Plan → ℕ → Option ℤ → Running
 new_run p workers guess = record {
   plan = p;
   guess = guess;
@@ -106,14 +106,14 @@ IsOfMemory (Err (NotNow w)) = ⊥
 IsOfMemory (Err (Memory x)) = ⊤
 
 -- a machine that was led here by these events, and by no others
-pub record IsReplayed (p : Planned) (workers : ℕ) (guess : Option ℤ) (es : List Event) (m : Running) : Type 0 where
+pub record IsReplayed (p : Plan) (workers : ℕ) (guess : Option ℤ) (es : List Event) (m : Running) : Type 0 where
   pub running : m.failed ≡ false
   pub reached : Reaches (task_of p) workers guess es m.state
   pub plan : m.plan ≡ p
   pub guessed : m.guess ≡ guess
 
 -- a replay ended: that many events were accepted, and the next was refused for this reason
-pub record IsRefusedAt (p : Planned) (workers : ℕ) (guess : Option ℤ) (es : List Event) (accepted : ℕ)
+pub record IsRefusedAt (p : Plan) (workers : ℕ) (guess : Option ℤ) (es : List Event) (accepted : ℕ)
     (why : StepFault) : Type 0 where
   pub state : State
   pub event : Event
@@ -122,13 +122,13 @@ pub record IsRefusedAt (p : Planned) (workers : ℕ) (guess : Option ℤ) (es : 
   pub refused : refusal state event ≡ Some why
 
 -- a replay met out of memory: at the start, or at an event that isn't refused after those that were accepted
-pub record FailsAt (p : Planned) (workers : ℕ) (guess : Option ℤ) (es : List Event) (accepted : ℕ) : Type 0 where
+pub record FailsAt (p : Plan) (workers : ℕ) (guess : Option ℤ) (es : List Event) (accepted : ℕ) : Type 0 where
   pub state : State
   pub reached : Reaches (task_of p) workers guess (take accepted es) state
   pub late : (accepted ≡ 0) ⊎ ((event : Event) × (slice_get es accepted ≡ Some event) × (refusal state event ≡ None))
 
 -- why a replay ended
-abbrev pub IsReplayFault : Planned → ℕ → Option ℤ → List Event → ℕ → StepFault → Type 0
+abbrev pub IsReplayFault : Plan → ℕ → Option ℤ → List Event → ℕ → StepFault → Type 0
 IsReplayFault p workers guess es accepted (NoWorker w) = IsRefusedAt p workers guess es accepted (NoWorker w)
 IsReplayFault p workers guess es accepted (NotNow w) = IsRefusedAt p workers guess es accepted (NotNow w)
 IsReplayFault p workers guess es accepted (Memory x) = FailsAt p workers guess es accepted

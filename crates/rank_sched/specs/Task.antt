@@ -6,7 +6,7 @@ use Rattle.ghcn_fields.specs.Floor.{IsScore}
 use Rattle.rank_scores.specs.declared.candidate.Candidate.{Candidate}
 use Rattle.rank_scores.specs.Candidates.{candidates}
 use Rattle.rank_scores.specs.Order.{AreApart}
-use Rattle.rank_sched.specs.Plan.{Planned}
+use Rattle.rank_sched.specs.Plan.{Plan}
 
 -- how many are wanted, how many morsels there are, and of each number the bound and the candidates
 pub record Task : Type 0 where
@@ -16,7 +16,7 @@ pub record Task : Type 0 where
   pub candidates : ℕ → List Candidate
 
 -- what a plan asks; a number past the last morsel has no candidates
-abbrev pub task_of : Planned → Task
+abbrev pub task_of : Plan → Task
 task_of p = record {
   k = p.query.k;
   len = length p.morsels;

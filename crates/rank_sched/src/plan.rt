@@ -5,7 +5,7 @@ ghost use Rattle.rank_pool.specs.Pools.{taken};
 ghost use Rattle.std.specs.List.{filter_map};
 ghost use Rattle.std.specs.Option.{option_map, option_copied, option_to_list};
 ghost use Rattle.ghcn_series.specs.Held.{IsContents};
-ghost use Rattle.rank_query.specs.Meaning.Asked.{Asked, IsAsked, score_element};
+ghost use Rattle.rank_query.specs.Meaning.Asked.{Query, IsAsked, score_element};
 ghost use Rattle.rank_sched.specs.Plan as plan;
 ghost use Rattle.rank_sched.specs.Task.{task_of, IsFair};
 
@@ -39,9 +39,9 @@ pub struct Plan<'a> {
 
 impl<'a> Model for Plan<'a> {
     ghost use Rattle.std.specs.Prelude.{map};
-    ghost use Rattle.rank_sched.specs.Plan.{Planned, IsPlan, planned_morsel};
+    ghost use Rattle.rank_sched.specs.Plan.{Plan, IsPlan, planned_morsel};
 
-    ghost Value = { Planned };
+    ghost Value = { Plan };
 
     ghost view = { λ p. record {
       query = p.query;
@@ -255,7 +255,7 @@ fn measured_at<'a>(
     place: u64,
     bound: Option<i64>,
 ) -> Option<Morsel<'a>>
-    ensures { (q : Asked) → element ≡ score_element q.score →
+    ensures { (q : Query) → element ≡ score_element q.score →
         option_map (plan.measure_of q dataset.now) (slice_get dataset.now.stations place) ≡ Some bound →
         option_map (plan.measured_at q dataset.now) (slice_get dataset.now.stations place)
         ≡ Some (option_map plan.planned_morsel result) }

@@ -20,7 +20,7 @@ use Rattle.ghcn_series.specs.Meaning.Says.{Fact}
 use Rattle.ghcn_series.specs.Says.{days_of}
 use Rattle.ghcn_series.proofs.JoinedFiles.{days_said, days_said-append, joined-left, joined-right}
 use Rattle.ghcn_series.proofs.ListFacts.{all-filter}
-use Rattle.rank_query.specs.Meaning.Asked.{Asked}
+use Rattle.rank_query.specs.Meaning.Asked.{Query}
 use Rattle.rank_query.specs.Meaning.Admits.{admits_day}
 use Rattle.rank_scores.specs.Stretches.{admitted_among}
 use Rattle.std.proofs.Common.{rules}
@@ -81,7 +81,7 @@ day_total = on_total (λ (x : DayValue). x.0) int_cmp_total
 le-is : (a b : ℤ) → int_le a b ≡ is_le (int_cmp a b)
 le-is a b = grind (arith, ints)
 
-module _ (q : Asked) (id : StationId) (e : Element) where
+module _ (q : Query) (id : StationId) (e : Element) where
   -- the admitted days of a station and element, by day
   abbrev pub admitted_in : List Fact → List DayValue
   admitted_in facts = admitted_among q (days_of facts id e)

@@ -10,8 +10,8 @@ use Rattle.ghcn_files.specs.declared.station.StationId.{StationId}
 use Rattle.ghcn_files.specs.Meaning.Ids.{same_id}
 use Rattle.ghcn_files.proofs.IdOrder.{id_cmp, id_total, same_station-turned, tied_same}
 use Rattle.ghcn_files.proofs.Ordered.{distinct-mapped}
-use Rattle.ghcn_series.specs.Meaning.Series.{Usable}
-use Rattle.ghcn_series.specs.Series.{Contents}
+use Rattle.ghcn_series.specs.Meaning.Series.{Series}
+use Rattle.ghcn_series.specs.Series.{Data}
 use Rattle.ghcn_series.specs.Meaning.Says.{Fact}
 use Rattle.ghcn_series.specs.JoinedFiles.{facts_in}
 use Rattle.ghcn_series.proofs.FoundSeries.{has_days}
@@ -20,7 +20,7 @@ use Rattle.ghcn_series.proofs.JoinedSeries.{usable_of-left, usable_of-right}
 use Rattle.ghcn_series.proofs.JoinedLists as lists
 use Rattle.ghcn_series.proofs.ListFacts.{distinct_filter}
 use Rattle.ghcn_series.proofs.Places.{same_id-refl}
-use Rattle.rank_query.specs.Meaning.Asked.{Asked}
+use Rattle.rank_query.specs.Meaning.Asked.{Query}
 use Rattle.rank_scores.specs.Morsels.{admitted_series, has_admitted, morsels}
 use Rattle.rank_scores.specs.Cut.{series_first, series_ids, Filed, MorselsOfParts}
 use Rattle.rank_scores.proofs.CutSeries.{admitted_stations, given, all_given, admitted_series-given}
@@ -31,40 +31,40 @@ use Rattle.std.proofs.Common.{rules}
 -- ---- series by their IDs
 
 -- two series belong to one station
-abbrev same_station : Usable → Usable → Bool
+abbrev same_station : Series → Series → Bool
 same_station a b = same_id a.id b.id
 
 -- ---- what facts give
 
-module _ (q : Asked) (stations : List Station) where
+module _ (q : Query) (stations : List Station) where
   -- the series that facts give the admitted stations, if they have a day
-  abbrev own : List Fact → List Usable
+  abbrev own : List Fact → List Series
   own facts = filter has_days (map (given q stations facts) (admitted_stations q stations))
 
   -- those that have an admitted day
-  abbrev ready : List Fact → List Usable
+  abbrev ready : List Fact → List Series
   ready facts = filter (has_admitted q) (own facts)
 
   -- those by ID
-  abbrev by_id : List Fact → List Usable
+  abbrev by_id : List Fact → List Series
   by_id facts = sorted_by series_first (ready facts)
 
   -- what facts give joins if they do
   given_join : lists.Joins (given q stations) has_days same_station
   given_join =
-      grind (arith, ints, same_station-turned (λ (s : Usable). s.id), usable_of-left, usable_of-right, same_id-refl)
+      grind (arith, ints, same_station-turned (λ (s : Series). s.id), usable_of-left, usable_of-right, same_id-refl)
 
   -- the series that have a day are given
   given-kept : (facts : List Fact) (sts : List Station)
       → all_given q stations facts sts ≡ filter has_days (map (given q stations facts) sts)
   given-kept facts [] = refl
   given-kept facts (st ∷ sts) =
-      let u : Usable = given q stations facts st in
-      let us : List Usable = all_given q stations facts sts in
-      let kept : List Usable = filter has_days (map (given q stations facts) sts) in
+      let u : Series = given q stations facts st in
+      let us : List Series = all_given q stations facts sts in
+      let kept : List Series = filter has_days (map (given q stations facts) sts) in
       elim (length u.days == 0) as (λ b. cons_option (cond b None (Some u)) us ≡ cond (not b) (u ∷ kept) kept) [
         | true ↦ given-kept facts sts
-        | false ↦ ap (λ (l : List Usable). u ∷ l) (given-kept facts sts)
+        | false ↦ ap (λ (l : List Series). u ∷ l) (given-kept facts sts)
       ]
 
   -- the series that the query is about, in what files hold
@@ -73,13 +73,13 @@ module _ (q : Asked) (stations : List Station) where
 
   -- the morsels in what files hold
   ready_held : (files : List (List ℕ)) → morsels q (contents_in stations files) ≡ by_id (facts_in stations files)
-  ready_held files = ap (λ (us : List Usable). sorted_by series_first (filter (has_admitted q) us)) (own_held files)
+  ready_held files = ap (λ (us : List Series). sorted_by series_first (filter (has_admitted q) us)) (own_held files)
 
   -- ---- of parts
 
   module _ {P : Type 0} (files : P → List (List ℕ)) where
     -- the data of a part
-    abbrev data_in : P → Contents
+    abbrev data_in : P → Data
     data_in p = contents_in stations (files p)
 
     -- its facts that count
@@ -106,11 +106,11 @@ module _ (q : Asked) (stations : List Station) where
       facts_by_part = map facts_of_part parts
 
       -- the data of each part
-      abbrev data_by_part : List Contents
+      abbrev data_by_part : List Data
       data_by_part = map data_in parts
 
       -- the series with an admitted day, one by one
-      abbrev if_ready : Usable → List Usable
+      abbrev if_ready : Series → List Series
       if_ready u = filter (has_admitted q) (u ∷ [])
 
       -- those of all series
@@ -121,7 +121,7 @@ module _ (q : Asked) (stations : List Station) where
         -- no two series of the parts belong to one station
         own_apart : IsDistinct same_station (flat_map own facts_by_part)
         own_apart = subst (IsDistinct same_station) (all_own parts)
-            (distinct-mapped (λ (s : Usable). s.id) same_id (flat_map (admitted_series q) data_by_part) distinct)
+            (distinct-mapped (λ (s : Series). s.id) same_id (flat_map (admitted_series q) data_by_part) distinct)
 
         -- nor are two with an admitted day
         ready_apart : IsDistinct same_station (flat_map ready facts_by_part)
@@ -138,7 +138,7 @@ module _ (q : Asked) (stations : List Station) where
             (admitted_stations q stations) own_apart if_ready in
             let all : flat_map if_ready (own whole) ≡ ready (facts_in stations all_files) =
             ready-pieces whole ∙ ap ready (sym (facts_of_parts stations files parts)) in
-            subst (λ (l : List Usable). IsPermutation l (ready (facts_in stations all_files)))
+            subst (λ (l : List Series). IsPermutation l (ready (facts_in stations all_files)))
             (lists.flat_map-same (λ f. flat_map if_ready (own f)) ready facts_by_part ready-pieces)
             (subst (IsPermutation (flat_map (λ f. flat_map if_ready (own f)) facts_by_part)) all moved)
 
@@ -146,7 +146,7 @@ module _ (q : Asked) (stations : List Station) where
         pub morsels_together : morsels q (contents_in stations all_files)
             ≡ sorted_by series_first (flat_map (morsels q) data_by_part)
         morsels_together =
-            let id_of : Usable → StationId = λ s. s.id in
+            let id_of : Series → StationId = λ s. s.id in
             ready_held all_files
             ∙ lists.sorted_together (id_cmp id_of) (id_total id_of) series_first (λ a b. refl) same_station
             (same_station-turned id_of) (tied_same id_of) ready facts_by_part (ready (facts_in stations all_files))
@@ -157,10 +157,10 @@ module _ (q : Asked) (stations : List Station) where
 pub morsels_of_parts : MorselsOfParts
 morsels_of_parts q stations parts ds held are all distinct =
     let files : Filed → List (List ℕ) = λ p. p.0 in
-    let own_data : List Contents = map (λ p. contents_in stations (files p)) parts in
-    let IsWhole : Contents → List Contents → Type 0 =
+    let own_data : List Data = map (λ p. contents_in stations (files p)) parts in
+    let IsWhole : Data → List Data → Type 0 =
     λ c l. morsels q c ≡ sorted_by series_first (flat_map (morsels q) l) in
-    subst (λ (l : List Contents). IsDistinct same_id (series_ids q l) → IsWhole held l)
+    subst (λ (l : List Data). IsDistinct same_id (series_ids q l) → IsWhole held l)
     (all_data-held stations files parts ds are)
-    (λ apart. subst (λ (c : Contents). IsWhole c own_data) (data-held stations (flat_map files parts) held all)
+    (λ apart. subst (λ (c : Data). IsWhole c own_data) (data-held stations (flat_map files parts) held all)
     (morsels_together q stations files parts apart)) distinct

@@ -11,13 +11,13 @@ use Rattle.ghcn_files.proofs.Ordered.{sorted-permutation}
 use Rattle.ghcn_files.specs.declared.station.Station.{Station}
 use Rattle.ghcn_files.specs.declared.station.StationId.{StationId}
 use Rattle.ghcn_files.specs.Meaning.Ids.{same_id}
-use Rattle.ghcn_series.specs.Series.{Contents}
+use Rattle.ghcn_series.specs.Series.{Data}
 use Rattle.ghcn_series.specs.Meaning.Says.{Fact}
 use Rattle.ghcn_series.specs.JoinedFiles.{facts_in, HaveData}
 use Rattle.ghcn_series.proofs.JoinedFiles.{contents_in, facts_of_parts, data-held, all_data-held}
 use Rattle.ghcn_series.proofs.JoinedLists as lists
 use Rattle.ghcn_series.proofs.Places.{same_id-refl}
-use Rattle.rank_query.specs.Meaning.Asked.{Asked, score_element}
+use Rattle.rank_query.specs.Meaning.Asked.{Query, score_element}
 use Rattle.rank_scores.specs.declared.candidate.Candidate.{Candidate}
 use Rattle.rank_scores.specs.Morsels.{all_candidates, morsels}
 use Rattle.rank_scores.specs.Cut.{IsSameFor, series_first, IsCut, morsel_ids, CutByFiles}
@@ -29,9 +29,9 @@ use Rattle.std.proofs.Common.{arith}
 use Rattle.std.proofs.lemmas.Int.{ints}
 use Rattle.std.proofs.Common.{rules}
 
-module _ {P : Type 0} (q : Asked) (stations : List Station) (files : P → List (List ℕ)) where
+module _ {P : Type 0} (q : Query) (stations : List Station) (files : P → List (List ℕ)) where
   -- the data of a part
-  abbrev data_in : P → Contents
+  abbrev data_in : P → Data
   data_in p = contents_in stations (files p)
 
   -- its facts that count
@@ -91,7 +91,7 @@ module _ {P : Type 0} (q : Asked) (stations : List Station) (files : P → List 
     facts_by_part = map facts_of_part parts
 
     -- the data of each part
-    abbrev data_by_part : List Contents
+    abbrev data_by_part : List Data
     data_by_part = map data_in parts
 
     -- what all facts hold
@@ -169,13 +169,13 @@ module _ {P : Type 0} (q : Asked) (stations : List Station) (files : P → List 
       cut = record { stations = same_stations parts; candidates = candidates_cut; morsels = morsels_cut }
 
 -- files that are cut into parts of any kind are cut as a query sees it
-pub cut_by_parts : {P : Type 0} (q : Asked) (stations : List Station) (files : P → List (List ℕ)) (parts : List P)
-    (ds : List Contents) (held : Contents) → AllZip (λ p d. HaveData stations (files p) d) parts ds
+pub cut_by_parts : {P : Type 0} (q : Query) (stations : List Station) (files : P → List (List ℕ)) (parts : List P)
+    (ds : List Data) (held : Data) → AllZip (λ p d. HaveData stations (files p) d) parts ds
     → HaveData stations (flat_map files parts) held → IsDistinct same_id (morsel_ids q ds) → IsCut q held ds
 cut_by_parts q stations files parts ds held are all distinct =
-    subst (λ (l : List Contents). IsDistinct same_id (morsel_ids q l) → IsCut q held l)
+    subst (λ (l : List Data). IsDistinct same_id (morsel_ids q l) → IsCut q held l)
     (all_data-held stations files parts ds are)
-    (λ apart. subst (λ (c : Contents). IsCut q c (map (λ p. contents_in stations (files p)) parts))
+    (λ apart. subst (λ (c : Data). IsCut q c (map (λ p. contents_in stations (files p)) parts))
     (data-held stations (flat_map files parts) held all) (cut q stations files parts apart)) distinct
 
 -- so are files of parts that have a report and a certificate

@@ -9,7 +9,7 @@ use Rattle.ghcn_files.specs.declared.station.Station.{Station}
 use Rattle.ghcn_files.specs.declared.station.StationId.{StationId}
 use Rattle.ghcn_files.specs.Meaning.Ids.{same_id}
 use Rattle.ghcn_files.proofs.Ordered.{distinct-map, distinct-mapped, sorted-map}
-use Rattle.ghcn_series.specs.Meaning.Series.{DayValue, Usable}
+use Rattle.ghcn_series.specs.Meaning.Series.{DayValue, Series}
 use Rattle.ghcn_series.specs.Series.{series_of}
 use Rattle.ghcn_series.specs.DailyFaults.{is_listed}
 use Rattle.ghcn_series.specs.Meaning.Says.{Fact}
@@ -19,7 +19,7 @@ use Rattle.ghcn_series.proofs.AllSeries.{all_listed}
 use Rattle.ghcn_series.proofs.FoundSeries.{if_it_has_days, series_of-listed}
 use Rattle.ghcn_series.proofs.JoinedFiles.{contents_in, none_in}
 use Rattle.ghcn_series.proofs.ListFacts.{all-filter}
-use Rattle.rank_query.specs.Meaning.Asked.{Asked, score_element}
+use Rattle.rank_query.specs.Meaning.Asked.{Query, score_element}
 use Rattle.rank_query.specs.Admits.{admits_station}
 use Rattle.rank_scores.specs.declared.candidate.Candidate.{Candidate}
 use Rattle.rank_scores.specs.Meaning.Candidates.{shape, admitted}
@@ -49,9 +49,9 @@ of_one a b = same_id a.0 b.0
 abbrev pub comes_first : Seen → Seen → Bool
 comes_first a b = id_comes_first a.0 b.0
 
-module _ (q : Asked) where
+module _ (q : Query) where
   -- what the query sees of a series
-  abbrev pub seen : Usable → Seen
+  abbrev pub seen : Series → Seen
   seen s = (s.id, admitted q s)
 
   -- the candidates of what it sees
@@ -67,11 +67,11 @@ module _ (q : Asked) where
   nothing_seen x none = search (rules, arith, none_in, not-false)
 
   -- all candidates of series are those of what is seen if there is an admitted day
-  candidates-seen : (ss : List Usable)
+  candidates-seen : (ss : List Series)
       → flat_map (candidates q) ss ≡ flat_map candidates_seen (map seen (filter (has_admitted q) ss))
   candidates-seen [] = refl
   candidates-seen (s ∷ ss) =
-      let kept : List Usable = filter (has_admitted q) ss in
+      let kept : List Series = filter (has_admitted q) ss in
       elim (has_admitted q s) as (λ b. has_admitted q s ≡ b → candidates q s ++ flat_map (candidates q) ss
       ≡ flat_map candidates_seen (map seen (cond b (s ∷ kept) kept))) [
         | true ↦ λ some. ap (λ (l : List Candidate). candidates q s ++ l) (candidates-seen ss)
@@ -81,7 +81,7 @@ module _ (q : Asked) where
       ] refl
 
   -- series of which the same is seen, one by one, can take each other's place
-  pub same_seen : (us vs : List Usable) → map seen us ≡ map seen vs → AllZip (IsSameFor q) us vs
+  pub same_seen : (us vs : List Series) → map seen us ≡ map seen vs → AllZip (IsSameFor q) us vs
   same_seen [] [] e = tt
   same_seen [] (v ∷ vs) e = absurd cc
   same_seen (u ∷ us) [] e = absurd cc
@@ -93,12 +93,12 @@ module _ (q : Asked) where
       )
 
   -- series of different stations are seen as of different ones
-  pub distinct_seen : (us : List Usable) → IsDistinct same_id (map (λ (s : Usable). s.id) us)
+  pub distinct_seen : (us : List Series) → IsDistinct same_id (map (λ (s : Series). s.id) us)
       → IsDistinct of_one (map seen us)
-  distinct_seen us d = distinct-map seen of_one us (distinct-mapped (λ (s : Usable). s.id) same_id us d)
+  distinct_seen us d = distinct-map seen of_one us (distinct-mapped (λ (s : Series). s.id) same_id us d)
 
   -- morsels in their order are seen in their order
-  pub sorted-seen : (us : List Usable) → map seen (sorted_by series_first us) ≡ sorted_by comes_first (map seen us)
+  pub sorted-seen : (us : List Series) → map seen (sorted_by series_first us) ≡ sorted_by comes_first (map seen us)
   sorted-seen us = sorted-map seen comes_first us
 
   -- ---- in what files hold
@@ -113,11 +113,11 @@ module _ (q : Asked) where
     held_in facts = filter has_any (map (seen_in facts) admitted_stations)
 
     -- the series that facts give a station
-    abbrev pub given : List Fact → Station → Usable
+    abbrev pub given : List Fact → Station → Series
     given facts st = usable_of facts st (score_element q.score)
 
     -- those of the stations that have a day
-    abbrev pub all_given : List Fact → List Station → List Usable
+    abbrev pub all_given : List Fact → List Station → List Series
     all_given facts sts = filter_map (λ st. if_it_has_days (given facts st)) sts
 
     -- the series of listed stations are those that the facts give
@@ -127,7 +127,7 @@ module _ (q : Asked) where
         ≡ all_given (facts_in stations files) sts
     series_given files [] h = refl
     series_given files (st ∷ sts) h =
-        ap (λ (o : Option Usable). cons_option o
+        ap (λ (o : Option Series). cons_option o
         (filter_map (λ s. series_of (contents_in stations files) s.id (score_element q.score)) sts))
         (series_of-listed stations files st (score_element q.score) h.0)
         ∙ ap (cons_option (if_it_has_days (given (facts_in stations files) st))) (series_given files sts h.1)
@@ -138,7 +138,7 @@ module _ (q : Asked) where
     admitted_series-given files = search (rules, arith, series_given, all-filter, all_listed)
 
     -- without a day there is no admitted one
-    no_day : (s : Usable) → (length s.days == 0) ≡ true → has_admitted q s ≡ false
+    no_day : (s : Series) → (length s.days == 0) ≡ true → has_admitted q s ≡ false
     no_day s none = ap (λ (days : List DayValue). not (length (admitted_among q days) == 0)) (none_in s.days none)
 
     -- what is seen of given series with an admitted day
@@ -146,10 +146,10 @@ module _ (q : Asked) where
         ≡ filter has_any (map (seen_in facts) sts)
     seen-given facts [] = refl
     seen-given facts (st ∷ sts) =
-        let u : Usable = given facts st in
-        let us : List Usable = all_given facts sts in
+        let u : Series = given facts st in
+        let us : List Series = all_given facts sts in
         let xs : List Seen = filter has_any (map (seen_in facts) sts) in
-        let kept : List Usable = filter (has_admitted q) us in
+        let kept : List Series = filter (has_admitted q) us in
         elim (length u.days == 0) as (λ b. (length u.days == 0) ≡ b
         → map seen (filter (has_admitted q) (cons_option (cond b None (Some u)) us))
         ≡ cond (has_admitted q u) (seen u ∷ xs) xs) [

@@ -13,11 +13,11 @@ use Rattle.std.proofs.lemmas.Option.{cond_some}
 use Rattle.std.proofs.lemmas.Map.Keys.{IsDistinct-from_apart, IsDistinct-from_sorted, apart_from_distinct}
 use Rattle.std.proofs.lemmas.List.Elements.{All-from_recursion, All-contains, Contains-append_right}
 use Rattle.std.proofs.lemmas.List.Elements.{Contains-append_left}
-use Rattle.ghcn_series.specs.Meaning.Series.{DayValue, value_on, Usable}
+use Rattle.ghcn_series.specs.Meaning.Series.{DayValue, value_on, Series}
 use Rattle.ghcn_series.specs.Series.{IsSeries}
 use Rattle.rank_query.specs.declared.score.Score.{Score}
 use Rattle.rank_query.specs.declared.score.Score.TheVariants.{Highest, Lowest, Sum, Dry, Wet, Hot, Cold}
-use Rattle.rank_query.specs.Meaning.Asked.{is_score, Asked, IsAsked}
+use Rattle.rank_query.specs.Meaning.Asked.{is_score, Query, IsAsked}
 use Rattle.ghcn_files.specs.declared.station.StationId.{StationId}
 use Rattle.rank_scores.specs.Meaning.Runs.{IsRun}
 use Rattle.rank_scores.specs.Runs.{run_from, run_len, begins_run, calendar_len}
@@ -200,7 +200,7 @@ made_stands f day v c e (x ∷ xs) h =
     ]
 
 -- the candidate that begins on a day of a series, if one does
-abbrev pub begun_on : Asked → Usable → DayValue → Option Candidate
+abbrev pub begun_on : Query → Series → DayValue → Option Candidate
 begun_on q s x = option_map (candidate s.id x.0) (begun (shape q.score) (admitted q s) x)
 
 -- what is true of all is true of what is among them
@@ -235,7 +235,7 @@ leads-is per all c = (
       (ap not none)),
 )
 
-module _ (q : Asked) (s : Usable) (series : IsSeries s) where
+module _ (q : Query) (s : Series) (series : IsSeries s) where
   -- the contenders rise by first day
   pub contenders_rise : RiseByFirstDay (contenders q s)
   contenders_rise = grind (arith, ints, firsts_rise, made, admitted-rise q s series)
@@ -327,5 +327,5 @@ each_alone per is all = ap (λ (p : Per). leaders p all) is
     nothing (x ∷ xs) = (refl, nothing xs)
 
 -- so each contender is a candidate
-pub each_stays : (q : Asked) (s : Usable) → q.per ≡ Each → candidates q s ≡ contenders q s
+pub each_stays : (q : Query) (s : Series) → q.per ≡ Each → candidates q s ≡ contenders q s
 each_stays q s is = each_alone q.per is (contenders q s)

@@ -6,12 +6,12 @@ use Rattle.ghcn_files.specs.declared.station.StationId.{StationId}
 use Rattle.ghcn_files.specs.declared.element.Element.{Element}
 use Rattle.ghcn_files.specs.declared.element.Element.TheVariants.{Tmax, Tmin, Prcp, Snow}
 use Rattle.ghcn_fields.specs.Meaning.Dates.{year_and_rest, month_and_day}
-use Rattle.ghcn_series.specs.Meaning.Series.{DayValue, Usable}
-use Rattle.ghcn_series.specs.Series.{Contents}
+use Rattle.ghcn_series.specs.Meaning.Series.{DayValue, Series}
+use Rattle.ghcn_series.specs.Series.{Data}
 use Rattle.rank_query.specs.declared.score.Score.{Score}
 use Rattle.rank_query.specs.declared.score.Score.TheVariants.{Highest, Lowest, Sum, Dry, Wet, Hot, Cold}
 use Rattle.rank_query.specs.declared.season.Season.TheVariants.{Months, Dates}
-use Rattle.rank_query.specs.Meaning.Asked.{Asked}
+use Rattle.rank_query.specs.Meaning.Asked.{Query}
 use Rattle.rank_query.specs.Asked.{top}
 use Rattle.rank_scores.specs.Runs.{run_from}
 use Rattle.rank_scores.specs.declared.candidate.Candidate.{Candidate}
@@ -34,19 +34,19 @@ abbrev pub id_c : StationId
 id_c = record { 0 = codes "ZZA00000003" }
 
 -- a series
-abbrev pub series : StationId → Element → List DayValue → Usable
+abbrev pub series : StationId → Element → List DayValue → Series
 series id e days = record { id = id; element = e; days = days }
 
 -- a query without a region
-abbrev pub ask : ℕ → Score → Option (ℤ × ℤ) → Asked
+abbrev pub ask : ℕ → Score → Option (ℤ × ℤ) → Query
 ask k score period = record (top k score) { period = period }
 
 -- a query of some months
-abbrev pub ask_in : ℕ → Score → ℕ × ℕ → Asked
+abbrev pub ask_in : ℕ → Score → ℕ × ℕ → Query
 ask_in k score season = record (top k score) { season = Months season.0 season.1 }
 
 -- a query of some days of each year, from a first to a last day of the year 2000
-abbrev pub ask_days : ℕ → Score → ℕ → ℕ → Asked
+abbrev pub ask_days : ℕ → Score → ℕ → ℕ → Query
 ask_days k score first last = record (top k score) { season = Dates (pos first) (pos last) }
 
 -- a candidate
@@ -118,12 +118,12 @@ unfolding run_from
 hot_spells = refl
 
 -- frost of one station, of which the third day isn't below -10 degrees, and of another over a leap day
-abbrev pub frost_a : Usable
+abbrev pub frost_a : Series
 frost_a = series id_a Tmin ((pos 18262, neg_ℤ (pos 100)) ∷ (pos 18263, neg_ℤ (pos 105)) ∷
     (pos 18264, neg_ℤ (pos 99)) ∷ (pos 18265, neg_ℤ (pos 110)) ∷ [])
 
 -- 2020-02-29 is day 18321
-abbrev pub frost_b : Usable
+abbrev pub frost_b : Series
 frost_b = series id_b Tmin ((pos 18321, neg_ℤ (pos 150)) ∷ (pos 18322, neg_ℤ (pos 120)) ∷ [])
 
 -- spells of -10 degrees and less
@@ -237,7 +237,7 @@ station_before_day :
 station_before_day = refl
 
 -- rain and heat of one station
-abbrev pub rain_and_heat : Contents
+abbrev pub rain_and_heat : Data
 rain_and_heat = record {
   stations = [];
   series = series id_a Prcp rain ∷ series id_a Tmax ((pos 18444, pos 311) ∷ []) ∷ [];

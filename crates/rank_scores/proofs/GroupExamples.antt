@@ -4,12 +4,12 @@ use Rattle.std.specs.Prelude.{pos, neg_ℤ}
 use Rattle.ghcn_files.specs.declared.element.Element.TheVariants.{Tmax, Tmin, Prcp}
 use Rattle.ghcn_fields.specs.Meaning.Dates.{year_and_rest, month_and_day}
 use Rattle.jiff_core.specs.Calendar.{days_from_civil, day_count, days_of_years, days_of_months}
-use Rattle.ghcn_series.specs.Meaning.Series.{Usable}
+use Rattle.ghcn_series.specs.Meaning.Series.{Series}
 use Rattle.rank_query.specs.declared.per.Per.{Per}
 use Rattle.rank_query.specs.declared.per.Per.TheVariants.{Each, Station, Year}
 use Rattle.rank_query.specs.declared.score.Score.TheVariants.{Highest, Wet, Cold}
 use Rattle.rank_query.specs.declared.season.Season.TheVariants.{Months}
-use Rattle.rank_query.specs.Meaning.Asked.{Asked}
+use Rattle.rank_query.specs.Meaning.Asked.{Query}
 use Rattle.rank_query.specs.Asked.{top}
 use Rattle.rank_scores.specs.Runs.{run_from}
 use Rattle.rank_scores.specs.declared.candidate.Candidate.{Candidate}
@@ -20,19 +20,19 @@ use Rattle.rank_scores.specs.Order.{best, kth_score}
 use Rattle.rank_scores.proofs.Examples.{id_a, id_b, id_c, series, found}
 
 -- the hottest days, of each group the best alone
-abbrev hottest : Per → Asked
+abbrev hottest : Per → Query
 hottest per = record (top 3 (Highest Tmax)) { per = per }
 
 -- the heat of three stations: of the first on 2019-07-02, 2020-07-01 and 2021-01-01
-abbrev heat_a : Usable
+abbrev heat_a : Series
 heat_a = series id_a Tmax ((pos 18079, pos 311) ∷ (pos 18444, pos 311) ∷ (pos 18628, pos 70) ∷ [])
 
 -- of the second on 2020-07-01 and the day after
-abbrev heat_b : Usable
+abbrev heat_b : Series
 heat_b = series id_b Tmax ((pos 18444, pos 320) ∷ (pos 18445, pos 318) ∷ [])
 
 -- and of the third on 2020-07-01
-abbrev heat_c : Usable
+abbrev heat_c : Series
 heat_c = series id_c Tmax ((pos 18444, pos 250) ∷ [])
 
 -- all candidates

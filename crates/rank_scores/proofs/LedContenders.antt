@@ -7,10 +7,10 @@ use Rattle.std.specs.declared.cmp.Ordering.TheVariants.{Less}
 use Rattle.std.proofs.lemmas.Int.{ints}
 use Rattle.ghcn_fields.specs.Meaning.Days.{is_day}
 use Rattle.ghcn_files.proofs.Ordered.{each-mapped}
-use Rattle.ghcn_series.specs.Meaning.Series.{Usable}
+use Rattle.ghcn_series.specs.Meaning.Series.{Series}
 use Rattle.ghcn_series.specs.Series.{IsSeries}
 use Rattle.rank_query.specs.declared.per.Per.{Per}
-use Rattle.rank_query.specs.Meaning.Asked.{Asked}
+use Rattle.rank_query.specs.Meaning.Asked.{Query}
 use Rattle.rank_scores.specs.declared.candidate.Candidate.{Candidate}
 use Rattle.rank_scores.specs.declared.leading.Open.{Open}
 use Rattle.rank_scores.specs.Meaning.Candidates.{admitted, shape}
@@ -23,7 +23,7 @@ use Rattle.rank_scores.proofs.Rising.{all-made, from_each}
 use Rattle.rank_scores.proofs.Runs.{admitted-days}
 
 -- contenders begin on days of the calendar
-contenders-days : (q : Asked) (s : Usable) → AllByRecursion (λ c. is_day c.first ≡ true) (contenders q s)
+contenders-days : (q : Query) (s : Series) → AllByRecursion (λ c. is_day c.first ≡ true) (contenders q s)
 contenders-days q s =
     all-made (λ c. is_day c.first ≡ true) (begun_on q s) (admitted q s)
     (from_each (λ x. is_day x.0 ≡ true) (λ x. (c : Candidate) → begun_on q s x ≡ Some c → is_day c.first ≡ true)
@@ -46,13 +46,13 @@ later-from_rise (c ∷ cs) h = (
 )
 
 -- what holds the best of the open group lets go the candidates
-pub groups_led : {S : Type 0} (taken : S → Candidate → S) (q : Asked) (s : Usable) (sink : S) → IsSeries s
+pub groups_led : {S : Type 0} (taken : S → Candidate → S) (q : Query) (s : Series) (sink : S) → IsSeries s
     → let_go taken (fold (held_with q.per taken) (None, sink) (contenders q s)) ≡ fold taken sink (candidates q s)
 groups_led taken q s sink series = leaders_taken q.per taken s.id sink (contenders q s)
     (later-from_rise (contenders q s) (contenders_rise q s series)) (contenders-own q s) (contenders-days q s)
 
 -- from what is held before all contenders and after them
-pub offered-led : {S : Type 0} (taken : S → Candidate → S) (q : Asked) (s : Usable) (per : Per) (sink first after : S)
+pub offered-led : {S : Type 0} (taken : S → Candidate → S) (q : Query) (s : Series) (per : Per) (sink first after : S)
     (none group : Option Open)
     → IsSeries s → per ≡ q.per → none ≡ None → first ≡ sink
     → (group, after) ≡ fold (held_with per taken) (none, first) (contenders q s)

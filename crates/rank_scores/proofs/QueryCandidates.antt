@@ -13,13 +13,13 @@ use Rattle.ghcn_files.specs.Meaning.Listed.{is_station_of}
 use Rattle.ghcn_files.proofs.IdLaws.{same_id-is}
 use Rattle.ghcn_files.proofs.IdOrder.{strictly, sorted-rise}
 use Rattle.ghcn_files.proofs.Ordered.{Descend, each-mapped}
-use Rattle.ghcn_series.specs.Meaning.Series.{Usable}
-use Rattle.ghcn_series.specs.Series.{Contents, IsSeries, series_of, is_series_of}
+use Rattle.ghcn_series.specs.Meaning.Series.{Series}
+use Rattle.ghcn_series.specs.Series.{Data, IsSeries, series_of, is_series_of}
 use Rattle.ghcn_series.specs.DailyFaults.{is_listed}
 use Rattle.ghcn_series.specs.Held.{IsContents}
 use Rattle.ghcn_series.proofs.ListFacts.{each-append, distinct_filter}
 use Rattle.ghcn_series.proofs.Members.{found_in, of_one}
-use Rattle.rank_query.specs.Meaning.Asked.{Asked, score_element}
+use Rattle.rank_query.specs.Meaning.Asked.{Query, score_element}
 use Rattle.rank_query.specs.Admits.{admits_station}
 use Rattle.rank_scores.specs.declared.candidate.Candidate.{Candidate}
 use Rattle.rank_scores.specs.Candidates.{candidates, contenders}
@@ -52,15 +52,15 @@ best-holds P k all h = grind (arith, ints, all-made, each, found-holds)
 -- ---- the candidates of one series
 
 -- the contenders of a series have its ID
-pub contenders-own : (q : Asked) (s : Usable) → AllByRecursion (λ d. d.id ≡ s.id) (contenders q s)
+pub contenders-own : (q : Query) (s : Series) → AllByRecursion (λ d. d.id ≡ s.id) (contenders q s)
 contenders-own q s = grind (arith, ints, all-made, begun_on q s, each, begun_on, made)
 
 -- and so have its candidates
-pub candidates-own : (q : Asked) (s : Usable) → AllByRecursion (λ d. d.id ≡ s.id) (candidates q s)
+pub candidates-own : (q : Query) (s : Series) → AllByRecursion (λ d. d.id ≡ s.id) (candidates q s)
 candidates-own q s = all-filter (λ d. d.id ≡ s.id) _ (contenders q s) (contenders-own q s)
 
 -- what holds of an ID holds of the candidates of the series that have it
-each_candidate : (P : StationId → Type 0) (q : Asked) (ss : List Usable) →
+each_candidate : (P : StationId → Type 0) (q : Query) (ss : List Series) →
     AllByRecursion (λ s. P s.id) ss → AllByRecursion (λ d. P d.id) (flat_map (candidates q) ss)
 each_candidate P q [] h = tt
 each_candidate P q (s ∷ ss) h =
@@ -77,23 +77,23 @@ apart-append id (x ∷ xs) ys own other a b =
 
 -- ---- the series of some stations
 
-module _ (q : Asked) (c : Contents) where
+module _ (q : Query) (c : Data) where
   -- the series of a station, if it has one
-  abbrev pub of_station : Station → Option Usable
+  abbrev pub of_station : Station → Option Series
   of_station st = series_of c st.id (score_element q.score)
 
   -- the series of those of some stations that are admitted
-  abbrev pub series_among : List Station → List Usable
+  abbrev pub series_among : List Station → List Series
   series_among sts = filter_map of_station (filter (admits_station q) sts)
 
   -- the series of a station has the station's ID
-  pub of_station-own : (st : Station) (u : Usable) → of_station st ≡ Some u → u.id ≡ st.id
+  pub of_station-own : (st : Station) (u : Series) → of_station st ≡ Some u → u.id ≡ st.id
   of_station-own st u e =
       same_id-is u.id st.id (and_parts _ _ (found_in (is_series_of st.id (score_element q.score)) c.series u e).1).0
 
   -- what holds of the series of each of some stations holds of all these
-  pub each_among : (P : Usable → Type 0) (sts : List Station) →
-      AllByRecursion (λ st. (u : Usable) → of_station st ≡ Some u → P u) sts → AllByRecursion P (series_among sts)
+  pub each_among : (P : Series → Type 0) (sts : List Station) →
+      AllByRecursion (λ st. (u : Series) → of_station st ≡ Some u → P u) sts → AllByRecursion P (series_among sts)
   each_among P sts h = grind (arith, ints, all-made, all-filter)
 
   -- stations without an ID have no series of it
@@ -122,7 +122,7 @@ module _ (q : Asked) (c : Contents) where
   unfolding IsDistinct
   apart_among right [] d = tt
   apart_among right (st ∷ sts) d =
-      let all : List Usable = series_among sts in
+      let all : List Series = series_among sts in
       let tail : AreApart (flat_map (candidates q) all) = apart_among right sts d.1 in
       cond_both (admits_station q st) (st ∷ filter (admits_station q) sts) (filter (admits_station q) sts)
       (λ (l : List Station). AreApart (flat_map (candidates q) (filter_map of_station l)))
@@ -137,14 +137,14 @@ module _ (q : Asked) (c : Contents) where
 -- ---- the morsels of a query
 
 -- no two belong to one station
-pub morsels_apart : (q : Asked) (c : Contents) → IsContents c
+pub morsels_apart : (q : Query) (c : Data) → IsContents c
     → IsDistinct (λ a b. same_id a.id b.id) (filter (has_admitted q) (admitted_series q c))
 morsels_apart q c right = distinct_filter (λ a b. same_id a.id b.id) (has_admitted q) (admitted_series q c)
     (series_apart q c c.stations right.listed.distinct)
 
 -- and each has an ID before those of all after it
-pub morsels_rise : (q : Asked) (c : Contents) → IsContents c
-    → Descend (λ a b. strictly (λ (s : Usable). s.id) a b ≡ true) (morsels q c)
+pub morsels_rise : (q : Query) (c : Data) → IsContents c
+    → Descend (λ a b. strictly (λ (s : Series). s.id) a b ≡ true) (morsels q c)
 morsels_rise q c right = sorted-rise (λ s. s.id) (filter (has_admitted q) (admitted_series q c))
     (morsels_apart q c right)
 
@@ -160,7 +160,7 @@ all_listed q c right =
     let IsFound : StationId → Type 0 = λ id. IsTrue (is_some (find (is_station_of id) c.stations)) in
     each_candidate IsFound q (series_among q c c.stations)
     (each_among q c (λ u. IsFound u.id) c.stations
-    (each (λ st. (u : Usable) → of_station q c st ≡ Some u → IsFound u.id) c.stations
+    (each (λ st. (u : Series) → of_station q c st ≡ Some u → IsFound u.id) c.stations
     (λ st u e. any_found (is_station_of u.id) c.stations ∙ found-holds (λ v. is_listed c.stations v.id ≡ true)
     (is_series_of st.id (score_element q.score)) c.series u right.series.listed e)))
 

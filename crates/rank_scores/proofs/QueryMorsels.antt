@@ -5,11 +5,11 @@ use Rattle.std.specs.Prelude.{◌==◌}
 use Rattle.std.specs.List.{find, filter_map, flat_map, AllByRecursion}
 use Rattle.std.proofs.lemmas.Grind.{common_steps}
 use Rattle.ghcn_files.specs.declared.station.Station.{Station}
-use Rattle.ghcn_series.specs.Meaning.Series.{Usable, DayValue}
-use Rattle.ghcn_series.specs.Series.{Contents, IsSeries, series_of, is_series_of}
+use Rattle.ghcn_series.specs.Meaning.Series.{Series, DayValue}
+use Rattle.ghcn_series.specs.Series.{Data, IsSeries, series_of, is_series_of}
 use Rattle.ghcn_series.specs.Held.{IsContents}
 use Rattle.ghcn_series.proofs.Members.{found_in}
-use Rattle.rank_query.specs.Meaning.Asked.{Asked, score_element}
+use Rattle.rank_query.specs.Meaning.Asked.{Query, score_element}
 use Rattle.rank_scores.specs.declared.candidate.Candidate.{Candidate}
 use Rattle.rank_scores.specs.Candidates.{candidates}
 use Rattle.rank_scores.specs.Morsels.{admitted_series, has_admitted, morsel_at, IsAskedOf}
@@ -25,7 +25,7 @@ none_from : (f : DayValue → Option Candidate) (xs : List DayValue) → not (le
 none_from f xs e = grind (arith, common_steps)
 
 -- series without an admitted day have no candidates
-pub asked_alone : (q : Asked) (ss : List Usable) → flat_map (candidates q) (filter (has_admitted q) ss)
+pub asked_alone : (q : Query) (ss : List Series) → flat_map (candidates q) (filter (has_admitted q) ss)
     ≡ flat_map (candidates q) ss
 asked_alone q [] = refl
 asked_alone q (s ∷ ss) = grind (arith, none_from, asked_alone q ss)
@@ -36,7 +36,7 @@ all_passing : {X : Type 0} (R : X → Type 0) (t : X → Bool) (xs : List X)
 all_passing R t [] h = tt
 all_passing R t (x ∷ xs) h = grind (arith, all_passing R t xs h.1)
 
-module _ (q : Asked) (c : Contents) where
+module _ (q : Query) (c : Data) where
   -- the morsels station by station are the series with an admitted day
   pub by_station : (sts : List Station) → filter_map (morsel_at q c) sts
       ≡ filter (has_admitted q) (series_among q c sts)
@@ -44,7 +44,7 @@ module _ (q : Asked) (c : Contents) where
   by_station (st ∷ sts) = grind (arith, by_station sts)
 
   -- a station's series with an admitted day is one that the query asks about
-  pub asked_of : (st : Station) (u : Usable) → series_of c st.id (score_element q.score) ≡ Some u → IsSeries u
+  pub asked_of : (st : Station) (u : Series) → series_of c st.id (score_element q.score) ≡ Some u → IsSeries u
       → has_admitted q u ≡ true → IsAskedOf q u
   asked_of st u e right has = grind (arith, passes)
 

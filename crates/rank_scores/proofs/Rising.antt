@@ -12,9 +12,9 @@ use Rattle.std.proofs.lemmas.Int.{ints}
 pub use Rattle.ghcn_files.proofs.Ordered.{each-map}
 pub use Rattle.ghcn_files.proofs.Among.{each-weaker as from_each}
 pub use Rattle.ghcn_series.proofs.ListFacts.{all-filter}
-use Rattle.ghcn_series.specs.Meaning.Series.{DayValue, Usable, value_on}
+use Rattle.ghcn_series.specs.Meaning.Series.{DayValue, Series, value_on}
 use Rattle.ghcn_series.specs.Series.{IsSeries, is_by_day}
-use Rattle.rank_query.specs.Meaning.Asked.{Asked}
+use Rattle.rank_query.specs.Meaning.Asked.{Query}
 use Rattle.rank_query.specs.Meaning.Admits.{admits_day}
 use Rattle.rank_scores.specs.declared.candidate.Candidate.{Candidate}
 use Rattle.rank_scores.specs.Meaning.Candidates.{admitted}
@@ -62,7 +62,7 @@ rise-filter t [] h = tt
 rise-filter t (x ∷ xs) h = grind (arith, ints, cond_both, all-filter, rise-filter t xs h.1)
 
 -- the admitted days of a series rise
-pub admitted-rise : (q : Asked) (s : Usable) → IsSeries s → Rise (admitted q s)
+pub admitted-rise : (q : Query) (s : Series) → IsSeries s → Rise (admitted q s)
 admitted-rise q s series = rise-filter (λ x. admits_day q x.0) s.days (rise-from_by_day s.days series.by_day)
 
 -- ---- look-ups

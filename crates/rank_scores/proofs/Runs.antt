@@ -8,7 +8,7 @@ use Rattle.std.proofs.lemmas.List.Elements.{recursion_from_All, filter_passes}
 use Rattle.std.proofs.lemmas.Int.{ints}
 use Rattle.ghcn_fields.specs.Meaning.Days.{first_day, last_day, is_day}
 use Rattle.ghcn_series.specs.Meaning.Series.{DayValue, value_on}
-use Rattle.rank_query.specs.Meaning.Asked.{Asked}
+use Rattle.rank_query.specs.Meaning.Asked.{Query}
 use Rattle.rank_scores.specs.Runs.{run_from, calendar_len}
 use Rattle.rank_scores.specs.Meaning.Candidates.{is_such}
 use Rattle.rank_scores.specs.Stretches.{admitted_among}
@@ -65,7 +65,7 @@ pub day-bounds : (d : ℤ) → is_day d ≡ true → (first_day ≤ℤ d) × (d 
 day-bounds d e = (grind (arith, ints), grind (arith, ints))
 
 -- admitted days are days of the calendar
-pub admitted-days : (q : Asked) (days : List DayValue) → AreDays (admitted_among q days)
+pub admitted-days : (q : Query) (days : List DayValue) → AreDays (admitted_among q days)
 admitted-days q days = grind (arith, ints, from_each, and_parts, recursion_from_All, filter_passes)
 
 -- a day that isn't in the calendar has no value

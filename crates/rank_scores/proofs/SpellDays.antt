@@ -13,9 +13,9 @@ use Rattle.std.proofs.lemmas.Int.{ints, by_lt_z}
 use Rattle.ghcn_fields.specs.Meaning.Days.{first_day, is_day}
 use Rattle.ghcn_files.specs.declared.station.StationId.{StationId}
 use Rattle.ghcn_series.specs.Packed.{AreInARow}
-use Rattle.ghcn_series.specs.Meaning.Series.{DayValue, Usable}
+use Rattle.ghcn_series.specs.Meaning.Series.{DayValue, Series}
 use Rattle.ghcn_series.specs.Series.{IsSeries}
-use Rattle.rank_query.specs.Meaning.Asked.{Asked}
+use Rattle.rank_query.specs.Meaning.Asked.{Query}
 use Rattle.rank_scores.specs.declared.candidate.Candidate.{Candidate}
 use Rattle.rank_scores.specs.Runs.{begins_run}
 use Rattle.rank_scores.specs.Meaning.Candidates.{Spells, admitted, is_such}
@@ -149,7 +149,7 @@ module _ (id : StationId) (test : ℤ → Bool) (days : List DayValue) (cal : Ar
       (value_on-other y ys d (λ e. omega (arith, ints, lt, e))))) run state
 
 -- what is offered of a series is its spells
-pub offered-all : (id : StationId) (test : ℤ → Bool) (q : Asked) (s : Usable) → IsSeries s
+pub offered-all : (id : StationId) (test : ℤ → Bool) (q : Query) (s : Series) → IsSeries s
     → offered id test None (admitted q s) ≡ contenders_among id (Spells test) (admitted q s)
 offered-all id test q s series =
     let days : List DayValue = admitted q s in
@@ -250,7 +250,7 @@ offered-anew id run first last (x ∷ xs) rest some in_row on =
     ∙ ap (λ (d : ℤ). offered_of_kind id (Some (d, last)) rest) in_row.0))
 
 -- what is offered of a series as days of the kind come is its spells
-pub offered-spells : (id : StationId) (test : ℤ → Bool) (q : Asked) (s : Usable) → IsSeries s
+pub offered-spells : (id : StationId) (test : ℤ → Bool) (q : Query) (s : Series) → IsSeries s
     → offered_of_kind id None (filter (λ x. test x.1) (admitted q s)) ≡ contenders_among id (Spells test) (admitted q s)
 offered-spells id test q s series =
     sym (offered-kept id test None (admitted q s) (admitted-rise q s series) tt) ∙ offered-all id test q s series

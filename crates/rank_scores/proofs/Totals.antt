@@ -11,9 +11,9 @@ use Rattle.std.proofs.lemmas.Int.{ints}
 use Rattle.std.proofs.lemmas.List.Elements.{recursion_from_All, filter_passes}
 use Rattle.ghcn_fields.specs.Meaning.Days.{is_day}
 use Rattle.ghcn_files.specs.declared.element.Element.{Element}
-use Rattle.ghcn_series.specs.Meaning.Series.{DayValue, Usable}
+use Rattle.ghcn_series.specs.Meaning.Series.{DayValue, Series}
 use Rattle.ghcn_series.specs.Series.{IsSeries, is_value}
-use Rattle.rank_query.specs.Meaning.Asked.{Asked}
+use Rattle.rank_query.specs.Meaning.Asked.{Query}
 use Rattle.rank_scores.specs.Meaning.Candidates.{admitted, days_within, sum_of_values}
 use Rattle.rank_scores.specs.Candidates.{plus, window_total}
 use Rattle.rank_scores.proofs.Rising.{Rise, rise-filter, all-filter, from_each, from_both, find-filter}
@@ -202,5 +202,5 @@ series-small e (x ∷ xs) h =
     (value-small e x all.0, series-small e xs all.1)
 
 -- and so are those of its admitted days
-pub admitted-small : (q : Asked) (s : Usable) → IsSeries s → AllByRecursion (λ x. IsSmall x.1) (admitted q s)
+pub admitted-small : (q : Query) (s : Series) → IsSeries s → AllByRecursion (λ x. IsSmall x.1) (admitted q s)
 admitted-small q s series = grind (arith, ints, all-filter, series-small s.element s.days series.values)

@@ -10,9 +10,9 @@ use Rattle.std.proofs.lemmas.Bool.Decides.{Decides-int_eq}
 use Rattle.std.proofs.lemmas.Int.{ints}
 use Rattle.std.proofs.lemmas.List.{get_or-set_same, get_or-set_other, get_or-drop, drop-drop}
 use Rattle.ghcn_files.specs.declared.station.StationId.{StationId}
-use Rattle.ghcn_series.specs.Meaning.Series.{DayValue, Usable}
+use Rattle.ghcn_series.specs.Meaning.Series.{DayValue, Series}
 use Rattle.ghcn_series.specs.Series.{IsSeries}
-use Rattle.rank_query.specs.Meaning.Asked.{Asked}
+use Rattle.rank_query.specs.Meaning.Asked.{Query}
 use Rattle.rank_scores.specs.declared.candidate.Candidate.{Candidate}
 use Rattle.rank_scores.specs.declared.window.Window.{Window}
 use Rattle.rank_scores.specs.Meaning.Candidates.{Windows, admitted}
@@ -96,7 +96,7 @@ pub record IsAt (ring : List ℤ) (w : Window) (days : List DayValue) (next : �
 
 -- what has taken some windows, and takes those of these days too, is as what takes those of all admitted days; the
 -- window has the first of these days, and isn't whole
-abbrev pub IsScanned : {K : Type 0} → (K → Candidate → K) → K → K → StationId → ℕ → Asked → Usable → List ℤ → Window
+abbrev pub IsScanned : {K : Type 0} → (K → Candidate → K) → K → K → StationId → ℕ → Query → Series → List ℤ → Window
     → ℤ → List DayValue → Type 0
 IsScanned taken some none id n q s ring w next rest = record {
   days : List DayValue;
@@ -106,7 +106,7 @@ IsScanned taken some none id n q s ring w next rest = record {
 }
 
 -- at first the window has no day
-pub at_first : (q : Asked) (s : Usable) (ring : List ℤ) (left : List DayValue) → IsSeries s → length ring ≡ 512
+pub at_first : (q : Query) (s : Series) (ring : List ℤ) (left : List DayValue) → IsSeries s → length ring ≡ 512
     → left ≡ admitted q s → IsAt ring record { first = 0; len = 0; total = pos 0 } (admitted q s) (pos 0) left
 at_first q s ring left series places same = record {
   first = pos 0;

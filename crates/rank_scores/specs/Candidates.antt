@@ -6,8 +6,8 @@ use Rattle.std.specs.List.Sorted.{IsStrictlySortedBy}
 use Rattle.std.specs.Option.{option_map}
 use Rattle.std.specs.Ordering.{int_cmp}
 use Rattle.ghcn_files.specs.declared.station.StationId.{StationId}
-use Rattle.ghcn_series.specs.Meaning.Series.{DayValue, Usable, value_on}
-use Rattle.rank_query.specs.Meaning.Asked.{Asked}
+use Rattle.ghcn_series.specs.Meaning.Series.{DayValue, Series, value_on}
+use Rattle.rank_query.specs.Meaning.Asked.{Query}
 use Rattle.rank_scores.specs.declared.candidate.Candidate.{Candidate}
 use Rattle.rank_scores.specs.declared.spell.Spell.{Spell}
 use Rattle.rank_scores.specs.declared.spell.Spell.TheVariants as spells
@@ -53,19 +53,19 @@ abbrev pub contenders_among : StationId → Shape → List DayValue → List Can
 contenders_among id sh days = filter_map (λ x. option_map (candidate id x.0) (begun sh days x)) days
 
 -- the contenders of a series, its station taken as admitted
-abbrev pub contenders : Asked → Usable → List Candidate
+abbrev pub contenders : Query → Series → List Candidate
 contenders q s = contenders_among s.id (shape q.score) (admitted q s)
 
 -- the candidates of a series, its station taken as admitted: contenders that no rival precedes
-abbrev pub candidates : Asked → Usable → List Candidate
+abbrev pub candidates : Query → Series → List Candidate
 candidates q s = leaders q.per (contenders q s)
 
 -- the list has the contenders of the series, and nothing else
-abbrev pub AreTheContenders : Asked → Usable → List Candidate → Type 0
+abbrev pub AreTheContenders : Query → Series → List Candidate → Type 0
 AreTheContenders q s list = (c : Candidate) → Contains list c ↔ IsContenderOf q s c
 
 -- the list has the candidates of the series, and nothing else
-abbrev pub AreTheCandidates : Asked → Usable → List Candidate → Type 0
+abbrev pub AreTheCandidates : Query → Series → List Candidate → Type 0
 AreTheCandidates q s list = (c : Candidate) → Contains list c ↔ IsCandidateOf q s c
 
 -- each begins on a later day than those before it

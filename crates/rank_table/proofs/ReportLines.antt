@@ -4,7 +4,7 @@ use Rattle.std.proofs.Common.{append_assoc, length-append, arith}
 use Rattle.std.specs.Prelude.{nat_eq}
 use Rattle.std.specs.List.{enumerate_from, flat_map, join_with_byte}
 use Rattle.std.proofs.lemmas.Bool.Decides.{nat_tests}
-use Rattle.rank_query.specs.Meaning.Asked.{Asked}
+use Rattle.rank_query.specs.Meaning.Asked.{Query}
 use Rattle.rank_papers.specs.Meaning.Report.{end_fields, query_line, report_text, row_fields, text_line}
 use Rattle.rank_papers.specs.Report.{Named}
 use Rattle.rank_papers.specs.ReportLines.{Reported, IsReported, report_end, reported_lines, row_line}
@@ -23,7 +23,7 @@ digit_is_other [] digit = absurd cc
 digit_is_other (b ∷ line) digit = let other : nat_eq 101 b ≡ false = grind (arith, nat_tests) in cc
 
 -- so no row's line does
-rows_have_none : (q : Asked) (n : ℕ) (rows : List Named) → HaveNoLast (lines_of q n rows)
+rows_have_none : (q : Query) (n : ℕ) (rows : List Named) → HaveNoLast (lines_of q n rows)
 rows_have_none q n [] = tt
 rows_have_none q n (row ∷ rows) =
     (digit_is_other (row_line q (suc n) row) (row_starts q (suc n) row), rows_have_none q (suc n) rows)

@@ -10,7 +10,7 @@ use Rattle.ghcn_files.specs.declared.station.Station.{Station}
 use Rattle.ghcn_files.specs.declared.station.StationId.{StationId}
 use Rattle.ghcn_files.specs.Meaning.Listed.{is_station_of}
 use Rattle.rank_query.specs.declared.score.Score.{Score}
-use Rattle.rank_query.specs.Meaning.Asked.{Asked}
+use Rattle.rank_query.specs.Meaning.Asked.{Query}
 use Rattle.rank_query.specs.Meaning.QueryTexts.{query_text}
 use Rattle.rank_papers.specs.Meaning.Values.{measure_of_score, value_of, value_text, unit_text}
 use Rattle.rank_papers.specs.Report.{Named}
@@ -24,7 +24,7 @@ use Rattle.rank_table.specs.Reports.{Placed}
 pub record PlacedRow : Type 0 where
   pub file : ℕ
   pub line : ℕ
-  pub query : Asked
+  pub query : Query
   pub rank : ℕ
   pub row : Named
 

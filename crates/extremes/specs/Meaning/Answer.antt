@@ -4,7 +4,7 @@ use Rattle.std.specs.List.{count_by, flat_map}
 use Rattle.ghcn_fields.specs.Meaning.Lines.{lines}
 use Rattle.ghcn_files.specs.declared.station.Station.{Station}
 use Rattle.ghcn_series.specs.Meaning.Said.{SaysStations, is_unlisted}
-use Rattle.rank_query.specs.Meaning.Asked.{Asked}
+use Rattle.rank_query.specs.Meaning.Asked.{Query}
 use Rattle.rank_query.specs.Meaning.Asks.{Asks}
 use Rattle.rank_scores.specs.declared.candidate.Candidate.{Candidate}
 use Rattle.rank_papers.specs.Meaning.Report.{IsReportOfBest}
@@ -15,7 +15,7 @@ use Rattle.extremes.specs.declared.papers.Papers.{Papers}
 -- what its daily files say of these, there is a list of the best. The report is that of this list, the certificate, of
 -- version 2, is right for it, and the lines of unlisted stations are counted, up to 2^64 - 1.
 pub record Answers (query stations : List ℕ) (files : List (List ℕ)) (papers : Papers) : Type 0 where
-  pub asked : Asked
+  pub asked : Query
   pub asks : Asks query asked
   pub list : List Station
   pub lists : SaysStations stations list

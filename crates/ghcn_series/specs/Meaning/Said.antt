@@ -13,7 +13,7 @@ use Rattle.ghcn_files.specs.declared.station.Station.{Station}
 use Rattle.ghcn_files.specs.Meaning.Elements.{code_of, elements, may_be_negative}
 use Rattle.ghcn_files.specs.Meaning.StationLines.{printable}
 use Rattle.ghcn_series.specs.Meaning.Says.{Fact}
-use Rattle.ghcn_series.specs.Meaning.Series.{Usable}
+use Rattle.ghcn_series.specs.Meaning.Series.{Series}
 
 -- ---- the station list
 
@@ -65,7 +65,7 @@ is_unlisted stations line =
 
 -- a series is made of facts: it has a day, its days and values are those of the facts of its station and element, in
 -- order of day, each day once
-pub record IsMadeOf (IsFact : Fact → Type 0) (s : Usable) : Type 0 where
+pub record IsMadeOf (IsFact : Fact → Type 0) (s : Series) : Type 0 where
   pub some : 0 < length s.days
   pub are : (day value : ℤ) → Contains s.days (day, value)
       ↔ IsFact (record { id = s.id; element = s.element; day = day; value = value })

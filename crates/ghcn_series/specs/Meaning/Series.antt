@@ -11,7 +11,7 @@ abbrev pub DayValue : Type 0
 DayValue = ℤ × ℤ
 
 -- a series: the usable days of one station and one element, each with its value, in order of day
-pub record Usable : Type 0 where
+pub record Series : Type 0 where
   pub id : StationId
   pub element : Element
   pub days : List DayValue

@@ -6,7 +6,7 @@ use Rattle.std.specs.Fmt.{decimal}
 use Rattle.ghcn_fields.specs.Meaning.Dates.{date_text}
 use Rattle.ghcn_files.specs.declared.station.Station.{Station}
 use Rattle.ghcn_files.specs.Meaning.Listed.{is_station_of}
-use Rattle.rank_query.specs.Meaning.Asked.{Asked}
+use Rattle.rank_query.specs.Meaning.Asked.{Query}
 use Rattle.rank_query.specs.Meaning.QueryTexts.{query_text}
 use Rattle.rank_scores.specs.declared.candidate.Candidate.{Candidate}
 use Rattle.rank_papers.specs.Meaning.Values.{measure_of_score, value_of, value_text, unit_text}
@@ -27,7 +27,7 @@ field_unless_empty [] = []
 field_unless_empty (b ∷ bytes) = (b ∷ bytes) ∷ []
 
 -- the fields of a row: its rank, from 1, its candidate, with the value of the score and the unit, and a name
-abbrev pub row_fields : Asked → ℕ × (Candidate × List ℕ) → List (List ℕ)
+abbrev pub row_fields : Query → ℕ × (Candidate × List ℕ) → List (List ℕ)
 row_fields q row =
     let candidate = row.1.0 in
     let measure = measure_of_score q.score in
@@ -41,11 +41,11 @@ end_fields k n = codes "end" ∷ decimal n ∷ (if nat_lt n k then codes "all" �
 -- ---- the text
 
 -- the line of a query
-abbrev pub query_line : Asked → List ℕ
+abbrev pub query_line : Query → List ℕ
 query_line q = text_line (codes "query" ∷ query_text q ∷ [])
 
 -- the text of a report with these rows, ranked from 1
-abbrev pub report_text : Asked → List (Candidate × List ℕ) → List ℕ
+abbrev pub report_text : Query → List (Candidate × List ℕ) → List ℕ
 report_text q rows =
     text_line (codes "extremes report 1" ∷ [])
     ++ query_line q
@@ -55,7 +55,7 @@ report_text q rows =
 -- ---- whose rows are right
 
 -- the report of a query with these best candidates: a row for each, with its listed station
-pub record IsReportOfBest (q : Asked) (stations : List Station) (candidates : List Candidate) (bytes : List ℕ)
+pub record IsReportOfBest (q : Query) (stations : List Station) (candidates : List Candidate) (bytes : List ℕ)
     : Type 0 where
   pub rows : List (Candidate × Station)
   pub best : map (λ row. row.0) rows ≡ candidates

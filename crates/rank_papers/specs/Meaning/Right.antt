@@ -11,9 +11,9 @@ use Rattle.std.specs.Cmp.Lexicographic.{slice_cmp}
 use Rattle.std.specs.declared.cmp.Ordering.TheVariants.{Less}
 use Rattle.ghcn_files.specs.declared.station.Station.{Station}
 use Rattle.ghcn_files.specs.Meaning.Ids.{same_id}
-use Rattle.ghcn_series.specs.Meaning.Series.{Usable}
+use Rattle.ghcn_series.specs.Meaning.Series.{Series}
 use Rattle.ghcn_series.specs.Meaning.Said.{IsMadeOf, IsSaid}
-use Rattle.rank_query.specs.Meaning.Asked.{Asked, score_element}
+use Rattle.rank_query.specs.Meaning.Asked.{Query, score_element}
 use Rattle.rank_query.specs.Meaning.Admits.{region_holds}
 use Rattle.rank_scores.specs.declared.candidate.Candidate.{Candidate}
 use Rattle.rank_scores.specs.Meaning.Candidates.{admitted, IsCandidateOf}
@@ -24,19 +24,19 @@ use Rattle.rank_papers.specs.Meaning.Certificate.{title_line, kth_line, entry_li
 
 -- s is a series of the query's element and of an admitted station of the list, and is made of what the daily files say
 -- of them; it may have no admitted day
-pub record IsAdmittedSeries (q : Asked) (stations : List Station) (files : List (List ℕ)) (s : Usable) : Type 0 where
+pub record IsAdmittedSeries (q : Query) (stations : List Station) (files : List (List ℕ)) (s : Series) : Type 0 where
   pub station : (st : Station) × Contains stations st × (st.id ≡ s.id) × (region_holds q.region st ≡ true)
   pub of_element : s.element ≡ score_element q.score
   pub made : IsMadeOf (IsSaid files) s
 
 -- x is a candidate of the query, in one of the series of which `IsOne` is true
-abbrev pub IsOfQuery : Asked → (Usable → Type 0) → Candidate → Type 0
-IsOfQuery q IsOne x = (s : Usable) × IsOne s × IsCandidateOf q s x
+abbrev pub IsOfQuery : Query → (Series → Type 0) → Candidate → Type 0
+IsOfQuery q IsOne x = (s : Series) × IsOne s × IsCandidateOf q s x
 
 -- these are the best candidates of a query in the series of which `IsOne` is true: at most k, each before all those
 -- after it. A candidate that isn't among them comes after all of them, and then there are k of them. So no two of them
 -- tie.
-pub record AreBest (q : Asked) (IsOne : Usable → Type 0) (best : List Candidate) : Type 0 where
+pub record AreBest (q : Query) (IsOne : Series → Type 0) (best : List Candidate) : Type 0 where
   pub few : length best ≤ q.k
   pub of_query : AllByRecursion (IsOfQuery q IsOne) best
   pub order : IsStrictlySortedBy rank_cmp best
@@ -45,13 +45,13 @@ pub record AreBest (q : Asked) (IsOne : Usable → Type 0) (best : List Candidat
 
 -- these are the series of the query, by increasing ID: of those of which `IsOne` is true, all that have a day that the
 -- query admits, and no others
-pub record AreSeriesOf (q : Asked) (IsOne : Usable → Type 0) (series : List Usable) : Type 0 where
-  pub are : (s : Usable) → Contains series s ↔ (IsOne s × (0 < length (admitted q s)))
+pub record AreSeriesOf (q : Query) (IsOne : Series → Type 0) (series : List Series) : Type 0 where
+  pub are : (s : Series) → Contains series s ↔ (IsOne s × (0 < length (admitted q s)))
   pub by_id : IsStrictlySortedBy (on (λ s. s.id.0) (slice_cmp nat_cmp)) series
 
 -- an entry is true of a series: it names it, no candidate of the series has a score above the bound, and it is skipped
 -- only if there is a k-th score and the bound is strictly below it
-pub record IsTrueEntry (q : Asked) (kth : Option ℤ) (e : Line) (s : Usable) : Type 0 where
+pub record IsTrueEntry (q : Query) (kth : Option ℤ) (e : Line) (s : Series) : Type 0 where
   pub named : e.id ≡ s.id
   pub above : (c : Candidate) → IsCandidateOf q s c → c.score ≤ℤ e.bound
   pub fits : FitsSigned w64 e.bound
@@ -60,12 +60,12 @@ pub record IsTrueEntry (q : Asked) (kth : Option ℤ) (e : Line) (s : Usable) : 
 -- a right certificate of a version for these best candidates, whatever its bounds and skips: it has the query, the score
 -- of the k-th of the best or none, a true entry for each series of the query, and in version 2, if a series wasn't
 -- skipped, how many of the best belong to it
-pub record IsCertificateOfBest (version : ℕ) (q : Asked) (IsOne : Usable → Type 0) (best : List Candidate) (bytes : List ℕ)
+pub record IsCertificateOfBest (version : ℕ) (q : Query) (IsOne : Series → Type 0) (best : List Candidate) (bytes : List ℕ)
     : Type 0 where
   pub known : (version ≡ 1) ⊎ (version ≡ 2)
   pub kth : Option ℤ
   pub of_last : kth ≡ option_map (λ x. x.score) (slice_get best (q.k - 1))
-  pub series : List Usable
+  pub series : List Series
   pub all : AreSeriesOf q IsOne series
   pub entries : List Line
   pub right : AllZip (IsTrueEntry q kth) entries series

@@ -11,7 +11,7 @@ use Rattle.rank_query.specs.declared.region.Region.{Region}
 use Rattle.rank_query.specs.declared.region.Region.TheVariants.{Everywhere, Inside, Country, State, Only}
 use Rattle.rank_query.specs.declared.season.Season.{Season}
 use Rattle.rank_query.specs.declared.season.Season.TheVariants.{AllYear, Months, Dates}
-use Rattle.rank_query.specs.Meaning.Asked.{Asked}
+use Rattle.rank_query.specs.Meaning.Asked.{Query}
 
 -- a number lies from a first to a last edge, edges included: a longitude from west to east, or a month or a day in a
 -- year. If the first edge is greater, the range goes over the date line or the turn of the year: the number lies from the
@@ -45,5 +45,5 @@ season_holds (Months first last) day = is_between_edges (pos first) (pos last) (
 season_holds (Dates first last) day = is_between_edges first last (in_2000 day)
 
 -- the query admits the day: it is in the years 1 to 9999, and the period and the season hold it
-abbrev pub admits_day : Asked → ℤ → Bool
+abbrev pub admits_day : Query → ℤ → Bool
 admits_day q day = is_day day && period_holds q.period day && season_holds q.season day

@@ -18,7 +18,7 @@ use Rattle.rank_query.specs.declared.season.Season.TheVariants.{AllYear, Months,
 -- what a query asks for: the k best by a score, of the stations of a region, over the days that lie in a season of each
 -- year and in a period, which is a first and a last day. If there is no period, the days of all years count. `per` says
 -- of which groups only the best counts.
-pub record Asked : Type 0 where
+pub record Query : Type 0 where
   pub k : ℕ
   pub score : Score
   pub region : Region
@@ -92,7 +92,7 @@ is_period None = true
 is_period (Some p) = is_day p.0 && is_day p.1 && int_le p.0 p.1
 
 -- a query can be asked: its k is from 1 to 1000, and its score, region, season and period can be asked for
-pub record IsAsked (q : Asked) : Type 0 where
+pub record IsAsked (q : Query) : Type 0 where
   pub k : IsTrue (is_within 1 1000 q.k)
   pub score : IsTrue (is_score q.score)
   pub region : IsTrue (is_region q.region)

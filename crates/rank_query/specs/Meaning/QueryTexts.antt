@@ -13,7 +13,7 @@ use Rattle.rank_query.specs.declared.per.Per.{Per}
 use Rattle.rank_query.specs.declared.per.Per.TheVariants.{Each, Station, Year}
 use Rattle.rank_query.specs.declared.season.Season.{Season}
 use Rattle.rank_query.specs.declared.season.Season.TheVariants.{AllYear, Months, Dates}
-use Rattle.rank_query.specs.Meaning.Asked.{Asked}
+use Rattle.rank_query.specs.Meaning.Asked.{Query}
 
 -- a word of a query: these very bytes; or a number, which has several spellings: a count of rows or days, tenths of a
 -- degree, or ten-thousandths of a degree at an edge of a box; or the numbers of a first and a last month
@@ -66,7 +66,7 @@ per_words Station = Exactly (codes "per") ∷ Exactly (codes "station") ∷ []
 per_words Year = Exactly (codes "per") ∷ Exactly (codes "year") ∷ []
 
 -- the words of a query
-abbrev pub query_words : Asked → List QueryWord
+abbrev pub query_words : Query → List QueryWord
 query_words q =
     Exactly (codes "top") ∷ Count q.k ∷ score_words q.score ++ region_words q.region ++ season_words q.season
     ++ period_words q.period ++ per_words q.per
@@ -80,5 +80,5 @@ word_text (Edge z) = four_places z
 word_text (TwoMonths first last) = decimal first ++ 46 ∷ 46 ∷ decimal last
 
 -- the canonical text of a query
-abbrev pub query_text : Asked → List ℕ
+abbrev pub query_text : Query → List ℕ
 query_text q = join_with_byte 32 (map word_text (query_words q))

@@ -2,10 +2,10 @@
 use Rattle.std.specs.Prelude.{◌≡◌, ℕ, Bool, true, false, ◌&&◌, List, [], ◌∷◌, length, filter, Some, ℤ, pos, neg_ℤ, ◌+ℤ◌}
 use Rattle.std.specs.Prelude.{int_le, int_lt}
 use Rattle.std.specs.Option.{option_map_or}
-use Rattle.ghcn_series.specs.Meaning.Series.{DayValue, Usable, value_on}
+use Rattle.ghcn_series.specs.Meaning.Series.{DayValue, Series, value_on}
 use Rattle.rank_query.specs.declared.score.Score.{Score}
 use Rattle.rank_query.specs.declared.score.Score.TheVariants.{Highest, Lowest, Sum, Dry, Wet, Hot, Cold}
-use Rattle.rank_query.specs.Meaning.Asked.{Asked}
+use Rattle.rank_query.specs.Meaning.Asked.{Query}
 use Rattle.rank_query.specs.Meaning.Admits.{admits_day}
 use Rattle.rank_scores.specs.declared.candidate.Candidate.{Candidate}
 use Rattle.rank_scores.specs.Meaning.Order.{precedes}
@@ -31,7 +31,7 @@ shape (Hot t) = Spells (λ v. int_le t v)
 shape (Cold t) = Spells (λ v. int_le v t)
 
 -- the admitted usable days of a series, with their values
-abbrev pub admitted : Asked → Usable → List DayValue
+abbrev pub admitted : Query → Series → List DayValue
 admitted q s = filter (λ x. admits_day q x.0) s.days
 
 -- those of some days that lie from a first to a last one
@@ -62,10 +62,10 @@ IsContender (Spells test) days first last score =
     (len : ℕ) × (score ≡ pos len) × IsRun (is_such test days) first last len
 
 -- c belongs to the station of the series, and is a contender from its first to its last day with its score
-abbrev pub IsContenderOf : Asked → Usable → Candidate → Type 0
+abbrev pub IsContenderOf : Query → Series → Candidate → Type 0
 IsContenderOf q s c = (c.id ≡ s.id) × IsContender (shape q.score) (admitted q s) c.first c.last c.score
 
 -- a candidate is a contender of the series that none of its rivals precedes
-abbrev pub IsCandidateOf : Asked → Usable → Candidate → Type 0
+abbrev pub IsCandidateOf : Query → Series → Candidate → Type 0
 IsCandidateOf q s c = IsContenderOf q s c
     × ((d : Candidate) → IsContenderOf q s d → are_rivals q.per d c ≡ true → precedes d c ≡ false)

@@ -2,7 +2,7 @@ use Rattle.std.proofs.Common.{◌≡◌, ◌∙◌, ℕ, List, refl, sym, ap, su
 use Rattle.std.proofs.lemmas.Result.{err_from_is_err_and}
 use Rattle.std.specs.Prelude.{Result, Ok, Err}
 use Rattle.ghcn_fields.specs.Refusals.{OrMemory}
-use Rattle.rank_query.specs.Meaning.Asked.{Asked}
+use Rattle.rank_query.specs.Meaning.Asked.{Query}
 use Rattle.rank_query.specs.Reading.{read_query}
 use Rattle.rank_query.specs.declared.fault.QueryFault.{QueryFault}
 use Rattle.rank_merge.specs.declared.fault.MergeFault.{MergeFault}
@@ -32,17 +32,17 @@ returns-clause-ok c =
     }
 
 -- a query that was read, or another if there was an error
-abbrev read_or : Asked → Result Asked QueryFault → Asked
+abbrev read_or : Query → Result Query QueryFault → Query
 read_or other (Ok asked) = asked
 read_or other (Err cause) = other
 
 -- what is refused of the parts' texts for a query is refused for a text that denotes it
-refused-for : (query : List ℕ) (q : Asked) (lent texts : List Texts) (why : MergeFault) → read_query query ≡ Ok q
+refused-for : (query : List ℕ) (q : Query) (lent texts : List Texts) (why : MergeFault) → read_query query ≡ Ok q
     → lent ≡ texts → OrMemory merging.is_memory (λ f. IsOutcomeWhereRight q lent (Err f)) why
     → IsRefusedWhereRight query texts (Parts why)
 refused-for query q lent texts why read same refused asked asks =
     let same_query : q ≡ asked = ap (read_or q) (sym read ∙ asks) in
-    subst (λ (a : Asked). OrMemory merging.is_memory (λ f. IsOutcomeWhereRight a texts (Err f)) why) same_query
+    subst (λ (a : Query). OrMemory merging.is_memory (λ f. IsOutcomeWhereRight a texts (Err f)) why) same_query
     (subst (λ (ts : List Texts). OrMemory merging.is_memory (λ f. IsOutcomeWhereRight q ts (Err f)) why) same refused)
 
 -- so it is refused

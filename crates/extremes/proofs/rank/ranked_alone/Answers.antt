@@ -1,7 +1,7 @@
 use Rattle.std.proofs.Common.{rules, ap, ◌∙◌, subst}
 use Rattle.std.proofs.lemmas.Result.{IfOk-weaker}
 use Rattle.rank_query.specs.Meaning.Asked.{IsAsked}
-use Rattle.rank_sched.specs.Plan.{Planned}
+use Rattle.rank_sched.specs.Plan.{Plan}
 use Rattle.rank_input.proofs.Guesses.{guess_is_score}
 use Rattle.extremes.proofs.Answering.{right_papers}
 use Rattle.extremes.proofs.PlanAnswers.{crew_is_plan, papers_are, of_one_is}
@@ -18,7 +18,7 @@ papers_of-requires c = crew_is_plan _ _ _ _ c.in_ok-answer.ensures.answer
 -- the report and the certificate of the plan are those of the query and the data, and right for them
 pub returns-clause-right : goal.returns-clause-right
 returns-clause-right c =
-    let asked = subst IsAsked (ap (λ (p : Planned). p.query) (c.plan.view_is ∙ c.in_ok-plan.ensures))
+    let asked = subst IsAsked (ap (λ (p : Plan). p.query) (c.plan.view_is ∙ c.in_ok-plan.ensures))
     c.plan.invariant.asked in
     let laws = c.papers_are_found.ensures in
     IfOk-weaker c.papers_of.result _ _ (λ papers are.
@@ -29,7 +29,7 @@ returns-clause-right c =
 -- the certificate has the bounds of the series
 pub returns-clause-bounds : goal.returns-clause-bounds
 returns-clause-bounds c =
-    let asked = subst IsAsked (ap (λ (p : Planned). p.query) (c.plan.view_is ∙ c.in_ok-plan.ensures))
+    let asked = subst IsAsked (ap (λ (p : Plan). p.query) (c.plan.view_is ∙ c.in_ok-plan.ensures))
     c.plan.invariant.asked in
     IfOk-weaker c.papers_of.result _ _ (λ papers are.
     (papers_are _ _ _ _ papers asked c.requires.contents c.in_ok-plan.ensures c.unlisted.ensures are).certificate)

@@ -1,6 +1,6 @@
 use Rattle.std.proofs.Common.{ap, ◌∙◌, subst}
 use Rattle.rank_query.specs.Meaning.Asked.{IsAsked}
-use Rattle.rank_sched.specs.Plan.{Planned}
+use Rattle.rank_sched.specs.Plan.{Plan}
 use Rattle.rank_input.proofs.Crews.{some_workers, few_workers}
 use Rattle.rank_input.proofs.Guesses.{guess_is_score}
 use Rattle.extremes.proofs.Answering.{right_papers}
@@ -34,7 +34,7 @@ papers_of-requires g c = crew_is_plan _ _ _ _ c.in_ok-answer.ensures.answer
 -- the report and the certificate of the plan are those of the query and the data, and right for them
 pub returns-clause-ok : goal.returns-clause-ok
 returns-clause-ok g c =
-    let asked = subst IsAsked (ap (λ (p : Planned). p.query) (c.plan.view_is ∙ c.in_ok-plan.ensures))
+    let asked = subst IsAsked (ap (λ (p : Plan). p.query) (c.plan.view_is ∙ c.in_ok-plan.ensures))
     c.plan.invariant.asked in
     right_papers _ _ c.in_ok-papers_of.field-0 c.papers_are_found.ensures.report
     c.papers_are_found.ensures.certificate asked c.requires.contents
@@ -44,7 +44,7 @@ returns-clause-ok g c =
 -- and they are printed from the crew's answer, with the bounds of the series
 pub returns-clause-crew : goal.returns-clause-crew
 returns-clause-crew g c =
-    let asked = subst IsAsked (ap (λ (p : Planned). p.query) (c.plan.view_is ∙ c.in_ok-plan.ensures))
+    let asked = subst IsAsked (ap (λ (p : Plan). p.query) (c.plan.view_is ∙ c.in_ok-plan.ensures))
     c.plan.invariant.asked in (
       (papers_are _ _ _ _ c.in_ok-papers_of.field-0 asked c.requires.contents c.in_ok-plan.ensures c.unlisted.ensures
           c.in_ok-papers_of.ensures.plan).certificate,

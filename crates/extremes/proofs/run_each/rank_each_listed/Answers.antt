@@ -1,6 +1,6 @@
 use Rattle.std.proofs.Common.{ℕ, List, inl, inr, refl, ap, ◌∙◌, sym, subst}
 use Rattle.std.specs.List.{AllZip}
-use Rattle.rank_query.specs.Meaning.Asked.{Asked}
+use Rattle.rank_query.specs.Meaning.Asked.{Query}
 use Rattle.rank_query.specs.Meaning.Asks.{Asks}
 use Rattle.rank_input.specs.Named.{list_path}
 use Rattle.rank_input.specs.Queries.{query_lines}
@@ -17,7 +17,7 @@ returns-in-Ok-read_queries g c =
       c.in-Ok.ensures.workers,
       inr (
         record { queries = c.in-Ok-read_queries.queries.items; asked = c.in-Ok-read_queries.ensures.ok },
-        c.rank_each_into.ensures lines (subst (λ (qs : List Asked). AllZip Asks lines qs)
+        c.rank_each_into.ensures lines (subst (λ (qs : List Query). AllZip Asks lines qs)
             (sym c.deref-in-Ok-read_queries.ensures.value) c.in-Ok-read_queries.ensures.ok),
       ),
     )

@@ -1,6 +1,6 @@
 use Rattle.std.proofs.Common.{ℕ, List, inl, inr, refl, ap, ◌∙◌, sym, subst}
 use Rattle.std.specs.List.{AllZip}
-use Rattle.rank_query.specs.Meaning.Asked.{Asked}
+use Rattle.rank_query.specs.Meaning.Asked.{Query}
 use Rattle.rank_query.specs.Meaning.Asks.{Asks}
 use Rattle.rank_input.specs.Named.{list_path}
 use Rattle.rank_input.specs.Queries.{query_lines}
@@ -15,7 +15,7 @@ returns-in-Ok g c =
     let lines : List (List ℕ) = query_lines c.args.text.now in
     inr (
       record { queries = c.in-Ok.queries.items; asked = c.in-Ok.ensures.ok },
-      c.judge_each_tried.ensures lines (subst (λ (qs : List Asked). AllZip Asks lines qs)
+      c.judge_each_tried.ensures lines (subst (λ (qs : List Query). AllZip Asks lines qs)
           (sym c.deref.ensures.value) c.in-Ok.ensures.ok),
     )
 

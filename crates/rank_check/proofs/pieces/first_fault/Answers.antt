@@ -5,7 +5,7 @@ use Rattle.std.proofs.lemmas.List.{length-map}
 use Rattle.std.proofs.lemmas.List.Folds.{list_all-map}
 use Rattle.ghcn_fields.specs.Faults.{first_failing}
 use Rattle.ghcn_files.specs.Meaning.Ids.{same_id}
-use Rattle.ghcn_series.specs.Meaning.Series.{Usable}
+use Rattle.ghcn_series.specs.Meaning.Series.{Series}
 use Rattle.rank_scores.specs.declared.candidate.Candidate.{Candidate}
 use Rattle.rank_papers.specs.Report.{Named}
 use Rattle.rank_papers.specs.ReportLines.{named_in}
@@ -19,7 +19,7 @@ returns-then-not-are_candidates c =
     let q = c.args.query.now in
     let st = c.args.station.now in
     let e = c.args.line.now in
-    let u : Usable = c.in-Some.own.now in
+    let u : Series = c.in-Some.own.now in
     let rows : List Named = map named_in c.args.rows.now in
     let worst : Option Candidate = option_copied c.args.worst in
     let is : option_copied c.args.series ≡ Some c.in-Some.own.now = ap (λ o. option_copied o) c.in-Some.is in
@@ -33,7 +33,7 @@ returns-then-not-are_candidates c =
     (omega (arith, c.if-printed-rows.false, length-map c.args.rows.now named_in)) in
     let rows_are = list_all-map (is_row_of q st u) named_in c.args.rows.now ∙ sym c.are_candidates.ensures
     ∙ c.if-not-are_candidates.true in
-    sym (ap (λ (o : Option Usable). first_failing (piece_tests q st o e c.args.printed rows worst)) is
+    sym (ap (λ (o : Option Series). first_failing (piece_tests q st o e c.args.printed rows worst)) is
     ∙ piece-by q st u e c.args.printed rows worst true true false own counted rows_are)
 
 -- the rest decides
@@ -42,7 +42,7 @@ returns c =
     let q = c.args.query.now in
     let st = c.args.station.now in
     let e = c.args.line.now in
-    let u : Usable = c.in-Some.own.now in
+    let u : Series = c.in-Some.own.now in
     let rows : List Named = map named_in c.args.rows.now in
     let worst : Option Candidate = option_copied c.args.worst in
     let is : option_copied c.args.series ≡ Some c.in-Some.own.now = ap (λ o. option_copied o) c.in-Some.is in
@@ -57,5 +57,5 @@ returns c =
     let rows_are = list_all-map (is_row_of q st u) named_in c.args.rows.now ∙ sym c.are_candidates.ensures
     ∙ c.if-not-are_candidates.false in
     c.line_fault.ensures
-    ∙ sym (ap (λ (o : Option Usable). first_failing (piece_tests q st o e c.args.printed rows worst)) is
+    ∙ sym (ap (λ (o : Option Series). first_failing (piece_tests q st o e c.args.printed rows worst)) is
     ∙ piece-by q st u e c.args.printed rows worst true true true own counted rows_are)

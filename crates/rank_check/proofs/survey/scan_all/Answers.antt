@@ -1,12 +1,12 @@
 use Rattle.std.proofs.Common.{◌≡◌, ◌+◌, ◌++◌, ◌∷◌, [], List, map, take, length, sym, ap, ◌∙◌}
 use Rattle.std.specs.List.{flat_map}
-use Rattle.ghcn_series.specs.Meaning.Series.{Usable}
+use Rattle.ghcn_series.specs.Meaning.Series.{Series}
 use Rattle.ghcn_series.specs.Says.{in_64_bits}
 use Rattle.rank_scores.specs.Candidates.{candidates}
 use Rattle.ghcn_files.specs.declared.station.StationId.{StationId}
 use Rattle.rank_papers.specs.Papers.{candidates_of}
 use Rattle.rank_check.specs.declared.survey.Top.{Top}
-use Rattle.rank_check.specs.Survey.{Tallied, met, top}
+use Rattle.rank_check.specs.Survey.{Tally, met, top}
 use Rattle.rank_check.proofs.Each.{made-more}
 use Rattle.rank_check.proofs.Surveying.{tallied, scanned-more, top-behind}
 use Rattle.rank_check.proofs.survey.scan_all.Goals as goal
@@ -16,8 +16,8 @@ pub loop-series-preserved : goal.loop-series-preserved
 loop-series-preserved c =
     let q = c.args.query.now in
     let rows = candidates_of c.args.rows.now in
-    let s : Usable = c.series-item.result.now in
-    let before : List Usable = map (λ s. s.now) (take c.loop-series.series-index c.args.all.now) in
+    let s : Series = c.series-item.result.now in
+    let before : List Series = map (λ s. s.now) (take c.loop-series.series-index c.args.all.now) in
     let more : map (λ s. s.now) (take (c.loop-series.series-index + 1) c.args.all.now) ≡ before ++ s ∷ [] =
     made-more (λ s. s.now) c.args.all.now c.loop-series.series-index c.series-item.result c.loop-series-test.true
     c.series-item.is in
@@ -31,11 +31,11 @@ loop-series-preserved c =
     ∙ ap (λ (i : StationId). map (top q) before ++ record { id = i; highest = c.scan-highest.result } ∷ [])
     c.id.ensures.id
     ∙ top-behind q before s c.scan-highest.result
-    (c.scan-highest.ensures.highest ∙ ap (λ (t : Tallied). t.highest) new) in
+    (c.scan-highest.ensures.highest ∙ ap (λ (t : Tally). t.highest) new) in
     record {
-      rows = ap (λ (t : Tallied). t.rows) new
-          ∙ ap (λ (l : List Usable). map (met (flat_map (candidates q) l)) rows) (sym more);
-      count = ap (λ (t : Tallied). t.count) new
-          ∙ ap (λ (l : List Usable). in_64_bits (length (flat_map (candidates q) l))) (sym more);
+      rows = ap (λ (t : Tally). t.rows) new
+          ∙ ap (λ (l : List Series). map (met (flat_map (candidates q) l)) rows) (sym more);
+      count = ap (λ (t : Tally). t.count) new
+          ∙ ap (λ (l : List Series). in_64_bits (length (flat_map (candidates q) l))) (sym more);
       tops = tops ∙ ap (map (top q)) (sym more);
     }

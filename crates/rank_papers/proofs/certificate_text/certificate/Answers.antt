@@ -1,5 +1,5 @@
 use Rattle.std.proofs.Common.{List, subst, ◌∙◌, ap}
-use Rattle.rank_query.specs.Meaning.Asked.{Asked}
+use Rattle.rank_query.specs.Meaning.Asked.{Query}
 use Rattle.rank_scores.specs.declared.candidate.Candidate.{Candidate}
 use Rattle.rank_papers.specs.Certificate.{AreInRange, certificate_of_best}
 use Rattle.rank_papers.proofs.PlanPapers.{certificate-of_plan}
@@ -10,7 +10,7 @@ use Rattle.rank_papers.proofs.certificate_text.certificate.Goals as goal
 pub returns-clause-text : goal.returns-clause-text
 returns-clause-text c =
     if_ok _ _ c.certificate_of_best.result (λ paper text. text
-    ∙ ap (λ (q : Asked). certificate_of_best q c.deref.result.now c.deref-2.result.now) c.query.ensures.query
+    ∙ ap (λ (q : Query). certificate_of_best q c.deref.result.now c.deref-2.result.now) c.query.ensures.query
     ∙ ap (λ (b : List Candidate). certificate_of_best c.args.plan.now.query b c.deref-2.result.now)
     c.deref.ensures.value
     ∙ ap (certificate_of_best c.args.plan.now.query c.args.answer.now.best.items) c.deref-2.ensures.value)

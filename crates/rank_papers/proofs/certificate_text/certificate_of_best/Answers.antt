@@ -1,7 +1,7 @@
 use Rattle.std.proofs.Common.{ℕ, List, ◌≡◌, ◌<◌, ◌++◌, ◌∙◌, ap, length, subst, sym, Option, ℤ}
 use Rattle.std.specs.List.{flat_map}
 use Rattle.std.proofs.lemmas.List.{length-map}
-use Rattle.rank_query.specs.Meaning.Asked.{Asked}
+use Rattle.rank_query.specs.Meaning.Asked.{Query}
 use Rattle.rank_papers.specs.Meaning.Certificate.{kth_line, entry_line}
 use Rattle.rank_papers.specs.Certificate.{kth_of_best, counted, count_of}
 use Rattle.rank_papers.proofs.PlanPapers.{some_asked, certificate-made}
@@ -20,7 +20,7 @@ push_lines-requires c =
 -- the parts were added in their order
 pub returns-clause-text : goal.returns-clause-text
 returns-clause-text c =
-    let q : Asked = c.args.query.now in
+    let q : Query = c.args.query.now in
     let score : c.kth_score.result ≡ kth_of_best q.k c.args.best.now =
     c.kth_score.ensures ∙ ap (λ (k : ℕ). kth_of_best k c.args.best.now) c.k.ensures.k in
     certificate-made q c.args.best.now c.args.lines.now c.in_ok-paper.paper.items _ _ _ _

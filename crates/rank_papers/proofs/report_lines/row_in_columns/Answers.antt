@@ -2,7 +2,7 @@ use Rattle.std.proofs.Common.{◌≡◌, ◌∙◌, ◌+◌, ◌-◌, List, ℕ,
 use Rattle.std.specs.Prelude.{ℤ, slice_range, IfOk}
 use Rattle.std.specs.Option.{option_map}
 use Rattle.ghcn_fields.specs.Dates.{read_date}
-use Rattle.rank_query.specs.Meaning.Asked.{Asked}
+use Rattle.rank_query.specs.Meaning.Asked.{Query}
 use Rattle.rank_papers.specs.declared.paper.Row.{Row}
 use Rattle.rank_papers.specs.Report.{Named}
 use Rattle.rank_papers.specs.Meaning.Values.{measure_of_score, unit_text}
@@ -15,7 +15,7 @@ pub returns-in_default : goal.returns-in_default
 returns-in_default c =
     let line : List ℕ = c.args.line.now in
     let digits : ℕ = c.args.digits in
-    let q : Asked = c.args.query.now in
+    let q : Query = c.args.query.now in
     let word : List ℕ = c.first_word-value.result.now in
     let value : word ≡ value_at digits line = c.first_word-value.ensures ∙ ap first_word c.field_from.ensures in
     let score : None ≡ score_in q word = sym c.in_default.is ∙ c.in_ok-score.ensures in
@@ -26,7 +26,7 @@ pub returns : goal.returns
 returns c =
     let line : List ℕ = c.args.line.now in
     let digits : ℕ = c.args.digits in
-    let q : Asked = c.args.query.now in
+    let q : Query = c.args.query.now in
     let word : List ℕ = c.first_word-value.result.now in
     let score : Option ℤ = Some c.in-Some.score in
     let value : word ≡ value_at digits line = c.first_word-value.ensures ∙ ap first_word c.field_from.ensures in

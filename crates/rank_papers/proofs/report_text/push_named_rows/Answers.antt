@@ -1,5 +1,5 @@
 use Rattle.std.proofs.Common.{◌+◌, ◌++◌, ◌∙◌, List, ℕ, ap, sym, subst}
-use Rattle.rank_query.specs.Meaning.Asked.{Asked}
+use Rattle.rank_query.specs.Meaning.Asked.{Query}
 use Rattle.rank_papers.specs.declared.paper.Row.{Row}
 use Rattle.rank_papers.specs.Meaning.Report.{text_line, row_fields}
 use Rattle.rank_papers.proofs.GivenRows.{HasGiven, HasGiven-more}
@@ -8,7 +8,7 @@ use Rattle.rank_papers.proofs.report_text.push_named_rows.Goals as goal
 -- one row more
 pub loop-place-preserved : goal.loop-place-preserved
 loop-place-preserved c =
-    let q : Asked = c.args.query.now in
+    let q : Query = c.args.query.now in
     let row : Row = c.index-rows-place.result in
     let before : List ℕ = c.args.paper.now.items in
     let HasMore : List ℕ → Type 0 = HasGiven q c.args.rows.now (c.loop-place.place + 1) before in

@@ -2,7 +2,7 @@ use Rattle.std.proofs.Common.{◌≡◌, ◌≤◌, List, ℕ, Bool, true, false
 use Rattle.std.proofs.Common.{FitsSigned, w64, to_z-of_z, rules, refl}
 use Rattle.std.specs.Prelude.{◌&&◌}
 use Rattle.rank_query.specs.declared.score.Score.{Score}
-use Rattle.rank_query.specs.Meaning.Asked.{Asked}
+use Rattle.rank_query.specs.Meaning.Asked.{Query}
 use Rattle.rank_papers.specs.Report.{Named}
 use Rattle.rank_papers.specs.ReportLines.{named_in}
 use Rattle.rank_papers.specs.Meaning.Values.{measure_of_score, unit_text, value_text, value_of}
@@ -25,7 +25,7 @@ has_back-requires c =
 -- the front isn't that of the row's line
 pub returns-then-not-has_front : goal.returns-then-not-has_front
 returns-then-not-has_front c = λ n e.
-    let q : Asked = c.args.query.now in
+    let q : Query = c.args.query.now in
     let rank : List ℕ = c.args.rank.now in
     let line : List ℕ = c.args.line.now in
     let row : Named = named_in c.args.row.now in
@@ -38,7 +38,7 @@ returns-then-not-has_front c = λ n e.
 -- the back decides
 pub returns : goal.returns
 returns c = λ n e.
-    let q : Asked = c.args.query.now in
+    let q : Query = c.args.query.now in
     let rank : List ℕ = c.args.rank.now in
     let line : List ℕ = c.args.line.now in
     let row : Named = named_in c.args.row.now in

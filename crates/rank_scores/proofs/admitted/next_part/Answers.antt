@@ -2,7 +2,7 @@ use Rattle.std.proofs.Common.{◌≡◌, ◌++◌, List, true, false, sym, ap, �
 use Rattle.std.proofs.Common.{FitsSigned, to_z-of_z}
 use Rattle.std.specs.List.{AllByRecursion}
 use Rattle.ghcn_series.specs.Meaning.Series.{DayValue}
-use Rattle.rank_query.specs.Meaning.Asked.{Asked}
+use Rattle.rank_query.specs.Meaning.Asked.{Query}
 use Rattle.rank_scores.specs.Stretches.{admitted_among}
 use Rattle.rank_scores.specs.Stretches.{IsStretch}
 use Rattle.rank_scores.proofs.StretchDays.{stretch-behind, stretch-part, stretch-on, no-first}
@@ -13,7 +13,7 @@ use Rattle.std.proofs.lemmas.Int.{ints}
 -- an admitted part is the first of the admitted days
 pub returns-then-stretch-clause-some : goal.returns-then-stretch-clause-some
 returns-then-stretch-clause-some c =
-    let q : Asked = c.args.query.now in
+    let q : Query = c.args.query.now in
     let late : FitsSigned w32 c.go_on.new.self.last = search rules in
     let parts : c.loop-day.days ≡ c.take_to-part.result ++ c.take_to-part.new.self =
     sym c.in-Some.ensures.same ∙ c.take_to-part.ensures.parts in
@@ -28,7 +28,7 @@ returns-then-stretch-clause-some c =
 -- and the stretch is one of the days after it
 pub returns-then-stretch-clause-stretch : goal.returns-then-stretch-clause-stretch
 returns-then-stretch-clause-stretch c =
-    let q : Asked = c.args.query.now in
+    let q : Query = c.args.query.now in
     let parts : c.loop-day.days ≡ c.take_to-part.result ++ c.take_to-part.new.self =
     sym c.in-Some.ensures.same ∙ c.take_to-part.ensures.parts in
     stretch-behind q c.take_to-part.result c.take_to-part.new.self c.go_on.new.self
@@ -38,7 +38,7 @@ returns-then-stretch-clause-stretch c =
 -- another part is skipped
 pub loop-day-preserved : goal.loop-day-preserved
 loop-day-preserved c =
-    let q : Asked = c.args.query.now in
+    let q : Query = c.args.query.now in
     let late : FitsSigned w32 c.go_on.new.self.last = search rules in
     let parts : c.loop-day.days ≡ c.take_to-part.result ++ c.take_to-part.new.self =
     sym c.in-Some.ensures.same ∙ c.take_to-part.ensures.parts in

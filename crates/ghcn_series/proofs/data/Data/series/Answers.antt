@@ -1,7 +1,7 @@
 use Rattle.std.proofs.Common.{ℕ, sym, ap, ◌∙◌, arith}
 use Rattle.std.specs.Option.{option_copied}
 use Rattle.ghcn_files.specs.Listed.{place_of}
-use Rattle.ghcn_series.specs.Series.{Contents, series_of}
+use Rattle.ghcn_series.specs.Series.{Data, series_of}
 use Rattle.ghcn_series.proofs.SeriesPlaces.{none-unlisted, at_place, listed-at}
 use Rattle.ghcn_series.proofs.data.Data.series.Goals as goal
 
@@ -12,12 +12,12 @@ returns-in_err-place c =
     ap option_copied c.from_residual.ensures
     ∙ none-unlisted c.args.id.now c.args.element c.self.inside.stations _ held.listed.distinct held.own
     (sym c.place.ensures ∙ c.in_err-place.was)
-    ∙ ap (λ (all : Contents). series_of all c.args.id.now c.args.element) c.self.view_is
+    ∙ ap (λ (all : Data). series_of all c.args.id.now c.args.element) c.self.view_is
 
 -- a listed one has those at its place
 pub returns : goal.returns
 returns c =
-    let place = ap (λ (all : Contents). place_of all.stations c.args.id.now) (sym c.self.view_is)
+    let place = ap (λ (all : Data). place_of all.stations c.args.id.now) (sym c.self.view_is)
     ∙ sym c.place.ensures ∙ c.in_ok-place.was in
     c.series_at.ensures
     ∙ ap (λ (k : ℕ). at_place c.args.self.now c.args.element k) (omega arith)

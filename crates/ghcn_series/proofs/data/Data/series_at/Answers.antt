@@ -2,7 +2,7 @@ use Rattle.std.proofs.Common.{get_or, Some, None, sym, ap, ◌∙◌}
 use Rattle.std.specs.Prelude.{nat_lt, length}
 use Rattle.std.specs.List.{find}
 use Rattle.std.specs.Option.{option_copied}
-use Rattle.ghcn_series.specs.Series.{Contents}
+use Rattle.ghcn_series.specs.Series.{Data}
 use Rattle.ghcn_series.specs.Held.{is_of_element}
 use Rattle.ghcn_series.proofs.SeriesPlaces.{found-at, at_place, list-there, list-missing}
 use Rattle.ghcn_series.proofs.data.Data.series_at.Goals as goal
@@ -17,7 +17,7 @@ returns-in_err-get c =
     ap option_copied c.from_residual.ensures
     ∙ found-at c.args.element c.self.inside.stations _ c.args.place None held.listed.distinct held.own
     (list-missing (λ s. s.items) lists c.args.place missing)
-    ∙ ap (λ (all : Contents). at_place all c.args.element c.args.place) c.self.view_is
+    ∙ ap (λ (all : Data). at_place all c.args.element c.args.place) c.self.view_is
 
 -- the list at a place has the series of the station there
 pub returns : goal.returns
@@ -32,4 +32,4 @@ returns c =
     ∙ found-at c.args.element c.self.inside.stations _ c.args.place (Some series.items) held.listed.distinct held.own
     (list-there (λ s. s.items) lists c.args.place series there (c.in_ok-get.ensures.lookup.1
     ∙ ap (λ vs. get_or vs c.args.place series) c.deref.ensures.value))
-    ∙ ap (λ (all : Contents). at_place all c.args.element c.args.place) c.self.view_is
+    ∙ ap (λ (all : Data). at_place all c.args.element c.args.place) c.self.view_is

@@ -1,7 +1,7 @@
 use Rattle.std.proofs.Common.{ℕ, List, ap, ◌∙◌}
 use Rattle.std.specs.List.{filter_map}
-use Rattle.ghcn_series.specs.Meaning.Series.{Usable}
-use Rattle.ghcn_series.specs.Series.{Contents}
+use Rattle.ghcn_series.specs.Meaning.Series.{Series}
+use Rattle.ghcn_series.specs.Series.{Data}
 use Rattle.ghcn_series.specs.DailyFaults.{month_on}
 use Rattle.ghcn_series.specs.Held.{all_of}
 use Rattle.ghcn_series.proofs.AllSeries.{all_ready, series_are, all_listed, are_by_station}
@@ -36,6 +36,6 @@ returns c =
           let series = ap all_of c.in_ok-series.ensures
           ∙ series_are c.args.self.keep stations (filter_map month_on ls) stations c.args.self.gathered.stations
           (all_listed stations) read.months.gathered in
-          let of : List Usable → ℕ → Contents = λ us n. record { stations = stations; series = us; unlisted = n } in
+          let of : List Series → ℕ → Data = λ us n. record { stations = stations; series = us; unlisted = n } in
           c.of.ensures ∙ ap (λ us. of us c.args.self.unlisted) series ∙ ap (of _) read.months.unlisted;
     }

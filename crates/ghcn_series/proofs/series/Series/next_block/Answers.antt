@@ -1,7 +1,7 @@
 use Rattle.std.proofs.Common.{ap, sym, ◌∙◌, List, ℤ, w32}
 use Rattle.std.proofs.lemmas.Int.{to_z-of_z}
 use Rattle.ghcn_series.specs.Packed.{next_block}
-use Rattle.ghcn_series.specs.Meaning.Series.{DayValue, Usable}
+use Rattle.ghcn_series.specs.Meaning.Series.{DayValue, Series}
 use Rattle.ghcn_series.specs.Series.{is_by_day}
 use Rattle.ghcn_series.proofs.NextBlocks.{next-is}
 use Rattle.ghcn_series.proofs.series.Series.next_block.Goals as goal
@@ -9,7 +9,7 @@ use Rattle.ghcn_series.proofs.series.Series.next_block.Goals as goal
 -- the days of a series rise
 pub returns-clause-least : goal.returns-clause-least
 returns-clause-least c =
-    let same = ap (λ (u : Usable). u.days) c.self.view_is in
+    let same = ap (λ (u : Series). u.days) c.self.view_is in
     next-is c.args.self.now.days c.args.number c.next_block.result
     (ap is_by_day (sym same) ∙ c.self.invariant.by_day)
     (c.next_block.ensures

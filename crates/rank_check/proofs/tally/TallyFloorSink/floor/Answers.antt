@@ -3,7 +3,7 @@ use Rattle.std.specs.Prelude.{Option}
 use Rattle.std.specs.Int.{int_min}
 use Rattle.std.proofs.lemmas.Int.{to_z-of_z}
 use Rattle.rank_scores.specs.declared.candidate.Candidate.{Candidate}
-use Rattle.rank_check.specs.Survey.{Tallied, IsFloor, IsLast}
+use Rattle.rank_check.specs.Survey.{Tally, IsFloor, IsLast}
 use Rattle.rank_check.proofs.Surveying.{floor-some, floor-none}
 use Rattle.rank_check.proofs.tally.TallyFloorSink.floor.Goals as goal
 
@@ -18,7 +18,7 @@ returns-in-Some-clause-floor c =
     ∙ ap₂ int_min (to_z-of_z w64 c.in_ok-highest.highest top) (to_z-of_z w64 c.in-Some.last.score score) in
     let behind = subst (λ (o : Option Candidate). IsLast o c.self.inside.rows.items) c.in-Some.is
     c.self.invariant.behind in
-    subst (λ (t : Tallied). IsFloor t (to_z w64 (of_z w64 c.min.result))) c.self.view_is
+    subst (λ (t : Tally). IsFloor t (to_z w64 (of_z w64 c.min.result))) c.self.view_is
     (floor-some c.in-Some.last c.self.inside.marks.items c.self.inside.rows.items c.self.inside.count
     c.self.inside.highest c.in_ok-highest.highest _ behind c.in_ok-highest.was floor)
 
@@ -28,7 +28,7 @@ returns-in-None-clause-floor c =
     let top : FitsSigned w64 c.in_ok-highest.highest = search rules in
     let behind = subst (λ (o : Option Candidate). IsLast o c.self.inside.rows.items) c.in-None.is
     c.self.invariant.behind in
-    subst (λ (t : Tallied). IsFloor t (to_z w64 (of_z w64 c.in_ok-highest.highest))) c.self.view_is
+    subst (λ (t : Tally). IsFloor t (to_z w64 (of_z w64 c.in_ok-highest.highest))) c.self.view_is
     (subst (IsFloor _) (sym (to_z-of_z w64 c.in_ok-highest.highest top))
     (floor-none c.self.inside.marks.items c.self.inside.rows.items c.self.inside.count c.self.inside.highest
     c.in_ok-highest.highest behind c.in_ok-highest.was))

@@ -1,5 +1,5 @@
 use Rattle.std.proofs.Common.{rules, ◌≡◌, false, ℤ, Some, to_z, of_z, w64, sym, ap, ◌∙◌}
-use Rattle.rank_check.specs.Survey.{Tallied, reaches, raised, tally_with}
+use Rattle.rank_check.specs.Survey.{Tally, reaches, raised, tally_with}
 use Rattle.rank_check.specs.Marks.{may_reach}
 use Rattle.rank_check.proofs.Surveying.{rows-behind, low-behind}
 use Rattle.rank_check.proofs.Marks.{rows-offered}
@@ -16,7 +16,7 @@ returns-then-may_reach c =
     let own : to_z w64 (of_z w64 c.args.candidate.score) ≡ c.args.candidate.score = search rules in
     let highest = ap (λ (z : ℤ). Some z) (back ∙ c.raised.ensures ∙ ap (raised c.self.inside.highest) own) in
     (λ i. record { rows = met i; count = c.saturating_add-self-inside.ensures i; highest = highest i })
-    ∙ ap (λ (t : Tallied). tally_with t c.args.candidate) c.self.view_is
+    ∙ ap (λ (t : Tally). tally_with t c.args.candidate) c.self.view_is
 
 -- a candidate that scores less changes none
 pub returns-else-may_reach : goal.returns-else-may_reach
@@ -31,4 +31,4 @@ returns-else-may_reach c =
     let back : to_z w64 (of_z w64 c.raised.result) ≡ c.raised.result = search rules in
     let highest = ap (λ (z : ℤ). Some z) (back ∙ c.raised.ensures ∙ ap (raised c.self.inside.highest) own) in
     (λ i. record { rows = same i; count = c.saturating_add-self-inside.ensures i; highest = highest i })
-    ∙ ap (λ (t : Tallied). tally_with t c.args.candidate) c.self.view_is
+    ∙ ap (λ (t : Tally). tally_with t c.args.candidate) c.self.view_is

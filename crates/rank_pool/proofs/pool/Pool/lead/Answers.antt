@@ -4,7 +4,7 @@ use Rattle.std.proofs.lemmas.List.{length-take}
 use Rattle.ghcn_fields.specs.Sorting.{placed}
 use Rattle.rank_scores.specs.declared.candidate.Candidate.{Candidate}
 use Rattle.rank_pool.specs.First.{comes_first}
-use Rattle.rank_pool.specs.Pools.{Pooled, IsPool}
+use Rattle.rank_pool.specs.Pools.{Pool, IsPool}
 use Rattle.rank_pool.proofs.Offers.{take_first, still_pool, is_put}
 use Rattle.rank_pool.proofs.pool.Pool.lead.Goals as goal
 
@@ -15,9 +15,9 @@ invariant_of-self c =
     let held = c.self.inside.held.items in
     let pool : IsPool (record { size = c.self.inside.size; held = c.self.inside.held.items }) = c.self.invariant.0 in
     let full : length held ≡ size =
-    subst (λ (p : Pooled). length p.held ≡ p.size) (sym c.self.view_is) c.requires.full in
+    subst (λ (p : Pool). length p.held ≡ p.size) (sym c.self.view_is) c.requires.full in
     let first : placed comes_first c.args.candidate held ≡ c.args.candidate ∷ held =
-    subst (λ (p : Pooled). placed comes_first c.args.candidate p.held ≡ c.args.candidate ∷ p.held)
+    subst (λ (p : Pool). placed comes_first c.args.candidate p.held ≡ c.args.candidate ∷ p.held)
     (sym c.self.view_is) c.requires.first in
     let many : deque_len c.self.inside.held ≡ size = omega (arith, full, c.self.inside.held.ok.0) in
     let kept : c.pop_back.new.self.items ≡ take (size - 1) held =

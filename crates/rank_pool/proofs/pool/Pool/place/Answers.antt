@@ -3,7 +3,7 @@ use Rattle.std.specs.VecDeque.{deque_len}
 use Rattle.ghcn_fields.specs.Sorting.{placed}
 use Rattle.rank_scores.specs.declared.candidate.Candidate.{Candidate}
 use Rattle.rank_pool.specs.First.{comes_first}
-use Rattle.rank_pool.specs.Pools.{Pooled, IsPool, taken}
+use Rattle.rank_pool.specs.Pools.{Pool, IsPool, taken}
 use Rattle.rank_pool.proofs.Offers.{still_pool, was_ok}
 use Rattle.rank_pool.proofs.pool.Pool.place.Goals.{After-cut}
 use Rattle.rank_pool.proofs.pool.Pool.place.Goals as goal
@@ -31,7 +31,7 @@ pub returns : goal.returns
 returns c =
     ap (λ (l : List Candidate). record { size = c.self.inside.size; held = l })
     (held_then (goal.at.returns c).After-cut)
-    ∙ ap (λ (p : Pooled). taken p c.args.candidate) c.self.view_is
+    ∙ ap (λ (p : Pool). taken p c.args.candidate) c.self.view_is
 
 -- it was put among no more candidates than there are places
 pub cut-requires : goal.cut-requires
