@@ -16,11 +16,10 @@ use Rattle.clap.specs.declared.error.ErrorKind.{ErrorKind}
 use Rattle.clap.specs.declared.error.ErrorKind.TheVariants.{OutOfMemory, DisplayVersion}
 use Rattle.command_line.specs.declared.asked.CommandFault.{CommandFault}
 use Rattle.command_line.specs.declared.asked.CommandFault.TheVariants as fault
-use Rattle.command_line.specs.CommandLine.{TellsVersion, OnVersion}
+use Rattle.command_line.specs.CommandLine.{TellsVersion, OnVersion, extremes_app, IsGuess, IsCount, IsFlag, IsName}
 use Rattle.clap.specs.Walk.{answers_to, stop_after}
 use Rattle.clap.specs.Simple.{argument_words, built, entered, names_of, rows_at}
 use Rattle.clap.specs.declared.parser.matches.SubCommand.{SubCommand}
-use Rattle.command_line.specs.CommandLine.{extremes_app, IsGuess, IsCount, IsFlag, IsName}
 use Rattle.command_line.specs.Fitting.{papers_to_merge, AreInPairs}
 
 -- what is some value is it

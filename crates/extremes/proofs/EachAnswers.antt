@@ -1,6 +1,5 @@
 -- What is returned for each of some queries over one reading, as answers to texts that denote these queries.
-use Rattle.std.proofs.Common.{◌≡◌, ℕ, ◌+◌, true, List, [], ◌∷◌, ◌++◌}
-use Rattle.std.proofs.Common.{refl, sym, ap, ◌∙◌, subst}
+use Rattle.std.proofs.Common.{◌≡◌, ℕ, ◌+◌, true, List, [], ◌∷◌, ◌++◌, refl, sym, ap, ◌∙◌, subst}
 use Rattle.std.specs.Prelude.{Option, None, Ok, Err, IfErr, IfOk}
 use Rattle.std.proofs.lemmas.Bool.{OnFalse_from}
 use Rattle.std.proofs.lemmas.Result.{IfErr-weaker, IfOk-weaker}
@@ -153,7 +152,7 @@ module _ {A B : Type 0} (P : A → B → Type 0) (K : B → Type 0) (R : B → P
   stops-as (Input fault) is = (is.0, until-as None is.1)
   stops-as (NotWritten path) is = (is.0, until-as _ is.1)
 
--- rankings that stop for want of memory end so
+-- rankings that stop because memory runs out end so
 ends-for : (workers : ℕ) (stations : List ℕ) (files lines : List (List ℕ)) (folder : Option (List ℕ)) (stores : Storing)
     (answer : Reports)
     → IfOk answer (λ text. RanksAll (IsRankedBy workers stations files) lines folder 1 stores text.items)

@@ -12,8 +12,7 @@ use Rattle.rank_input.specs.Input.{is_memory}
 use Rattle.extremes.specs.declared.papers.Papers.{Papers}
 use Rattle.extremes.specs.declared.papers_folder.Stop.{Stop}
 use Rattle.extremes.specs.declared.papers_folder.Stop.TheVariants.{Input, NotWritten}
-use Rattle.extremes.specs.Each.{RankingStops, RanksAll, RanksOne, RanksUntil}
-use Rattle.extremes.specs.Each.{reports_of}
+use Rattle.extremes.specs.Each.{RankingStops, RanksAll, RanksOne, RanksUntil, reports_of}
 use Rattle.extremes.specs.PapersFolder.{PutsUntil, PuttingStops, new_files}
 use Rattle.extremes.specs.Targets.{Abandoning, ArePut, Given, NewFile, Storing, TargetOpening}
 use Rattle.extremes.proofs.Comparing.{take-whole}

@@ -24,9 +24,8 @@ use Rattle.rank_input.specs.Shares.{AsksWhole, TakesWhole}
 use Rattle.rank_input.proofs.Openings.{opened-for, opened-both}
 use Rattle.ghcn_fields.specs.Refusals.{IsRefusal}
 use Rattle.rank_input.proofs.Feedings.{input-files}
-use Rattle.extremes.specs.Runs.{AnswersInput, CrewsInput, RanksInput, JudgesInputAs}
-use Rattle.extremes.specs.Runs.{bytes_named, IsRanked, IsRankedAlone, RanksFiles, IsJudgement, JudgesFiles}
-use Rattle.extremes.specs.Runs.{ranking_paths, judging_paths}
+use Rattle.extremes.specs.Runs.{AnswersInput, CrewsInput, RanksInput, JudgesInputAs, bytes_named, IsRanked}
+use Rattle.extremes.specs.Runs.{IsRankedAlone, RanksFiles, IsJudgement, JudgesFiles, ranking_paths, judging_paths}
 use Rattle.extremes.specs.Meaning.Answer.{Answers}
 use Rattle.extremes.specs.Answer.{IsSerial}
 use Rattle.extremes.specs.Describes.{IsDescriptionOf, DescribesIntake, DescribesFiles, describing_paths}

@@ -22,8 +22,7 @@ use Rattle.ghcn_series.specs.declared.fault.DataFault.TheVariants.{DailyLine}
 use Rattle.ghcn_series.specs.DailyFaults.{FileLine, month_on, month_if_ok, is_listed, daily_fault, daily_lines}
 use Rattle.ghcn_series.specs.DailyFaults.{daily_why, file_lines, file_line}
 use Rattle.ghcn_series.specs.LineKinds.{all_lines, blank_lines}
-use Rattle.ghcn_description.specs.Lines.{other_lines}
-use Rattle.ghcn_description.specs.Lines.{is_other, is_listed_of}
+use Rattle.ghcn_description.specs.Lines.{other_lines, is_other, is_listed_of}
 use Rattle.ghcn_description.specs.Laws.{LinesAddUp}
 
 -- ---- blank lines

@@ -1,7 +1,6 @@
 -- The digits before a point, as a loop finds them.
-use Rattle.std.proofs.Common.{◌≡◌, ℕ, zero, suc, ◌+◌, ◌-◌, ◌*◌, ◌^◌, ◌<◌, ◌≤◌, true, false, List, [], ◌∷◌}
-use Rattle.std.proofs.Common.{length, take, drop, get_or, drop-drop}
-use Rattle.std.proofs.Common.{Option, Some, None, inl, inr, refl, sym, ap, ◌∙◌, arith}
+use Rattle.std.proofs.Common.{◌≡◌, ℕ, zero, suc, ◌+◌, ◌-◌, ◌*◌, ◌^◌, ◌<◌, ◌≤◌, true, false, List, [], ◌∷◌, length, take}
+use Rattle.std.proofs.Common.{drop, get_or, drop-drop, Option, Some, None, inl, inr, refl, sym, ap, ◌∙◌, arith}
 use Rattle.std.specs.Prelude.{not}
 use Rattle.std.specs.List.{list_all, list_any, before_first, after_first, position_or_len}
 use Rattle.std.specs.Option.{option_map}
@@ -14,8 +13,7 @@ use Rattle.std.proofs.lemmas.List.{get_or-take, take-take, take_all, length-take
 use Rattle.std.proofs.lemmas.List.Folds.{list_all_at, list_all_more, list_any_none, list_any_at}
 use Rattle.std.proofs.lemmas.List.Sums.{fails_before_first, passes_at_first, position_or_len_is, prefix_len-le-length}
 use Rattle.ghcn_fields.specs.Numbers.{natural, up_to, joined, decimal_number}
-use Rattle.ghcn_fields.proofs.Decimals.{is_point, decimal_number-by, up_to-some}
-use Rattle.ghcn_fields.proofs.Decimals.{joined-whole_over, units_over}
+use Rattle.ghcn_fields.proofs.Decimals.{is_point, decimal_number-by, up_to-some, joined-whole_over, units_over}
 use Rattle.ghcn_fields.proofs.Digits.{natural-from, too_great}
 
 -- that many digits come first in a text

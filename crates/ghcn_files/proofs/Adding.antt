@@ -22,14 +22,11 @@ use Rattle.ghcn_files.specs.declared.fault.StationsFault.TheVariants.{StationLin
 use Rattle.ghcn_files.specs.Meaning.Ids.{same_id, is_visible}
 use Rattle.ghcn_files.specs.Ids.{is_id}
 use Rattle.ghcn_files.specs.StationLines.{id_of, latitude, longitude, elevation, is_number_within, is_latitude}
-use Rattle.ghcn_files.specs.StationLines.{is_longitude, is_bad, number_of, station_of}
+use Rattle.ghcn_files.specs.StationLines.{is_longitude, is_bad, number_of, station_of, line_why, is_station}
 use Rattle.ghcn_files.specs.Meaning.StationLines.{is_printable, printable}
-use Rattle.ghcn_files.specs.StationLines.{line_why, is_station}
 use Rattle.ghcn_files.specs.Meaning.Listed.{is_station_of}
-use Rattle.ghcn_files.specs.Listed.{Numbered, is_repeated, stations_of, station_fault, place_of}
-use Rattle.ghcn_files.specs.KeptStations.{key_of}
-use Rattle.ghcn_files.specs.Listed.{AreListed}
-use Rattle.ghcn_files.specs.KeptStations.{key_cmp, AreEleven, kept_place, AreKept}
+use Rattle.ghcn_files.specs.Listed.{Numbered, is_repeated, stations_of, station_fault, place_of, AreListed}
+use Rattle.ghcn_files.specs.KeptStations.{key_of, key_cmp, AreEleven, kept_place, AreKept}
 use Rattle.ghcn_files.proofs.IdLaws.{same_id-turned, same_id-laws}
 use Rattle.ghcn_files.proofs.ById.{has_place, put_place, id_bytes}
 use Rattle.ghcn_files.proofs.StationTests.{why_by}

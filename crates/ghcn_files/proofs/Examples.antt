@@ -10,8 +10,7 @@ use Rattle.ghcn_files.specs.declared.fault.StationWhy.TheVariants as station
 use Rattle.ghcn_files.specs.declared.fault.StationsFault.TheVariants.{StationLine, TooManyStations}
 use Rattle.ghcn_files.specs.declared.fault.LineWhy.TheVariants as why
 use Rattle.ghcn_files.specs.Meaning.Elements.{elements, may_be_negative}
-use Rattle.ghcn_files.specs.Elements.{element_of}
-use Rattle.ghcn_files.specs.Elements.{is_kept, nothing, everything, with_one, only}
+use Rattle.ghcn_files.specs.Elements.{element_of, is_kept, nothing, everything, with_one, only}
 use Rattle.ghcn_files.specs.StationLines.{id_of, station_of}
 use Rattle.ghcn_files.specs.Meaning.Listed.{is_station_of}
 use Rattle.ghcn_files.specs.Listed.{Numbered, listed, is_repeated, station_fault, place_of}

@@ -1,6 +1,5 @@
 -- The tests of a line of the station list, one after the other.
-use Rattle.std.proofs.Common.{◌≡◌, ℕ, ◌≤◌, Bool, true, cond, List, length, map, Option, Some, None, ap}
-use Rattle.std.proofs.Common.{◌∙◌}
+use Rattle.std.proofs.Common.{◌≡◌, ℕ, ◌≤◌, Bool, true, cond, List, length, map, Option, Some, None, ap, ◌∙◌}
 use Rattle.std.specs.Prelude.{not, ℤ}
 use Rattle.std.proofs.lemmas.Bool.{le-leb}
 use Rattle.ghcn_fields.specs.Meaning.Lines.{columns}

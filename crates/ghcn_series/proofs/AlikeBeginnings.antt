@@ -1,33 +1,25 @@
 -- Beginnings of lines that are alike, and what is kept of a long one.
-use Rattle.std.proofs.Common.{◌≡◌, ℕ, suc, ◌+◌, ◌-◌, ◌<◌, ◌≤◌, min, Bool, cond}
-use Rattle.std.proofs.Common.{List, [], ◌∷◌, ◌++◌, length, take, drop, set, get_or}
-use Rattle.std.proofs.Common.{refl, sym, ap, ◌∙◌, subst₂, append_assoc, length-append, length-take, length-set, arith}
-use Rattle.std.specs.Prelude.{◌==◌, ◌&&◌}
-use Rattle.std.specs.Str.Lines.{strip_carriage_return}
-use Rattle.std.proofs.Math.Bool.{and-true}
-use Rattle.std.proofs.lemmas.List.{append-nil, take-append-drop, length-take-le, take_at, drop_at, take_more_set}
-use Rattle.std.proofs.lemmas.List.{nil_from_length}
-use Rattle.std.proofs.lemmas.List.Folds.{list_all-append}
-use Rattle.ghcn_fields.specs.Meaning.Bytes.{is_blank}
-use Rattle.ghcn_series.specs.Alike.{AreAlike, BeginAlike}
-use Rattle.ghcn_series.proofs.AlikeLines.{alike-same, alike-alike}
+use Rattle.ghcn_series.proofs.Cited.{◌≡◌, ℕ, suc, ◌+◌, ◌-◌, ◌<◌, ◌≤◌, min, Bool, cond, List, [], ◌∷◌, ◌++◌, length}
+use Rattle.ghcn_series.proofs.Cited.{take, drop, get_or, refl, sym, ap, ◌∙◌, subst₂, append_assoc, length-append}
+use Rattle.ghcn_series.proofs.Cited.{length-take, arith, ◌==◌, ◌&&◌, strip_carriage_return, and-true, append-nil}
+use Rattle.ghcn_series.proofs.Cited.{take-append-drop, length-take-le, nil_from_length, list_all-append, is_blank}
+use Rattle.ghcn_series.proofs.Cited.{AreAlike, BeginAlike}
+use Rattle.std.proofs.Common.{set, length-set}
+use Rattle.std.proofs.lemmas.List.{take_at, drop_at, take_more_set}
+use Rattle.ghcn_series.proofs.AlikeLines.{alike-alike}
 
 -- one is like itself
 pub begin-same : (a : List ℕ) → BeginAlike a a
-begin-same a = record { holds = λ more. alike-same (strip_carriage_return (a ++ more)) }
+begin-same a = record { holds = λ more. record { columns = refl; behind = refl } }
 
 -- what is like one that is like another one is like that one
 pub begin-alike : (a b c : List ℕ) → BeginAlike a b → BeginAlike b c → BeginAlike a c
-begin-alike a b c one other = record {
-  holds = λ more. alike-alike (strip_carriage_return (a ++ more)) (strip_carriage_return (b ++ more))
-      (strip_carriage_return (c ++ more)) (one.holds more) (other.holds more);
-}
+begin-alike a b c one other = record { holds = λ more. alike-alike _ _ _ (one.holds more) (other.holds more) }
 
 -- they stay so when the same bytes follow
 pub begin-more : (a b bytes : List ℕ) → BeginAlike a b → BeginAlike (a ++ bytes) (b ++ bytes)
-begin-more a b bytes is = record {
-  holds = λ more. rw (append_assoc a bytes more, append_assoc b bytes more) (is.holds (bytes ++ more));
-}
+begin-more a b bytes is =
+    record { holds = λ more. rw (append_assoc a bytes more, append_assoc b bytes more) (is.holds (bytes ++ more)) }
 
 -- as lines they are alike
 pub begin-line : (a b : List ℕ) → BeginAlike a b → AreAlike (strip_carriage_return a) (strip_carriage_return b)
@@ -39,8 +31,7 @@ either_cons t x xs ys = grind arith
 
 -- the carriage return at the end of a line is not its first byte if others follow
 strip-cons : (x y : ℕ) (ys : List ℕ) → strip_carriage_return (x ∷ y ∷ ys) ≡ x ∷ strip_carriage_return (y ∷ ys)
-strip-cons x y ys =
-    let last : length (x ∷ y ∷ ys) - 1 ≡ suc (length (y ∷ ys) - 1) = omega arith in
+strip-cons x y ys = let last : length (x ∷ y ∷ ys) - 1 ≡ suc (length (y ∷ ys) - 1) = omega arith in
     ap (λ (n : ℕ). cond (get_or (x ∷ y ∷ ys) n 0 == 13) (take n (x ∷ y ∷ ys)) (x ∷ y ∷ ys)) last
     ∙ either_cons (get_or (y ∷ ys) (length (y ∷ ys) - 1) 0 == 13) x (take (length (y ∷ ys) - 1) (y ∷ ys)) (y ∷ ys)
 
@@ -49,17 +40,14 @@ strip-append : (xs : List ℕ) (y : ℕ) (ys : List ℕ)
     → strip_carriage_return (xs ++ y ∷ ys) ≡ xs ++ strip_carriage_return (y ∷ ys)
 strip-append [] y ys = refl
 strip-append (x ∷ []) y ys = strip-cons x y ys
-strip-append (x ∷ z ∷ xs) y ys =
-    strip-cons x z (xs ++ y ∷ ys) ∙ ap (λ (r : List ℕ). x ∷ r) (strip-append (z ∷ xs) y ys)
+strip-append (x ∷ z ∷ xs) y ys = strip-cons x z (xs ++ y ∷ ys) ∙ ap (λ (r : List ℕ). x ∷ r) (strip-append (z ∷ xs) y ys)
 
 -- two beginnings that are alike have as many columns
 same_count : (a b : List ℕ) → BeginAlike a b → min 269 (length a + 1) ≡ min 269 (length b + 1)
 same_count a b is =
     let same : take 269 (a ++ 120 ∷ []) ≡ take 269 (b ++ 120 ∷ []) =
     rw (strip-append a 120 [], strip-append b 120 []) at (is.holds (120 ∷ [])).columns in
-    let long_a = length-append a (120 ∷ []) in
-    let long_b = length-append b (120 ∷ []) in
-    omega (arith, ap length same, length-take 269 (a ++ 120 ∷ []), length-take 269 (b ++ 120 ∷ []))
+    omega (arith, ap length same, length-take {A = ℕ}, length-append {A = ℕ})
 
 -- if one has a byte, so has the other
 pub begin-some : (a b : List ℕ) → BeginAlike a b → 0 < length b → 0 < length a
@@ -67,8 +55,7 @@ begin-some a b is some = omega (arith, some, same_count a b is)
 
 -- and if one has none, so has the other
 pub begin-none : (a b : List ℕ) → BeginAlike a b → b ≡ [] → a ≡ []
-begin-none a b is none =
-    nil_from_length a (omega (arith, same_count a b is, ap (λ (xs : List ℕ). length xs) none))
+begin-none a b is none = nil_from_length a (omega (arith, same_count a b is, ap (λ (xs : List ℕ). length xs) none))
 
 -- ---- what is kept of a long beginning
 
@@ -79,8 +66,7 @@ begin-short front middle other last long same = record {
   holds = λ more.
       let end = strip_carriage_return (last ∷ more) in
       let line : (xs : List ℕ) → strip_carriage_return ((front ++ (xs ++ last ∷ [])) ++ more) ≡ front ++ (xs ++ end) =
-      λ xs.
-      let whole : (front ++ (xs ++ last ∷ [])) ++ more ≡ (front ++ xs) ++ last ∷ more = simp append_assoc in
+      λ xs. let whole : (front ++ (xs ++ last ∷ [])) ++ more ≡ (front ++ xs) ++ last ∷ more = simp append_assoc in
       ap strip_carriage_return whole ∙ strip-append (front ++ xs) last more ∙ append_assoc front xs end in
       let blank : (xs : List ℕ) → is_blank (drop 269 (front ++ (xs ++ end))) ≡ (is_blank xs && is_blank end) = λ xs.
       ap is_blank (drop_at front (xs ++ end) 269 long) ∙ list_all-append (λ b. b == 32) xs end in
@@ -94,9 +80,7 @@ begin-short front middle other last long same = record {
 pub begin-kept : (rest middle : List ℕ) (mark last : ℕ) → 271 ≤ length rest
     → (is_blank (drop 269 rest) && is_blank middle) ≡ (mark == 32)
     → BeginAlike (rest ++ (middle ++ last ∷ [])) (take 271 (set (set rest 269 mark) 270 last))
-begin-kept rest middle mark last long marked =
-    let front = take 269 rest in
-    let behind = drop 269 rest in
+begin-kept rest middle mark last long marked = let front = take 269 rest in let behind = drop 269 rest in
     let whole : rest ++ (middle ++ last ∷ []) ≡ front ++ ((behind ++ middle) ++ last ∷ []) =
     ap (λ (l : List ℕ). l ++ (middle ++ last ∷ [])) (sym (take-append-drop 269 rest)) ∙ simp append_assoc in
     let kept : take 271 (set (set rest 269 mark) 270 last) ≡ front ++ ((mark ∷ []) ++ last ∷ []) =
@@ -105,5 +89,5 @@ begin-kept rest middle mark last long marked =
     ∙ append_assoc front (mark ∷ []) (last ∷ []) in
     let blank : is_blank (behind ++ middle) ≡ is_blank (mark ∷ []) =
     list_all-append (λ b. b == 32) behind middle ∙ marked ∙ sym (and-true (mark == 32)) in
-    rw (whole, kept) (begin-short front (behind ++ middle) (mark ∷ []) last
-    (length-take-le 269 rest (omega (arith, long))) blank)
+    rw (whole, kept)
+    (begin-short front (behind ++ middle) (mark ∷ []) last (length-take-le 269 rest (omega (arith, long))) blank)

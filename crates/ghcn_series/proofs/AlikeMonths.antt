@@ -1,25 +1,13 @@
 -- Lines that are alike are read as the same month, or refused for the same reason.
-use Rattle.std.proofs.Common.{◌≡◌, ℕ, zero, suc, ◌+◌, ◌*◌, ◌<◌, ◌≤◌, Bool, cond, not, List, ◌∷◌, length, map, take}
-use Rattle.std.proofs.Common.{Option, None, Some, Result, Err, refl, sym, ap, ap₂, ◌∙◌, arith}
-use Rattle.std.specs.Prelude.{nat_lt, nat_le, pos, unsigned_abs}
-use Rattle.std.specs.List.{range_with_len}
-use Rattle.std.proofs.lemmas.Bool.Decides.{nat_tests}
-use Rattle.ghcn_fields.specs.Meaning.Bytes.{is_blank}
-use Rattle.ghcn_fields.specs.Meaning.Lines.{columns}
-use Rattle.ghcn_fields.specs.Numbers.{int_field}
-use Rattle.ghcn_files.specs.declared.element.Element.{Element}
-use Rattle.ghcn_files.specs.declared.fault.LineWhy.{LineWhy}
-use Rattle.ghcn_files.specs.declared.fault.LineWhy.TheVariants.{Short}
-use Rattle.ghcn_files.specs.declared.month.Month.{Month}
-use Rattle.ghcn_files.specs.declared.month.Reading.{Reading}
-use Rattle.ghcn_files.specs.Elements.{element_of}
-use Rattle.ghcn_files.specs.Ids.{is_id}
-use Rattle.ghcn_files.specs.StationLines.{is_number_within, number_of}
-use Rattle.ghcn_files.specs.Months.{reading, days_of_group, days_why, month_why, month_of, month_if, read_month, unless}
+use Rattle.ghcn_series.proofs.Cited.{◌≡◌, ℕ, zero, suc, ◌+◌, ◌*◌, ◌<◌, ◌≤◌, Bool, cond, not, List, length, map, take}
+use Rattle.ghcn_series.proofs.Cited.{Option, None, Some, Result, Err, refl, sym, ap, ap₂, ◌∙◌, arith, nat_lt, nat_le}
+use Rattle.ghcn_series.proofs.Cited.{pos, unsigned_abs, range_with_len, nat_tests, is_blank, columns, int_field}
+use Rattle.ghcn_series.proofs.Cited.{Element, LineWhy, Short, Month, Reading, element_of, is_id, is_number_within}
+use Rattle.ghcn_series.proofs.Cited.{number_of, reading, days_of_group, month_why, month_of, month_if, read_month}
+use Rattle.ghcn_series.proofs.Cited.{unless, AreAlike}
 use Rattle.ghcn_files.proofs.Months.{why_by}
 use Rattle.ghcn_files.proofs.Readings.{all_days}
 use Rattle.ghcn_files.proofs.WholeLines.{SaysSame, same-reading, same-why}
-use Rattle.ghcn_series.specs.Alike.{AreAlike}
 use Rattle.ghcn_series.proofs.AlikeLines.{by_columns, same_columns, same_code}
 
 -- two functions that agree on some numbers one after another
@@ -27,8 +15,7 @@ map_agrees : (f g : ℕ → Reading) (a n : ℕ) → ((j : ℕ) → a ≤ j → 
     → map f (range_with_len a n) ≡ map g (range_with_len a n)
 map_agrees f g a zero same = refl
 map_agrees f g a (suc n) same =
-    ap₂ (λ (x : Reading) (xs : List Reading). x ∷ xs) (same a (omega arith) (omega arith))
-    (map_agrees f g (a + 1) n (λ j low high. same j (omega (arith, low)) (omega (arith, high))))
+    rw (same a (omega arith) (omega arith), map_agrees f g (a + 1) n (λ j low high. same j (omega arith) (omega arith)))
 
 -- the days of lines that are alike say the same
 days_say : (a b : List ℕ) → take 269 a ≡ take 269 b → SaysSame a b
@@ -49,23 +36,18 @@ same_head a b is = (
 
 -- they fail the same test first
 same_why : (a b : List ℕ) → AreAlike a b → month_why a ≡ month_why b
-same_why a b is =
-    let head = same_head a b is in
+same_why a b is = let head = same_head a b is in
     let long : nat_le 266 (length a) ≡ nat_le 266 (length b) =
     by_columns (λ (l : List ℕ). nat_le 266 (length l)) a b is.columns (λ long_a long_b. grind (arith, nat_tests)) in
-    let days : days_why a ≡ days_why b = same-why a b (days_say a b is.columns) in
     λ i. why_by (long i) (is.behind i) (is_id (head.0 i)) (is_number_within (pos 1) (pos 9999) (int_field (head.1 i)))
-    (is_number_within (pos 1) (pos 12) (int_field (head.2 i))) (days i)
+    (is_number_within (pos 1) (pos 12) (int_field (head.2 i))) (same-why a b (days_say a b is.columns) i)
 
 -- they are the same month
 same_month_of : (e : Element) (a b : List ℕ) → AreAlike a b → month_of e a ≡ month_of e b
-same_month_of e a b is =
-    let head = same_head a b is in
+same_month_of e a b is = let head = same_head a b is in
     let days : map (reading a) days_of_group ≡ map (reading b) days_of_group =
-    sym (all_days a 31 refl)
-    ∙ map_agrees (reading a) (reading b) 1 31 (λ j low high.
-    same-reading a b (days_say a b is.columns) j low (omega (arith, high)))
-    ∙ all_days b 31 refl in
+    sym (all_days a 31 refl) ∙ map_agrees (reading a) (reading b) 1 31 (λ j low high.
+    same-reading a b (days_say a b is.columns) j low (omega (arith, high))) ∙ all_days b 31 refl in
     λ i. record {
       id = record { 0 = head.0 i };
       element = e;

@@ -1,33 +1,15 @@
 -- The series of all stations, from what was gathered of each.
-use Rattle.std.proofs.Common.{◌≡◌, Bool, true, false, cond, not, List, [], ◌∷◌, ◌++◌, length, map, filter}
-use Rattle.std.proofs.Common.{Option, None, Some, refl, sym, ap, ap₂, ◌∙◌}
-use Rattle.std.specs.Prelude.{◌==◌, ◌&&◌}
-use Rattle.std.specs.List.{filter_map, flat_map, cons_option, list_any, AllZip, AllByRecursion, slice_get}
-use Rattle.std.proofs.lemmas.List.Elements.{filter-append}
-use Rattle.std.proofs.lemmas.Bool.{and_parts, cond_both, or_right, eqb-true}
-use Rattle.std.proofs.lemmas.Option.{same_Some}
-use Rattle.ghcn_fields.specs.Sorting.{sorted_by}
-use Rattle.ghcn_files.specs.declared.station.StationId.{StationId}
-use Rattle.ghcn_files.specs.declared.station.Station.{Station}
-use Rattle.ghcn_files.specs.declared.element.Element.{Element}
-use Rattle.ghcn_files.specs.declared.element.Keep.{Keep}
-use Rattle.ghcn_files.specs.declared.month.Month.{Month}
-use Rattle.ghcn_files.specs.Meaning.Ids.{same_id}
-use Rattle.ghcn_files.specs.Meaning.Elements.{elements}
-use Rattle.ghcn_files.specs.Elements.{same_element, is_kept, everything}
-use Rattle.ghcn_files.specs.Listed.{AreListed}
-use Rattle.ghcn_files.specs.Months.{IsMonth}
+use Rattle.ghcn_series.proofs.Cited.{◌≡◌, Bool, true, false, cond, not, List, [], ◌∷◌, ◌++◌, length, map, filter}
+use Rattle.ghcn_series.proofs.Cited.{Option, None, Some, refl, sym, ap, ap₂, ◌∙◌, ◌==◌, ◌&&◌, filter_map, flat_map}
+use Rattle.ghcn_series.proofs.Cited.{cons_option, list_any, AllZip, AllByRecursion, slice_get, filter-append, and_parts}
+use Rattle.ghcn_series.proofs.Cited.{cond_both, or_right, eqb-true, same_Some, sorted_by, StationId, Station, Element}
+use Rattle.ghcn_series.proofs.Cited.{Keep, Month, same_id, elements, same_element, is_kept, everything, AreListed}
+use Rattle.ghcn_series.proofs.Cited.{IsMonth, Gathering, DayValue, Series, Data, IsSeries, by_day, is_listed, Fact}
+use Rattle.ghcn_series.proofs.Cited.{facts_of, is_usable, days_of, usable_of, all_series, all_of, same_series, kept}
+use Rattle.ghcn_series.proofs.Cited.{usable_days, kept_days, gathered_days, months_of, IsGatheringOf, AreByElement}
+use Rattle.ghcn_series.proofs.Cited.{IsStationOf, IsReady, gathered_series, series_by_place, arith}
 use Rattle.ghcn_files.proofs.KeptElements.{is_kept-everything}
-use Rattle.ghcn_series.specs.declared.gathering.Gathering.{Gathering}
-use Rattle.ghcn_series.specs.Meaning.Series.{DayValue, Series}
-use Rattle.ghcn_series.specs.Series.{Data, IsSeries, by_day}
-use Rattle.ghcn_series.specs.DailyFaults.{is_listed}
-use Rattle.ghcn_series.specs.Meaning.Says.{Fact}
-use Rattle.ghcn_series.specs.Says.{facts_of, is_usable, days_of, usable_of, all_series}
-use Rattle.ghcn_series.specs.Held.{AreByStation, all_of, same_series}
-use Rattle.ghcn_series.specs.Kept.{kept}
-use Rattle.ghcn_series.specs.Gathered.{usable_days, kept_days, gathered_days, months_of, IsGatheringOf}
-use Rattle.ghcn_series.specs.Gathered.{AreByElement, IsStationOf, IsReady, gathered_series, series_by_place}
+use Rattle.ghcn_series.specs.Held.{AreByStation}
 use Rattle.ghcn_series.proofs.Places.{same_id-refl}
 use Rattle.ghcn_series.proofs.StationMonths.{months_of-none, element_at}
 use Rattle.ghcn_series.proofs.SeriesPlaces.{in_all}
@@ -38,8 +20,7 @@ use Rattle.ghcn_series.proofs.DistinctSeries.{all_said, stations_apart}
 
 -- elements that are the same
 pub same_element-is : (a b : Element) → same_element a b ≡ true → a ≡ b
-same_element-is a b e = same_Some a b
-    (sym (element_at a) ∙ ap (slice_get elements) (eqb-true _ _ e) ∙ element_at b)
+same_element-is a b e = same_Some a b (sym (element_at a) ∙ ap (slice_get elements) (eqb-true _ _ e) ∙ element_at b)
 
 -- each gathering of a station can become a series
 pub right_of : (id : StationId) (e f : Element) (ms : List Month) → f ≡ e → AllByRecursion IsMonth ms
@@ -66,15 +47,11 @@ module _ (asked : Keep) (ms : List Month) (right : AllByRecursion IsMonth ms) wh
       → AllByRecursion IsReady gs
   ready_zip id [] es all = tt
   ready_zip id (g ∷ gs) [] all = absurd all
-  ready_zip id (g ∷ gs) (e ∷ es) all = (
-    record {
-      kept = is_kept asked e;
-      months = months_of ms id e;
-      holds = all.0.holds;
-      right = right_of id e g.element ms all.0.element right;
-    },
-    ready_zip id gs es all.1,
-  )
+  ready_zip id (g ∷ gs) (e ∷ es) all =
+      let own = right_of id e g.element ms all.0.element right in (
+        record { kept = is_kept asked e; months = months_of ms id e; holds = all.0.holds; right = own },
+        ready_zip id gs es all.1,
+      )
 
   -- so can those of a station, if it has any
   ready_station : (id : StationId) (gs : List Gathering) → AreByElement asked ms id gs → AllByRecursion IsReady gs
@@ -108,12 +85,8 @@ is_kept_series asked u = is_kept asked u.element
 
 -- a series more is there if its element is kept and it has a day
 one_more : (p : Series → Bool) (k b : Bool) (u : Series) (us xs : List Series) (o : Option Series) → p u ≡ k
-    → o ≡ cond k (cond b None (Some u)) None → xs ≡ filter p us
-    → cons_option o xs ≡ filter p (cond (not b) (u ∷ us) us)
-one_more p true true u us xs o is same rest = rw (same, rest)
-one_more p true false u us xs o is same rest = rw (same, rest, is)
-one_more p false true u us xs o is same rest = rw (same, rest)
-one_more p false false u us xs o is same rest = rw (same, rest, is)
+    → o ≡ cond k (cond b None (Some u)) None → xs ≡ filter p us → cons_option o xs ≡ filter p (cond (not b) (u ∷ us) us)
+one_more p k b u us xs o is same rest = grind arith
 
 -- the series of a station and an element that has these days, if there is one
 abbrev if_any : StationId → Element → List DayValue → Option Series
@@ -176,10 +149,9 @@ module _ (asked : Keep) (stations : List Station) (ms : List Month) where
   series_are (s ∷ ss) (gs ∷ all) listed are =
       let own = filter has_days (map (usable_of facts s) elements) in
       ap₂ (λ (us more : List Series). us ++ more) (station_series-are s gs listed.0 are.0)
-      (series_are ss all listed.1 are.1)
-      ∙ sym (filter-append (is_kept_series asked) own (all_series ss facts))
-      ∙ ap (filter (is_kept_series asked)) (sym (filter-append has_days (map (usable_of facts s) elements)
-      (flat_map (λ x. map (usable_of facts x) elements) ss)))
+      (series_are ss all listed.1 are.1) ∙ sym (filter-append (is_kept_series asked) own (all_series ss facts))
+      ∙ ap (filter (is_kept_series asked))
+      (sym (filter-append has_days (map (usable_of facts s) elements) (all_said facts ss)))
   series_are _ _ listed are = absurd are
 
 -- ---- what is true of them
@@ -194,13 +166,11 @@ all_listed (s ∷ ss) = (
 )
 
 -- the series of all stations, in one list for each, are its own and right
-pub are_by_station : (asked : Keep) (ms : List Month) (ss : List Station) (all : List (List Gathering))
-    → AreListed ss → AllByRecursion IsMonth ms → AllZip (IsStationOf asked ms) ss all
-    → AreByStation ss (series_by_place ss all)
+pub are_by_station : (asked : Keep) (ms : List Month) (ss : List Station) (all : List (List Gathering)) → AreListed ss
+    → AllByRecursion IsMonth ms → AllZip (IsStationOf asked ms) ss all → AreByStation ss (series_by_place ss all)
 are_by_station asked ms ss all listed right are =
     let P : Station → Series → Type 0 = λ s u. IsSeries u × (u.id ≡ s.id) in
-    let lists = series_by_place ss all in
-    let made = made_right asked ms right ss all are in
+    let lists = series_by_place ss all in let made = made_right asked ms right ss all are in
     record {
       own = zip-weaker (λ (s : Station) (us : List Series). AllByRecursion (P s) us)
           (λ s us. AllByRecursion (λ (u : Series). u.id ≡ s.id) us) ss lists

@@ -1,19 +1,13 @@
 -- Parts without a common day: a part more, and no day of theirs occurs twice.
-use Rattle.std.proofs.Common.{◌≡◌, ℕ, zero, suc, ◌+◌, false, List, [], ◌∷◌, ◌++◌, length, get_or, set, Option, Some}
-use Rattle.std.proofs.Common.{None, IsSome, inl, inr, refl, sym, ap, subst, ◌∙◌, arith, ℤ, pos}
-use Rattle.std.specs.Prelude.{bit_or}
-use Rattle.std.specs.List.{IsDistinct, AllByRecursion}
-use Rattle.std.specs.Map.{keys_of, lookup}
-use Rattle.std.specs.Option.{option_or}
-use Rattle.std.specs.Ordering.{int_eq}
-use Rattle.std.proofs.lemmas.Bool.{cases_Bool, false≢true}
-use Rattle.std.proofs.lemmas.Cmp.{int_eq_equiv}
+use Rattle.ghcn_series.proofs.Cited.{◌≡◌, ℕ, zero, suc, ◌+◌, false, List, [], ◌∷◌, ◌++◌, length, get_or, Option, Some}
+use Rattle.ghcn_series.proofs.Cited.{None, IsSome, inl, inr, refl, sym, ap, subst, ◌∙◌, arith, ℤ, pos, bit_or}
+use Rattle.ghcn_series.proofs.Cited.{IsDistinct, AllByRecursion, keys_of, lookup, option_or, int_eq, cases_Bool}
+use Rattle.ghcn_series.proofs.Cited.{false≢true, int_eq_equiv, none-some, DayValue, value_on, Block, block_days}
+use Rattle.ghcn_series.proofs.Cited.{days_of_blocks, blocks_of, AreBlocks, AreRising, AreNew, AreDisjoint, AreJoined}
+use Rattle.ghcn_series.proofs.Cited.{each-mapped}
+use Rattle.std.proofs.Common.{set}
 use Rattle.std.proofs.lemmas.Map.{lookup-none, none_passes_from_lookup}
-use Rattle.std.proofs.lemmas.Option.{none-some}
-use Rattle.ghcn_series.specs.Meaning.Series.{DayValue, value_on}
-use Rattle.ghcn_series.specs.Packed.{Block, block_days, days_of_blocks, blocks_of, AreBlocks, AreRising}
-use Rattle.ghcn_series.specs.Parts.{AreNew, AreDisjoint, AreJoined}
-use Rattle.ghcn_files.proofs.Ordered.{each-map, each-mapped}
+use Rattle.ghcn_files.proofs.Ordered.{each-map}
 use Rattle.ghcn_series.proofs.Lookups.{value_on-append}
 use Rattle.ghcn_series.proofs.JoinedDays.{both-none, same_block, last-joined, pushed-blocks}
 use Rattle.ghcn_series.proofs.PartsAdded.{days-pushed, join-last, IsJoin}
@@ -35,14 +29,10 @@ new-each xs ys more new = (λ d some. (none d some).0, λ d some. (none d some).
     none : (d : ℤ) → IsSome (value_on more d) → (value_on xs d ≡ None) × (value_on ys d ≡ None)
     none d some = both-none (value_on xs d) (value_on ys d) (sym (value_on-append xs ys d) ∙ new d some)
 
--- no day is new to any days
-nothing-new : (days : List DayValue) → AreNew days []
-nothing-new days d some = absurd cc
-
 -- a part that is new beside others is apart from them
 pub push-apart : (bs : List Block) (b : Block) → AreDisjoint bs → AreNew (days_of_blocks bs) (block_days b)
     → AreDisjoint (bs ++ b ∷ [])
-push-apart [] b apart fresh = (nothing-new (block_days b), tt)
+push-apart [] b apart fresh = ((λ d some. absurd cc), tt)
 push-apart (x ∷ xs) b apart fresh =
     let each = new-each (block_days x) (days_of_blocks xs) (block_days b) fresh in (
       new-both (block_days x) (days_of_blocks xs) (block_days b) (days_of_blocks (xs ++ b ∷ [])) apart.0 each.0
@@ -57,12 +47,7 @@ pub last-apart : (ns : List ℤ) (ws : List ℕ) (vs : List (List ℤ)) (i : ℕ
     (block_days (get_or ns i (pos 0), (p, r)))
     → AreDisjoint (blocks_of ns ws vs) → AreNew (days_of_blocks (blocks_of ns ws vs)) more
     → AreDisjoint (blocks_of ns (set ws i p) (set vs i r))
-last-apart [] ws vs i p r more lw lv last is apart fresh = absurd (omega arith)
-last-apart (n ∷ ns) [] vs i p r more lw lv last is apart fresh = absurd (omega arith)
-last-apart (n ∷ ns) (w ∷ ws) [] i p r more lw lv last is apart fresh = absurd (omega arith)
-last-apart (n ∷ []) (w ∷ ws) (v ∷ vs) zero p r more lw lv last is apart
-    fresh = (nothing-new (block_days (n, (p, r))), tt)
-last-apart (n ∷ m ∷ ns) (w ∷ ws) (v ∷ vs) zero p r more lw lv last is apart fresh = absurd (omega arith)
+last-apart (n ∷ []) (w ∷ ws) (v ∷ vs) zero p r more lw lv last is apart fresh = ((λ d some. absurd cc), tt)
 last-apart (n ∷ ns) (w ∷ ws) (v ∷ vs) (suc i) p r more lw lv last is apart fresh =
     let each = new-each (block_days (n, (w, v))) (days_of_blocks (blocks_of ns ws vs)) more fresh in
     let joined = last-joined ns ws vs i p r more (omega arith) (omega arith) (omega arith) is in (
@@ -70,15 +55,15 @@ last-apart (n ∷ ns) (w ∷ ws) (v ∷ vs) (suc i) p r more lw lv last is apart
           (days_of_blocks (blocks_of ns (set ws i p) (set vs i r))) apart.0 each.0 joined,
       last-apart ns ws vs i p r more (omega arith) (omega arith) (omega arith) is apart.1 each.1,
     )
+last-apart ns ws vs i p r more lw lv last is apart fresh = absurd (omega arith)
 
-module _ (ns : List ℤ) (ws : List ℕ) (vs : List (List ℤ)) (bs : AreBlocks ns ws vs) where
-  -- a part more
-  pub pushed-apart : (n : ℤ) (w : ℕ) (v : List ℤ) → AreDisjoint (blocks_of ns ws vs)
-      → AreNew (days_of_blocks (blocks_of ns ws vs)) (block_days (n, (w, v)))
-      → AreDisjoint (blocks_of (ns ++ n ∷ []) (ws ++ w ∷ []) (vs ++ v ∷ []))
-  pushed-apart n w v apart fresh =
-      subst AreDisjoint (sym (pushed-blocks ns ws vs n w v bs.enough_words bs.enough_values))
-      (push-apart (blocks_of ns ws vs) (n, (w, v)) apart fresh)
+-- a part more
+pub pushed-apart : (ns : List ℤ) (ws : List ℕ) (vs : List (List ℤ)) → AreBlocks ns ws vs → (n : ℤ) (w : ℕ) (v : List ℤ)
+    → AreDisjoint (blocks_of ns ws vs) → AreNew (days_of_blocks (blocks_of ns ws vs)) (block_days (n, (w, v)))
+    → AreDisjoint (blocks_of (ns ++ n ∷ []) (ws ++ w ∷ []) (vs ++ v ∷ []))
+pushed-apart ns ws vs bs n w v apart fresh =
+    subst AreDisjoint (sym (pushed-blocks ns ws vs n w v bs.enough_words bs.enough_values))
+    (push-apart (blocks_of ns ws vs) (n, (w, v)) apart fresh)
 
 -- more days of the last part
 pub join-apart : (ns : List ℤ) (ws : List ℕ) (vs : List (List ℤ)) (i p : ℕ) (u r : List ℤ) → IsJoin ns ws vs i p u r
@@ -92,22 +77,18 @@ join-apart ns ws vs i p u r is apart =
 -- a day is looked up among pairs as it is in a map
 pub lookup-is : (q : ℤ) (xs : List DayValue) → lookup (int_eq q) xs ≡ value_on xs q
 lookup-is q [] = refl
-lookup-is q (x ∷ xs) = rw (int_eq_equiv.symm q x.0) (elim (cases_Bool (int_eq x.0 q)) [
-  | inl here ↦ rw here
-  | inr other ↦ rw other (lookup-is q xs)
-])
+lookup-is q (x ∷ xs) = rw (int_eq_equiv.symm q x.0)
+    (elim (cases_Bool (int_eq x.0 q)) [ inl here ↦ rw here | inr other ↦ rw other (lookup-is q xs) ])
 
 -- a day without a value is none of the days
 none-is : (xs : List DayValue) (d : ℤ) → value_on xs d ≡ None → AllByRecursion (λ k. int_eq d k ≡ false) (keys_of xs)
-none-is xs d none =
-    each-map (λ (x : DayValue). x.0) (λ (k : ℤ). int_eq d k ≡ false) xs
+none-is xs d none = each-map (λ (x : DayValue). x.0) (λ (k : ℤ). int_eq d k ≡ false) xs
     (none_passes_from_lookup (int_eq d) xs (lookup-is d xs ∙ none))
 
 -- and a day that is none of them has no value
 pub none-from : (xs : List DayValue) (d : ℤ) → AllByRecursion (λ k. int_eq d k ≡ false) (keys_of xs)
     → value_on xs d ≡ None
-none-from xs d all =
-    sym (lookup-is d xs)
+none-from xs d all = sym (lookup-is d xs)
     ∙ lookup-none (int_eq d) xs (each-mapped (λ (x : DayValue). x.0) (λ (k : ℤ). int_eq d k ≡ false) xs all)
 
 -- of days in a row, of which no two are the same, the later are new

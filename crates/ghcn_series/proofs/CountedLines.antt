@@ -1,34 +1,23 @@
 -- What is counted of one line more, or of one file more.
-use Rattle.std.proofs.Common.{◌≡◌, ℕ, ◌+◌, ◌≤◌, true, false, Bool, cond, List, [], ◌∷◌, ◌++◌, length, map}
-use Rattle.std.proofs.Common.{Option, None, Some, refl, sym, ap, ◌∙◌, length-append, arith}
-use Rattle.std.specs.Prelude.{◌-◌, ◌^◌, ◌&&◌, ◌||◌, ◌==◌, not, if◌then◌else◌, take, drop, replicate}
-use Rattle.std.proofs.Math.Bool.{or-false}
-use Rattle.std.specs.List.{list_any, count_by, find, slice_get}
-use Rattle.std.specs.Option.{is_some, option_map, option_or}
-use Rattle.std.proofs.lemmas.Bool.{eqb-true, and_parts}
-use Rattle.std.proofs.lemmas.List.{append-nil, map-append, take-append-drop}
-use Rattle.std.proofs.lemmas.List.Elements.{filter-append}
-use Rattle.std.proofs.lemmas.List.Folds.{list_any-append, list_all-append, find-append}
-use Rattle.std.proofs.lemmas.List.Sums.{sum_by-append, sum_by_push, count_by-le-length}
-use Rattle.std.proofs.lemmas.Grind.{flat_map-append}
-use Rattle.ghcn_fields.specs.Meaning.Bytes.{is_blank}
-use Rattle.ghcn_fields.specs.Meaning.Lines.{columns, lines}
-use Rattle.ghcn_files.proofs.LineLaws.{enumerate_from-append}
-use Rattle.ghcn_files.specs.Elements.{element_of}
-use Rattle.ghcn_series.specs.declared.counts.Foreign.{Foreign}
-use Rattle.ghcn_series.specs.declared.counts.LinePlace.{LinePlace}
-use Rattle.ghcn_series.specs.declared.counts.LineCounts.{LineCounts}
+use Rattle.ghcn_series.proofs.Cited.{◌≡◌, ℕ, ◌+◌, ◌≤◌, true, false, Bool, cond, List, [], ◌∷◌, ◌++◌, length, map}
+use Rattle.ghcn_series.proofs.Cited.{Option, None, Some, refl, sym, ap, ◌∙◌, length-append, arith, ◌-◌, ◌^◌, ◌&&◌, ◌||◌}
+use Rattle.ghcn_series.proofs.Cited.{◌==◌, not, if◌then◌else◌, take, drop, replicate, or-false, list_any, count_by}
+use Rattle.ghcn_series.proofs.Cited.{find, slice_get, is_some, option_map, option_or, eqb-true, and_parts, append-nil}
+use Rattle.ghcn_series.proofs.Cited.{map-append, take-append-drop, filter-append, list_any-append, list_all-append}
+use Rattle.ghcn_series.proofs.Cited.{find-append, sum_by-append, sum_by_push, flat_map-append, is_blank, columns, lines}
+use Rattle.ghcn_series.proofs.Cited.{enumerate_from-append, element_of, Foreign, LinePlace, LineCounts, Blank}
+use Rattle.ghcn_series.proofs.Cited.{OfElement, Other, Odd, HaveCounted, FileLine, file_line, not_blank, file_lines}
+use Rattle.ghcn_series.proofs.Cited.{daily_lines, all_lines, has_element, is_foreign, line_kind, foreign_places}
+use Rattle.ghcn_series.proofs.Cited.{foreign_of, is_odd, odd_among}
+use Rattle.std.proofs.lemmas.List.Sums.{count_by-le-length}
 use Rattle.ghcn_series.specs.declared.counts.LineKind.{LineKind}
-use Rattle.ghcn_series.specs.declared.counts.LineKind.TheVariants.{Blank, OfElement, Other, Odd}
-use Rattle.ghcn_series.specs.Counted.{HaveCounted, CountsLine, AddsForeign, with_odd}
-use Rattle.ghcn_series.specs.DailyFaults.{FileLine, file_line, not_blank, file_lines, daily_lines}
-use Rattle.ghcn_series.specs.LineKinds.{all_lines, has_element, has_form, is_foreign, line_kind, foreign_places}
-use Rattle.ghcn_series.specs.LineKinds.{foreign_of, is_odd, place_of, odd_among, warnings_of}
+use Rattle.ghcn_series.specs.Counted.{CountsLine, AddsForeign, with_odd}
+use Rattle.ghcn_series.specs.LineKinds.{has_form, place_of, warnings_of}
 use Rattle.ghcn_series.proofs.FedLines.{daily_lines-one}
 
 -- ---- odd lines
 
--- a line more that is odd, or isn't, after so many odd ones and the first of them
+-- a line more that is odd, or isn't, after that many odd ones and the first of them
 odd_step : (odd : Bool) (n : ℕ) (first : Option FileLine) (l : FileLine)
     → (if odd then with_odd (record { count = n; first = option_map place_of first }) (place_of l)
     else record { count = n; first = option_map place_of first })
@@ -43,16 +32,12 @@ odd_more : (blank : Bool) (before : List FileLine) (place : LinePlace) (line : L
     → (if is_odd line then with_odd (odd_among before) place else odd_among before)
     ≡ odd_among (before ++ not_blank (place.file + 1) ((place.line, line) ∷ []))
 odd_more true before place line is = rw (is, append-nil before) refl
-odd_more false before place line is =
-    let l : FileLine = file_line (place.file + 1) (place.line, line) in
+odd_more false before place line is = let l : FileLine = file_line (place.file + 1) (place.line, line) in
     let file : place.file + 1 - 1 ≡ place.file = omega arith in
     let alone : not_blank (place.file + 1) ((place.line, line) ∷ []) ≡ l ∷ [] = rw is refl in
-    rw (
-      alone,
-      sum_by_push (λ (x : FileLine). cond (is_odd x.bytes) 1 0) before l,
-      find-append (λ (x : FileLine). is_odd x.bytes) before (l ∷ []),
-    )
-    (rw file at (odd_step (is_odd line) (count_by (λ x. is_odd x.bytes) before) (find (λ x. is_odd x.bytes) before) l))
+    rw (alone, sum_by_push (λ (x : FileLine). cond (is_odd x.bytes) 1 0) before l)
+    (rw (find-append (λ (x : FileLine). is_odd x.bytes) before (l ∷ []))
+    (rw file at (odd_step (is_odd line) (count_by (λ x. is_odd x.bytes) before) (find (λ x. is_odd x.bytes) before) l)))
 
 -- ---- a line
 
@@ -69,8 +54,7 @@ pub counted-line : (old new : LineCounts) (ended : List (List ℕ)) (whole more 
     → HaveCounted old ended whole → HaveCounted new ended more
 counted-line old new ended whole more line place all behind adds is = record {
   number = adds.number ∙ is.number;
-  blank = rw all
-      (omega (arith, adds.blank, is.blank, sum_by_push (λ l. cond (is_blank l) 1 0) (lines whole) line));
+  blank = rw all (omega (arith, adds.blank, is.blank, sum_by_push (λ l. cond (is_blank l) 1 0) (lines whole) line));
   foreign = adds.foreign ∙ is.foreign;
   odd = adds.odd ∙ rw is.odd
       (odd_more (is_blank line) (daily_lines ended ++ file_lines (length ended + 1, whole)) place line refl)
@@ -81,33 +65,27 @@ counted-line old new ended whole more line place all behind adds is = record {
 
 -- ---- what is on a line
 
--- two tests that hold
-pub both_of : (a b : Bool) → (a && b) ≡ true → (a ≡ true) × (b ≡ true)
-both_of a b e = and_parts a b e
-
 -- blanks name no element
 no_element : (bytes : List ℕ) → is_blank bytes ≡ true → is_some (element_of bytes) ≡ false
 no_element [] blank = refl
 no_element (b ∷ bytes) blank =
-    let first : b ≡ 32 = eqb-true b 32 (both_of (b == 32) (is_blank bytes) blank).0 in
-    rw first refl
+    let first : b ≡ 32 = eqb-true b 32 (and_parts (b == 32) (is_blank bytes) blank).0 in rw first refl
 
 -- of blanks the first ones and the others are blanks
 blank_parts : (n : ℕ) (bytes : List ℕ) → is_blank bytes ≡ true
     → (is_blank (take n bytes) ≡ true) × (is_blank (drop n bytes) ≡ true)
 blank_parts n bytes blank =
-    both_of _ _ (sym (list_all-append (λ b. b == 32) (take n bytes) (drop n bytes))
+    and_parts _ _ (sym (list_all-append (λ b. b == 32) (take n bytes) (drop n bytes))
     ∙ ap is_blank (take-append-drop n bytes) ∙ blank)
 
 -- a blank line has no element
 pub blank_line : (line : List ℕ) → is_blank line ≡ true → has_element line ≡ false
-blank_line line blank =
-    let whole = line ++ replicate 21 32 in
+blank_line line blank = let whole = line ++ replicate 21 32 in
     let all : is_blank whole ≡ true = list_all-append (λ b. b == 32) line (replicate 21 32) ∙ rw blank refl in
     no_element (columns 18 21 line) (blank_parts 4 (drop 17 whole) (blank_parts 17 whole all).1).0
 
 -- what a kind says of a line: whether it is blank, has an element, and is odd
-abbrev kind_tests : LineKind → Bool × (Bool × Bool)
+abbrev pub kind_tests : LineKind → Bool × (Bool × Bool)
 kind_tests Blank = (true, (false, false))
 kind_tests OfElement = (false, (true, false))
 kind_tests Other = (false, (false, false))
@@ -123,29 +101,16 @@ of_kind false false true k none is = rw is (refl, (refl, refl))
 of_kind false false false k none is = rw is (refl, (refl, refl))
 
 -- so it is with a line of this kind
-pub blank_kind : (line : List ℕ) → Blank ≡ line_kind line
-    → (is_blank line ≡ true) × ((has_element line ≡ false) × (is_odd line ≡ false))
-blank_kind line is = of_kind (is_blank line) (has_element line) (has_form line) Blank (blank_line line) is
-
-pub element_kind : (line : List ℕ) → OfElement ≡ line_kind line
-    → (is_blank line ≡ false) × ((has_element line ≡ true) × (is_odd line ≡ false))
-element_kind line is = of_kind (is_blank line) (has_element line) (has_form line) OfElement (blank_line line) is
-
-pub other_kind : (line : List ℕ) → Other ≡ line_kind line
-    → (is_blank line ≡ false) × ((has_element line ≡ false) × (is_odd line ≡ false))
-other_kind line is = of_kind (is_blank line) (has_element line) (has_form line) Other (blank_line line) is
-
-pub odd_kind : (line : List ℕ) → Odd ≡ line_kind line
-    → (is_blank line ≡ false) × ((has_element line ≡ false) × (is_odd line ≡ true))
-odd_kind line is = of_kind (is_blank line) (has_element line) (has_form line) Odd (blank_line line) is
+pub line_of_kind : (line : List ℕ) (k : LineKind) → k ≡ line_kind line → (is_blank line ≡ (kind_tests k).0)
+    × ((has_element line ≡ (kind_tests k).1.0) × (is_odd line ≡ (kind_tests k).1.1))
+line_of_kind line k is = of_kind (is_blank line) (has_element line) (has_form line) k (blank_line line) is
 
 -- ---- the end of a file
 
 -- the places of the foreign files, with one file more
 places-more : (ended : List (List ℕ)) (whole : List ℕ) → foreign_places (ended ++ whole ∷ [])
     ≡ foreign_places ended ++ map (λ (f : ℕ × List ℕ). f.0) (cond (is_foreign whole) ((length ended, whole) ∷ []) [])
-places-more ended whole =
-    simp (enumerate_from-append, filter-append, map-append)
+places-more ended whole = simp (enumerate_from-append, filter-append, map-append)
     (ap (λ n. foreign_places ended ++ map (λ (f : ℕ × List ℕ). f.0) (cond (is_foreign whole) ((n, whole) ∷ []) []))
     (omega arith))
 
@@ -207,6 +172,5 @@ counted-end old n foreign ended whole more same is =
 -- what was counted of files that are ended is what a run warns of
 pub warned : (c : LineCounts) (files : List (List ℕ)) → HaveCounted c files [] → c.warnings ≡ warnings_of files
 warned c files is =
-    let odd : c.warnings.odd ≡ odd_among (daily_lines files) =
-    rw (append-nil (daily_lines files)) at is.odd in
+    let odd : c.warnings.odd ≡ odd_among (daily_lines files) = rw (append-nil (daily_lines files)) at is.odd in
     rw (← is.foreign, ← odd) refl

@@ -1,32 +1,19 @@
 -- The usable days of months of different times are different days.
-use Rattle.std.proofs.Common.{◌≡◌, ℕ, ◌+◌, ◌≤◌, Bool, true, false, List, [], ◌∷◌, ◌++◌, Option, Some, None}
-use Rattle.std.proofs.Common.{refl, sym, ap, ◌∙◌, subst, arith, ℤ, pos}
-use Rattle.std.specs.Prelude.{◌||◌, int_le}
-use Rattle.std.specs.Ordering.{int_eq}
-use Rattle.std.specs.List.{filter_map, flat_map, enumerate_from, cons_option, IsDistinct, AllByRecursion}
-use Rattle.std.specs.Option.{option_and_then}
-use Rattle.std.specs.Map.{keys_of}
-use Rattle.std.proofs.lemmas.Bool.{both_ways, and_from, eq-eqb}
-use Rattle.ghcn_fields.specs.Days.{day_number}
+use Rattle.ghcn_series.proofs.Cited.{◌≡◌, ℕ, ◌+◌, ◌≤◌, Bool, true, false, List, [], ◌∷◌, Option, Some, None, refl, sym}
+use Rattle.ghcn_series.proofs.Cited.{ap, ◌∙◌, subst, arith, ℤ, pos, ◌||◌, int_le, int_eq, filter_map, flat_map}
+use Rattle.ghcn_series.proofs.Cited.{enumerate_from, cons_option, IsDistinct, AllByRecursion, option_and_then, keys_of}
+use Rattle.ghcn_series.proofs.Cited.{both_ways, and_from, eq-eqb, day_number, Month, Reading, may_be_negative, DayValue}
+use Rattle.ghcn_series.proofs.Cited.{fact_if, counted_day, usable_day, usable_days, same_time, cond_some, map-append}
 use Rattle.ghcn_fields.specs.Meaning.Dates.{civil}
 use Rattle.ghcn_fields.proofs.CivilDates.{civil-is}
-use Rattle.ghcn_files.specs.declared.month.Month.{Month}
-use Rattle.ghcn_files.specs.declared.month.Reading.{Reading}
-use Rattle.ghcn_files.specs.Meaning.Elements.{may_be_negative}
-use Rattle.ghcn_series.specs.Meaning.Series.{DayValue}
-use Rattle.ghcn_series.specs.Says.{fact_if}
-use Rattle.ghcn_series.specs.Gathered.{counted_day, usable_day, usable_days, same_time}
 use Rattle.ghcn_series.proofs.Lookups.{int_eq-no}
 use Rattle.ghcn_series.proofs.MonthDays.{has_number, civil_of}
 use Rattle.ghcn_series.proofs.ListFacts.{each-append, both_distinct, each-weaker}
-use Rattle.std.proofs.lemmas.Option.{cond_some}
-use Rattle.std.proofs.lemmas.List.{map-append}
 
 -- a day's number gives its date back
 date_is : (y m d : ℕ) (n : ℤ) → day_number y m d ≡ Some n → civil n ≡ (y, m, d)
 date_is y m d n e =
-    let has = has_number y m d n e in
-    ap civil has.1 ∙ civil-is y m d (civil_of y m d has.0) has.0.year.0 has.0.year.1
+    let has = has_number y m d n e in ap civil has.1 ∙ civil-is y m d (civil_of y m d has.0) has.0.year.0 has.0.year.1
 
 -- the day is the j-th of the month
 abbrev IsDayOf : Month → ℕ → ℤ → Type 0
@@ -35,12 +22,10 @@ IsDayOf m j n = day_number m.year m.month j ≡ Some n
 -- days of different dates differ
 apart_by_date : (a b : Month) (i j : ℕ) (m n : ℤ) → (a.year ≡ b.year → a.month ≡ b.month → i ≡ j → ⊥)
     → IsDayOf a i m → IsDayOf b j n → int_eq m n ≡ false
-apart_by_date a b i j m n other p q =
-    int_eq-no m n (λ same.
+apart_by_date a b i j m n other p q = int_eq-no m n (λ same.
     let dates : ◌≡◌ {A = ℕ × ℕ × ℕ} (a.year, a.month, i) (b.year, b.month, j) = sym (date_is a.year a.month i m p)
     ∙ ap civil same ∙ date_is b.year b.month j n q in
-    other (ap (λ (t : ℕ × ℕ × ℕ). t.0) dates) (ap (λ (t : ℕ × ℕ × ℕ). t.1) dates)
-    (ap (λ (t : ℕ × ℕ × ℕ). t.2) dates))
+    other (ap (λ (t : ℕ × ℕ × ℕ). t.0) dates) (ap (λ (t : ℕ × ℕ × ℕ). t.1) dates) (ap (λ (t : ℕ × ℕ × ℕ). t.2) dates))
 
 -- what a usable day is made of
 abbrev pub Parts : Month → Option ℤ → Option ℤ → DayValue → Type 0
@@ -49,12 +34,10 @@ Parts m day value d = (day ≡ Some d.0) × (value ≡ Some d.1) × ((may_be_neg
 -- a fact that counts has a day and a value that its element can have
 pub parts_of : (m : Month) (b : Bool) (o v : Option ℤ) (d : DayValue)
     → option_and_then counted_day (fact_if m b o v) ≡ Some d → Parts m o v d
-parts_of m true o v d e = absurd cc
-parts_of m false None v d e = absurd cc
-parts_of m false (Some n) None d e = absurd cc
 parts_of m false (Some n) (Some v) d e =
     let is = cond_some {A = DayValue} (may_be_negative m.element || int_le (pos 0) v) (n, v) d e in
     subst (Parts m (Some n) (Some v)) is.1 (refl, refl, is.0)
+parts_of m b o v d e = absurd cc
 
 -- a usable day is the day of its place
 pub is_day_of : (m : Month) (j : ℕ) (r : Reading) (d : DayValue) → usable_day m (j, r) ≡ Some d → IsDayOf m j d.0
@@ -93,16 +76,12 @@ usable_from m low (r ∷ rs) =
           (((low, omega arith, own), later), (other, both.1))
     ] refl
 
--- the days of two lists are those of both
-keys_of-append : (xs ys : List DayValue) → keys_of (xs ++ ys) ≡ keys_of xs ++ keys_of ys
-keys_of-append = map-append (λ (x : DayValue). x.0)
-
 -- a day is none of those of months of other times
 apart_from_others : (a : Month) (i : ℕ) (n : ℤ) (ms : List Month) → AllByRecursion (λ b. same_time a b ≡ false) ms
     → IsDayOf a i n → AllByRecursion (λ k. int_eq n k ≡ false) (keys_of (flat_map usable_days ms))
 apart_from_others a i n [] all is = tt
 apart_from_others a i n (b ∷ bs) all is =
-    rw (keys_of-append (usable_days b) (flat_map usable_days bs))
+    rw (map-append (λ (x : DayValue). x.0) (usable_days b) (flat_map usable_days bs))
     (each-append (λ k. int_eq n k ≡ false) (keys_of (usable_days b)) (keys_of (flat_map usable_days bs))
     (apart_from a b i 1 n _ (λ j le year month _. both_ways (same_time a b) all.0
     (and_from _ _ (eq-eqb a.year b.year year) (eq-eqb a.month b.month month))) is (usable_from b 1 b.days).0)
@@ -113,7 +92,7 @@ pub distinct_days : (ms : List Month) → IsDistinct same_time ms → IsDistinct
 unfolding IsDistinct
 distinct_days [] distinct = tt
 distinct_days (m ∷ ms) distinct =
-    rw (keys_of-append (usable_days m) (flat_map usable_days ms))
+    rw (map-append (λ (x : DayValue). x.0) (usable_days m) (flat_map usable_days ms))
     (both_distinct int_eq (keys_of (usable_days m)) (keys_of (flat_map usable_days ms)) (usable_from m 1 m.days).1
     (distinct_days ms distinct.1) (each-weaker (λ n. (j : ℕ) × (1 ≤ j) × IsDayOf m j n)
     _ (keys_of (usable_days m)) (λ x of. apart_from_others m of.0 x ms distinct.0 of.2) (usable_from m 1 m.days).0))

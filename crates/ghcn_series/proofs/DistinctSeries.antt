@@ -1,30 +1,15 @@
 -- No two series have the same station and element.
-use Rattle.std.proofs.Common.{◌≡◌, false, List, [], ◌∷◌, map, refl}
-use Rattle.std.specs.List.{flat_map, AllByRecursion, IsDistinct}
-use Rattle.std.proofs.lemmas.Bool.{and_left, and_right}
-use Rattle.ghcn_files.specs.declared.station.Station.{Station}
-use Rattle.ghcn_files.specs.declared.element.Element.{Element}
-use Rattle.ghcn_files.specs.declared.element.Element.TheVariants.{Prcp, Snow, Snwd, Tmax, Tmin}
-use Rattle.ghcn_files.specs.Meaning.Ids.{same_id}
-use Rattle.ghcn_files.specs.Meaning.Elements.{elements}
-use Rattle.ghcn_files.specs.Elements.{same_element}
-use Rattle.ghcn_series.specs.Meaning.Series.{Series}
-use Rattle.ghcn_series.specs.Meaning.Says.{Fact}
-use Rattle.ghcn_series.specs.Says.{usable_of}
-use Rattle.ghcn_series.specs.Held.{same_series}
+use Rattle.ghcn_series.proofs.Cited.{◌≡◌, false, List, [], ◌∷◌, map, refl, flat_map, AllByRecursion, IsDistinct}
+use Rattle.ghcn_series.proofs.Cited.{and_left, and_right, Station, Element, Prcp, Snow, Snwd, Tmax, Tmin, same_id}
+use Rattle.ghcn_series.proofs.Cited.{elements, same_element, Series, Fact, usable_of, same_series}
 use Rattle.ghcn_series.proofs.Places.{ids}
 use Rattle.ghcn_series.proofs.ListFacts.{each-append, both_distinct}
-
--- ---- no two series have the same station and element
 
 -- the series of distinct elements are distinct
 elements_apart : (facts : List Fact) (s : Station) → IsDistinct same_series (map (usable_of facts s) elements)
 unfolding IsDistinct
-elements_apart facts s =
-    let no = and_right (same_id s.id s.id) false refl in (
-      (no, (no, (no, (no, tt)))),
-      ((no, (no, (no, tt))), ((no, (no, tt)), ((no, tt), (tt, tt)))),
-    )
+elements_apart facts s = let no = and_right (same_id s.id s.id) false refl in
+    ((no, (no, (no, (no, tt)))), ((no, (no, (no, tt))), ((no, (no, tt)), ((no, tt), (tt, tt)))))
 
 -- all that may be said of these stations
 abbrev pub all_said : List Fact → List Station → List Series
@@ -44,8 +29,7 @@ pub stations_apart : (facts : List Fact) (ss : List Station) → IsDistinct same
     → IsDistinct same_series (all_said facts ss)
 unfolding IsDistinct
 stations_apart facts [] apart = tt
-stations_apart facts (s ∷ ss) apart =
-    let each = λ (e : Element). ids_apart facts (usable_of facts s e) ss apart.0 in
+stations_apart facts (s ∷ ss) apart = let each = λ (e : Element). ids_apart facts (usable_of facts s e) ss apart.0 in
     both_distinct same_series (map (usable_of facts s) elements) (all_said facts ss)
     (elements_apart facts s) (stations_apart facts ss apart.1)
     (each Prcp, (each Snow, (each Snwd, (each Tmax, (each Tmin, tt)))))

@@ -1,36 +1,19 @@
 -- Worked examples of the definitions, by computation.
-use Rattle.std.proofs.Common.{◌≡◌, ℕ, zero, suc, List, [], ◌∷◌, ◌++◌, refl, Some, None, Ok, Err, true, false, arith}
-use Rattle.std.specs.Prelude.{codes, pos, neg_ℤ, map, take, replicate, ◌+◌, ◌-◌, ◌^◌, nat_le}
-use Rattle.std.specs.List.{count_by, repeat, flat_map, enumerate_from, IsDistinct}
-use Rattle.std.proofs.lemmas.Int.{ints}
-use Rattle.std.proofs.lemmas.List.{length-replicate}
-use Rattle.jiff_core.specs.Calendar.{days_from_civil, day_count, days_of_years, days_of_months}
-use Rattle.ghcn_fields.specs.Days.{block_of}
-use Rattle.ghcn_fields.specs.Meaning.Lines.{lines}
-use Rattle.ghcn_files.specs.declared.element.Element.{Element}
-use Rattle.ghcn_files.specs.Elements.{nothing, everything, with_one, only}
-use Rattle.ghcn_files.specs.declared.element.Element.TheVariants.{Prcp, Snow, Tmax, Tmin}
-use Rattle.ghcn_files.specs.declared.station.Station.{Station}
+use Rattle.ghcn_series.proofs.Cited.{◌≡◌, ℕ, zero, suc, List, [], ◌∷◌, ◌++◌, refl, Some, None, Ok, Err, true, false}
+use Rattle.ghcn_series.proofs.Cited.{arith, pos, neg_ℤ, map, take, replicate, ◌+◌, ◌-◌, ◌^◌, nat_le, count_by, flat_map}
+use Rattle.ghcn_series.proofs.Cited.{enumerate_from, IsDistinct, ints, length-replicate, days_from_civil, block_of}
+use Rattle.ghcn_series.proofs.Cited.{lines, Element, everything, Prcp, Snow, Tmax, Tmin, Station, station_of, listed}
+use Rattle.ghcn_series.proofs.Cited.{days_of_group, Line, DuplicateMonth, DailyLine, TooManyFiles, DayValue, Series}
+use Rattle.ghcn_series.proofs.Cited.{value_on, Data, series_of, file_line, file_lines, daily_lines, in_64_bits}
+use Rattle.ghcn_series.proofs.Cited.{data_of, IsMadeOf, IsSaid, SaysStations, is_unlisted, facts_said, unlisted_said}
+use Rattle.ghcn_series.proofs.Cited.{IsContents, kept, IsNextBlock, next_block, files_together, placed_after}
+use Rattle.ghcn_series.proofs.Cited.{cuts_foreign, is_odd, foreign_of, odd_among, line_texts, Files, nothing_fed, more}
+use Rattle.ghcn_series.proofs.Cited.{with_end, files_of, followed_by}
+use Rattle.std.specs.Prelude.{codes}
+use Rattle.std.specs.List.{repeat}
+use Rattle.jiff_core.specs.Calendar.{day_count, days_of_years, days_of_months}
+use Rattle.ghcn_files.specs.Elements.{nothing, with_one, only}
 use Rattle.ghcn_files.specs.declared.fault.LineWhy.TheVariants as why
-use Rattle.ghcn_files.specs.StationLines.{station_of}
-use Rattle.ghcn_files.specs.Listed.{listed}
-use Rattle.ghcn_files.specs.Months.{days_of_group}
-use Rattle.ghcn_series.specs.declared.fault.DailyWhy.TheVariants.{Line, DuplicateMonth}
-use Rattle.ghcn_series.specs.declared.fault.DataFault.TheVariants.{DailyLine, TooManyFiles}
-use Rattle.ghcn_series.specs.Meaning.Series.{DayValue, Series, value_on}
-use Rattle.ghcn_series.specs.Series.{Data, series_of}
-use Rattle.ghcn_series.specs.DailyFaults.{file_line, file_lines, daily_lines}
-use Rattle.ghcn_series.specs.Says.{in_64_bits, data_of}
-use Rattle.ghcn_series.specs.Meaning.Said.{IsMadeOf, IsSaid, SaysStations, is_unlisted}
-use Rattle.ghcn_series.specs.SaidLists.{facts_said, unlisted_said}
-use Rattle.ghcn_series.specs.Held.{IsContents}
-use Rattle.ghcn_series.specs.Kept.{kept}
-use Rattle.ghcn_series.specs.Packed.{IsNextBlock, next_block}
-use Rattle.ghcn_series.specs.JoinedFiles.{files_together}
-use Rattle.ghcn_series.specs.Counted.{placed_after}
-use Rattle.ghcn_series.specs.LineKinds.{cuts_foreign, is_odd, foreign_of, odd_among}
-use Rattle.ghcn_series.specs.LinesRead.{line_texts}
-use Rattle.ghcn_series.specs.Fed.{Files, nothing_fed, more, with_end, files_of, followed_by}
 use Rattle.ghcn_series.proofs.Members.{of_each}
 use Rattle.ghcn_series.proofs.RightData.{data-are-right}
 use Rattle.ghcn_series.proofs.SaidSeries.{series_said}
@@ -128,9 +111,8 @@ rainy = text (line (codes "ZZA00000001202007PRCP") (codes "   -5   " ++ codes " 
 
 -- the facts that count of what they say, and how many lines belong to a station that isn't listed, also by columns: one
 -- line names an element and no listed station; such lines are counted also for one month, and not of other elements
-unlisted_lines : (facts_said both rainy
-    ≡ record { id = alpha.id; element = Prcp; day = pos 18445; value = pos 5 } ∷ []) × (unlisted_said both rainy ≡ 1)
-    × (count_by (is_unlisted both) (flat_map lines rainy) ≡ 1)
+unlisted_lines : (facts_said both rainy ≡ record { id = alpha.id; element = Prcp; day = pos 18445; value = pos 5 } ∷ [])
+    × (unlisted_said both rainy ≡ 1) × (count_by (is_unlisted both) (flat_map lines rainy) ≡ 1)
     × (data_of both (text (warm (codes "ZZA00000009202007TMAX") ∷ warm (codes "ZZA00000009202007TMAX")
     ∷ codes "ZZA00000009202007TAVG" ∷ warm july ∷ []) ∷ [])
     ≡ Ok (record { stations = both; series = series alpha Tmax ((pos 18444, pos 311) ∷ []) ∷ []; unlisted = 2 }))
@@ -207,9 +189,8 @@ some = record (held (series bravo Tmax ((pos 18444, pos 311) ∷ []) ∷ series 
 -- series; of none none; the series of a station and element, if there is one, and the values of its days
 of_some_elements : (kept (only Tmax) some ≡ record (held (series bravo Tmax ((pos 18444, pos 311) ∷ [])
     ∷ series alpha Tmax ((pos 18444, pos 300) ∷ (pos 18446, pos 305) ∷ []) ∷ [])) { unlisted = 7 })
-    × (kept (only Tmin) some ≡ record some { series = [] })
-    × (kept (with_one (only Snow) Tmax) some ≡ some) × (kept everything some ≡ some)
-    × (kept nothing some ≡ record some { series = [] })
+    × (kept (only Tmin) some ≡ record some { series = [] }) × (kept (with_one (only Snow) Tmax) some ≡ some)
+    × (kept everything some ≡ some) × (kept nothing some ≡ record some { series = [] })
     × (series_of some alpha.id Snow ≡ Some (series alpha Snow ((pos 18444, pos 5) ∷ [])))
     × (series_of some bravo.id Snow ≡ None)
     × (map (value_on ((pos 18444, pos 300) ∷ (pos 18446, pos 305) ∷ [])) (pos 18444 ∷ pos 18445 ∷ pos 18446 ∷ [])
@@ -229,8 +210,7 @@ right_data : (listed list ≡ Ok both) × IsContents (held (series bravo Tmax ((
     ∷ series alpha Tmax ((pos 18445, pos 305) ∷ [])
     ∷ series alpha Tmin ((pos 18444, neg_ℤ (pos 5)) ∷ (pos 18475, pos 3) ∷ []) ∷ []))
     × IsMadeOf (IsSaid mixed) (series alpha Tmin ((pos 18444, neg_ℤ (pos 5)) ∷ (pos 18475, pos 3) ∷ []))
-right_data =
-    let made = series alpha Tmin ((pos 18444, neg_ℤ (pos 5)) ∷ (pos 18475, pos 3) ∷ []) in
+right_data = let made = series alpha Tmin ((pos 18444, neg_ℤ (pos 5)) ∷ (pos 18475, pos 3) ∷ []) in
     (refl, data-are-right list both mixed _ refl in_order, (series_said both mixed _ in_order made refl).0 refl)
 
 -- no data have two series of a station and element, one of an unlisted station, or one without a day, nor days that
@@ -282,8 +262,7 @@ begun = (nothing_fed (only Tmax) both).files
 -- empty, and what comes then belongs to the next one; of files that came after others the first goes on with the
 -- current file, and those after it follow
 pieces : (files_of begun ≡ []) × (files_of (more begun []) ≡ [])
-    × (files_of (more (more begun (codes "ab")) (codes "c")) ≡ codes "abc" ∷ [])
-    × (files_of (with_end begun) ≡ [] ∷ [])
+    × (files_of (more (more begun (codes "ab")) (codes "c")) ≡ codes "abc" ∷ []) × (files_of (with_end begun) ≡ [] ∷ [])
     × (files_of (more (with_end (more begun (codes "ab"))) (codes "c")) ≡ codes "ab" ∷ codes "c" ∷ [])
     × (files_of (with_end (more (with_end (more begun (codes "ab"))) (codes "c"))) ≡ codes "ab" ∷ codes "c" ∷ [])
     × (files_of (with_end (with_end (more begun (codes "ab")))) ≡ codes "ab" ∷ [] ∷ [])
@@ -331,8 +310,7 @@ odd_lines = (refl, refl, refl, refl, refl)
 -- a file is cut at a part that is foreign by itself, unless only blank lines come before that part; a foreign file
 -- after two others has a place that is two greater
 cut_foreign : (cuts_foreign (codes "A") (codes "B" ∷ []) ≡ true) × (cuts_foreign [] (codes "B" ∷ []) ≡ false)
-    × (cuts_foreign (text (warm july ∷ [])) (codes "B" ∷ []) ≡ true)
-    × (cuts_foreign (text (warm july ∷ [])) [] ≡ false)
+    × (cuts_foreign (text (warm july ∷ [])) (codes "B" ∷ []) ≡ true) × (cuts_foreign (text (warm july ∷ [])) [] ≡ false)
     × (foreign_of (codes "x" ∷ []) ≡ record { count = 1; first = Some 0 })
     × (foreign_of ([] ∷ [] ∷ codes "x" ∷ []) ≡ record { count = 1; first = Some (0 + 2) })
 cut_foreign = (refl, refl, refl, refl, refl, refl)

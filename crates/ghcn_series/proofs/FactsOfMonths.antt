@@ -1,26 +1,10 @@
 -- The facts that count, of one station and element, are the usable days of its months.
-use Rattle.std.proofs.Common.{◌≡◌, ℕ, Bool, true, false, cond, List, [], ◌∷◌, ◌++◌, map, filter, Option, None, Some}
-use Rattle.std.proofs.Common.{refl, ap, ◌∙◌, arith, ℤ, pos}
-use Rattle.std.specs.Prelude.{◌&&◌, ◌||◌, int_le}
-use Rattle.std.specs.List.{filter_map, flat_map, enumerate_from, cons_option}
-use Rattle.std.specs.Option.{option_and_then}
-use Rattle.std.proofs.lemmas.List.{map-append}
-use Rattle.std.proofs.lemmas.List.Elements.{filter-append}
-use Rattle.std.proofs.lemmas.Bool.{and_parts}
-use Rattle.ghcn_files.specs.declared.station.StationId.{StationId}
-use Rattle.ghcn_files.specs.declared.station.Station.{Station}
-use Rattle.ghcn_files.specs.declared.element.Element.{Element}
-use Rattle.ghcn_files.specs.declared.month.Month.{Month}
-use Rattle.ghcn_files.specs.declared.month.Reading.{Reading}
-use Rattle.ghcn_files.specs.Meaning.Ids.{same_id}
-use Rattle.ghcn_files.specs.Meaning.Elements.{may_be_negative}
-use Rattle.ghcn_files.specs.Elements.{same_element}
-use Rattle.ghcn_series.specs.Meaning.Series.{DayValue}
-use Rattle.ghcn_series.specs.DailyFaults.{is_listed}
-use Rattle.ghcn_series.specs.Meaning.Says.{Fact}
-use Rattle.ghcn_series.specs.Says.{fact_of, fact_if, facts_of, is_usable}
-use Rattle.ghcn_series.specs.Gathered.{counted_day, usable_day, usable_days, months_of}
-use Rattle.ghcn_files.proofs.IdLaws.{same_id-is}
+use Rattle.ghcn_series.proofs.Cited.{◌≡◌, ℕ, Bool, true, false, cond, List, [], ◌∷◌, ◌++◌, map, filter, Option, None}
+use Rattle.ghcn_series.proofs.Cited.{Some, refl, ap, ◌∙◌, arith, ℤ, pos, ◌&&◌, ◌||◌, int_le, filter_map, flat_map}
+use Rattle.ghcn_series.proofs.Cited.{enumerate_from, cons_option, option_and_then, map-append, filter-append, and_parts}
+use Rattle.ghcn_series.proofs.Cited.{StationId, Station, Element, Month, Reading, same_id, may_be_negative}
+use Rattle.ghcn_series.proofs.Cited.{same_element, DayValue, is_listed, Fact, fact_of, fact_if, facts_of, is_usable}
+use Rattle.ghcn_series.proofs.Cited.{counted_day, usable_day, usable_days, months_of, same_id-is}
 
 -- a fact of a month is of its station and element, and of a day that isn't flagged, with its value
 pub fact_parts : (m : Month) (flagged : Bool) (day value : Option ℤ) (f : Fact) → fact_if m flagged day value ≡ Some f
@@ -76,8 +60,7 @@ module _ (stations : List Station) (id : StationId) (e : Element) where
       elim (fact_of m x) as (λ o. fact_of m x ≡ o → selected (cons_option o (filter_map (fact_of m) xs)) ≡ []) [
         | None ↦ λ is. selected-other m xs other
         | Some f ↦ λ is.
-            let of = fact_parts m x.1.flagged _ x.1.value f is in
-            one_kept is_of pair (is_usable stations f) false f
+            let of = fact_parts m x.1.flagged _ x.1.value f is in one_kept is_of pair (is_usable stations f) false f
             (filter (is_usable stations) (filter_map (fact_of m) xs)) (rw (of.3, of.4) other)
             ∙ selected-other m xs other
       ] refl
@@ -86,8 +69,7 @@ module _ (stations : List Station) (id : StationId) (e : Element) where
   pub selected-months : (ms : List Month) → is_listed stations id ≡ true → selected (flat_map facts_of ms)
       ≡ flat_map usable_days (months_of ms id e)
   selected-months [] listed = refl
-  selected-months (m ∷ ms) listed =
-      selected-append (facts_of m) (flat_map facts_of ms)
+  selected-months (m ∷ ms) listed = selected-append (facts_of m) (flat_map facts_of ms)
       ∙ elim (same_id m.id id && same_element m.element e) as (λ b. (same_id m.id id && same_element m.element e) ≡ b
       → selected (facts_of m) ++ selected (flat_map facts_of ms)
       ≡ flat_map usable_days (cond b (m ∷ months_of ms id e) (months_of ms id e))) [

@@ -1,11 +1,7 @@
 -- A cutter that counts files.
-use Rattle.std.proofs.Common.{◌≡◌, ℕ, true, false, ◌+◌, ◌<◌, ◌≤◌, ◌^◌, min, List, [], ◌∷◌, ◌++◌, length}
-use Rattle.std.proofs.Common.{◌∙◌, refl, length-append, arith}
-use Rattle.std.proofs.lemmas.Bool.Decides.{nat_tests}
-use Rattle.ghcn_series.specs.declared.cutter.Cutter.{Cutter}
-use Rattle.ghcn_series.specs.Says.{in_64_bits}
-use Rattle.ghcn_series.specs.Fed.{Files, more, with_end, and_current, files_of}
-use Rattle.ghcn_series.specs.Cut.{HasCounted}
+use Rattle.ghcn_series.proofs.Cited.{◌≡◌, ℕ, true, false, ◌+◌, ◌<◌, ◌≤◌, ◌^◌, min, List, [], ◌∷◌, ◌++◌, length, ◌∙◌}
+use Rattle.ghcn_series.proofs.Cited.{refl, length-append, arith, nat_tests, Cutter, in_64_bits, Files, more, with_end}
+use Rattle.ghcn_series.proofs.Cited.{and_current, files_of, HasCounted}
 
 -- a current file with a byte counts
 pub and_current-some : (ended : List (List ℕ)) (current : List ℕ) → 0 < length current
@@ -22,18 +18,14 @@ with_current ended (b ∷ bs) = omega (arith, length-append ended ((b ∷ bs) �
 -- more bytes of the current file are counted
 pub counted-more : {L : Type 0} (old new : Cutter L) (files : Files) (bytes : List ℕ) → 0 < length bytes
     → new.ended ≡ old.ended → new.begun ≡ true → HasCounted old files → HasCounted new (more files bytes)
-counted-more old new files bytes some ended begun is = record {
-  ended = ended ∙ is.ended;
-  begun = begun ∙ grind (arith, nat_tests, some, length-append files.current bytes);
-}
+counted-more old new files bytes some ended begun is = let long = length-append files.current bytes in
+    record { ended = ended ∙ is.ended; begun = begun ∙ grind (arith, nat_tests, some, long) }
 
 -- the end of the current file is counted
 pub counted-end : {L : Type 0} (old new : Cutter L) (files : Files) → new.ended ≡ in_64_bits (old.ended + 1)
     → new.begun ≡ false → HasCounted old files → HasCounted new (with_end files)
-counted-end old new files ended begun is = record {
-  ended = omega (arith, ended, is.ended, length-append files.ended (files.current ∷ []));
-  begun = begun;
-}
+counted-end old new files ended begun is =
+    record { ended = omega (arith, ended, is.ended, length-append files.ended (files.current ∷ [])); begun = begun }
 
 -- if the files are few, the cutter is at the one after those that were ended
 pub at_file : {L : Type 0} (c : Cutter L) (files : Files) → length (files_of files) ≤ 2 ^ 20 → HasCounted c files
@@ -54,8 +46,7 @@ may_be_read c files few some is =
 -- there were no more files before the last bytes of the current one
 pub few_before : (files : Files) (bytes : List ℕ) → length (files_of (more files bytes)) ≤ 2 ^ 20
     → length (files_of files) ≤ 2 ^ 20
-few_before files bytes few =
-    let all = with_current files.ended files.current in
+few_before files bytes few = let all = with_current files.ended files.current in
     omega (arith, few, all, with_current files.ended (files.current ++ bytes), length-append files.current bytes)
 
 -- nor before the end of the current one

@@ -1,20 +1,12 @@
 -- The lines of files, of which one more line or file has come.
-use Rattle.std.proofs.Common.{◌≡◌, ℕ, ◌+◌, List, [], ◌∷◌, ◌++◌, length, ap, arith, refl}
-use Rattle.std.specs.List.{flat_map, enumerate_from}
-use Rattle.std.proofs.lemmas.List.{append-nil, map-append}
-use Rattle.std.proofs.lemmas.List.Elements.{filter-append}
-use Rattle.std.proofs.lemmas.Grind.{flat_map-append}
-use Rattle.std.proofs.lemmas.Simd.{map-map}
-use Rattle.ghcn_fields.specs.Meaning.Lines.{lines}
-use Rattle.ghcn_fields.specs.Lines.{EndsLine}
-use Rattle.ghcn_files.proofs.LineLaws.{lines-append, enumerate_from-append}
-use Rattle.ghcn_series.specs.DailyFaults.{FileLine, not_blank, file_lines, daily_lines}
-use Rattle.ghcn_series.specs.LinesRead.{line_texts}
+use Rattle.ghcn_series.proofs.Cited.{◌≡◌, ℕ, ◌+◌, List, [], ◌∷◌, ◌++◌, length, ap, arith, refl, flat_map}
+use Rattle.ghcn_series.proofs.Cited.{enumerate_from, append-nil, map-append, filter-append, flat_map-append, map-map}
+use Rattle.ghcn_series.proofs.Cited.{lines, EndsLine, lines-append, enumerate_from-append, FileLine, not_blank}
+use Rattle.ghcn_series.proofs.Cited.{file_lines, daily_lines, line_texts}
 
 -- the lines of a file, of which the first part ends a line
-pub file_lines-append : (file : ℕ) (whole tail : List ℕ) → EndsLine whole
-    → file_lines (file, whole ++ tail) ≡ file_lines (file, whole) ++ not_blank file
-    (enumerate_from (1 + length (lines whole)) (lines tail))
+pub file_lines-append : (file : ℕ) (whole tail : List ℕ) → EndsLine whole → file_lines (file, whole ++ tail)
+    ≡ file_lines (file, whole) ++ not_blank file (enumerate_from (1 + length (lines whole)) (lines tail))
 file_lines-append file whole tail ends =
     rw (lines-append whole tail ends) (simp (enumerate_from-append, filter-append, map-append))
 
@@ -48,8 +40,7 @@ daily_lines-append files others = simp (enumerate_from-append, flat_map-append)
 pub daily_lines-one : (files : List (List ℕ)) (file : List ℕ)
     → daily_lines (files ++ file ∷ []) ≡ daily_lines files ++ file_lines (length files + 1, file)
 unfolding lines_from
-daily_lines-one files file =
-    rw (daily_lines-append files (file ∷ []))
+daily_lines-one files file = rw (daily_lines-append files (file ∷ []))
     (simp append-nil (ap (λ n. daily_lines files ++ file_lines (n, file)) (omega arith)))
 
 -- what is on the lines of files doesn't depend on the files' numbers

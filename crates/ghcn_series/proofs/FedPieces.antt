@@ -1,23 +1,14 @@
 -- A cutter that has read one line more, one file's end more, or part of a line.
-use Rattle.std.proofs.Common.{◌≡◌, ℕ, ◌+◌, ◌<◌, List, [], ◌∷◌, ◌++◌, length, inl, inr, refl}
-use Rattle.std.proofs.Common.{sym, ap, ◌∙◌, subst, append_assoc, length-append, arith}
-use Rattle.std.specs.Prelude.{◌==◌, true, false, is_none, Option, None, Some, Result, Ok, Err, OnOk, IfErr}
-use Rattle.std.specs.List.{enumerate_from}
-use Rattle.std.specs.Result.{result_err}
-use Rattle.std.specs.Str.Lines.{strip_carriage_return}
-use Rattle.std.proofs.lemmas.List.{append-nil}
-use Rattle.ghcn_fields.specs.Meaning.Lines.{lines}
-use Rattle.ghcn_fields.specs.Lines.{HasNoLineFeed}
-use Rattle.ghcn_files.proofs.LineLaws.{lines-append, lines-one, lines-unended}
-use Rattle.ghcn_series.specs.declared.cutter.Cutter.{Cutter}
-use Rattle.ghcn_series.specs.declared.fault.DataFault.{DataFault}
-use Rattle.ghcn_series.specs.declared.fault.DataFault.TheVariants.{DailyLine, TooManyFiles, Memory}
-use Rattle.ghcn_series.specs.Alike.{BeginAlike}
-use Rattle.ghcn_series.specs.Counted.{HaveCounted}
-use Rattle.ghcn_series.specs.Cut.{IsCutFile, lines_to, HasReadFed, HasLineFault, HasFault, AddsLine, RefusesLine}
-use Rattle.ghcn_series.specs.DailyFaults.{not_blank, one_line, daily_lines}
-use Rattle.ghcn_series.specs.Fed.{Files, Fed, IsOfMemory, more, with_end, with_files}
-use Rattle.ghcn_series.specs.Gathered.{IsLineRefusal}
+use Rattle.ghcn_series.proofs.Cited.{◌≡◌, ℕ, ◌+◌, ◌<◌, List, [], ◌∷◌, ◌++◌, length, inl, inr, refl, sym, ap, ◌∙◌, subst}
+use Rattle.ghcn_series.proofs.Cited.{append_assoc, length-append, arith, ◌==◌, true, false, is_none, Option, None, Some}
+use Rattle.ghcn_series.proofs.Cited.{Result, Ok, Err, OnOk, IfErr, enumerate_from, result_err, strip_carriage_return}
+use Rattle.ghcn_series.proofs.Cited.{append-nil, lines, HasNoLineFeed, lines-append, Cutter, DataFault, Memory}
+use Rattle.ghcn_series.proofs.Cited.{BeginAlike, HaveCounted, IsCutFile, lines_to, HasReadFed, HasLineFault, not_blank}
+use Rattle.ghcn_series.proofs.Cited.{daily_lines, Files, Fed, more, with_end, with_files, IsLineRefusal}
+use Rattle.ghcn_files.proofs.LineLaws.{lines-one, lines-unended}
+use Rattle.ghcn_series.specs.Cut.{HasFault, AddsLine, RefusesLine}
+use Rattle.ghcn_series.specs.DailyFaults.{one_line}
+use Rattle.ghcn_series.specs.Fed.{IsOfMemory}
 use Rattle.ghcn_series.specs.LinesRead.{Reading}
 use Rattle.ghcn_series.proofs.AlikeBeginnings.{begin-same, begin-alike, begin-more, begin-some, begin-none}
 use Rattle.ghcn_series.proofs.CountedLines.{counted-line}
@@ -47,6 +38,10 @@ lines-rest : (rest : List ℕ) → 0 < length rest → HasNoLineFeed rest
 lines-rest [] some none = absurd (omega arith)
 lines-rest (b ∷ bs) some none = rw (append-nil bs) (lines-unended b bs none)
 
+-- no whole line of the current file is cut off
+uncut : (files : Files) → IsCutFile files [] files.current
+uncut files = record { parts = refl; ends = inl refl }
+
 -- the lines of the files, when the current one is ended
 lines_at_end : (files : Files) → lines_to (with_end files) [] ≡ lines_to files files.current
 lines_at_end files =
@@ -55,12 +50,8 @@ lines_at_end files =
 -- an error of the lines of the files, when the current one is ended
 found_at_end : (fed : Fed) (whole : List ℕ) (f : DataFault) → fed.files.current ≡ whole
     → IsLineRefusal fed.stations (lines_to fed.files whole) f → HasLineFault (with_files fed (with_end fed.files)) f
-found_at_end fed whole f all first = record {
-  whole = [];
-  rest = [];
-  cut = record { parts = refl; ends = inl refl };
-  first = rw (lines_at_end fed.files, all) first;
-}
+found_at_end fed whole f all first =
+    record { whole = []; rest = []; cut = uncut (with_end fed.files); first = rw (lines_at_end fed.files, all) first }
 
 -- more bytes after change no error
 pub fault-more : (fed : Fed) (f : DataFault) (bytes : List ℕ) → HasLineFault fed f
@@ -82,14 +73,8 @@ fault-end fed f is =
 
 -- out of memory can be found anywhere
 pub memory-found : (fed : Fed) (f : DataFault) → IsOfMemory f → HasLineFault fed f
-memory-found fed (Memory m) is = record {
-  whole = [];
-  rest = fed.files.current;
-  cut = record { parts = refl; ends = inl refl };
-  first = tt;
-}
-memory-found fed TooManyFiles is = absurd is
-memory-found fed (DailyLine file line why) is = absurd is
+memory-found fed (Memory m) is = record { whole = []; rest = fed.files.current; cut = uncut fed.files; first = tt }
+memory-found fed f is = absurd is
 
 -- how far a piece is read: some of its lines are done
 pub record IsWithinPiece {L : Type 0} (has_read : Reading L) (now : Cutter L) (before : Fed) (left bytes : List ℕ)
@@ -133,10 +118,8 @@ module _ {L : Type 0} {has_read : Reading L} where
       → HasNoLineFeed line → old.ended ≡ length fed.files.ended → AddsLine has_read old new line
       → IsWithinPiece has_read old fed left bytes → IsWithinPiece has_read new fed behind bytes
   piece-line old new line behind left bytes fed parts none at adds within =
-      let so_far = with_files fed (more fed.files within.done) in
-      let is = within.read in
-      let tail = (is.rest ++ line) ++ 10 ∷ [] in
-      let one = lines-fed is.rest line is.unended none in
+      let so_far = with_files fed (more fed.files within.done) in let is = within.read in
+      let tail = (is.rest ++ line) ++ 10 ∷ [] in let one = lines-fed is.rest line is.unended none in
       record {
         done = within.done ++ (line ++ 10 ∷ []);
         parts = simp append_assoc (rw parts at within.parts);
@@ -160,8 +143,7 @@ module _ {L : Type 0} {has_read : Reading L} where
       → RefusesLine has_read old line f → IsWithinPiece has_read old fed left bytes
       → HasLineFault (with_files fed (more fed.files bytes)) f
   piece-found old line behind left bytes fed f parts none at refuses within =
-      let so_far = with_files fed (more fed.files within.done) in
-      let is = within.read in
+      let so_far = with_files fed (more fed.files within.done) in let is = within.read in
       let one = lines-fed is.rest line is.unended none in
       rw (← within.parts, parts, ← append_assoc fed.files.current within.done (line ++ 10 ∷ behind)) (record {
         whole = is.whole ++ ((is.rest ++ line) ++ 10 ∷ []);
@@ -172,12 +154,10 @@ module _ {L : Type 0} {has_read : Reading L} where
       })
 
   -- the last bytes of a piece, which no line feed ends
-  pub piece-part : (old new : Cutter L) (left bytes : List ℕ) (fed : Fed) → HasNoLineFeed left
-      → new.reader ≡ old.reader → new.counts ≡ old.counts → new.line ≡ old.line
-      → BeginAlike (old.rest.items ++ left) new.rest.items → IsWithinPiece has_read old fed left bytes
-      → HasReadFed has_read new (with_files fed (more fed.files bytes))
-  piece-part old new left bytes fed none reader counts line kept within =
-      let is = within.read in
+  pub piece-part : (old new : Cutter L) (left bytes : List ℕ) (fed : Fed) → HasNoLineFeed left → new.reader ≡ old.reader
+      → new.counts ≡ old.counts → new.line ≡ old.line → BeginAlike (old.rest.items ++ left) new.rest.items
+      → IsWithinPiece has_read old fed left bytes → HasReadFed has_read new (with_files fed (more fed.files bytes))
+  piece-part old new left bytes fed none reader counts line kept within = let is = within.read in
       record {
         whole = is.whole;
         rest = is.rest ++ left;
@@ -203,7 +183,7 @@ module _ {L : Type 0} {has_read : Reading L} where
   file-read new fed whole all line empty counts read = record {
     whole = [];
     rest = [];
-    cut = record { parts = refl; ends = inl refl };
+    cut = uncut (with_end fed.files);
     unended = tt;
     kept = rw empty (begin-same []);
     numbered = line;

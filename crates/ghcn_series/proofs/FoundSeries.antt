@@ -1,23 +1,9 @@
 -- The series of a listed station and an element in what files hold, from the facts of the files.
-use Rattle.std.proofs.Common.{◌≡◌, ℕ, Bool, true, false, cond, not, List, [], ◌∷◌, length, map, filter}
-use Rattle.std.proofs.Common.{Option, None, Some, refl, ap₂, arith}
-use Rattle.std.specs.Prelude.{◌==◌, ◌&&◌, ◌||◌}
-use Rattle.std.specs.List.{flat_map, find, list_any, AllByRecursion}
-use Rattle.std.proofs.lemmas.Bool.{and_parts}
-use Rattle.ghcn_files.specs.declared.station.StationId.{StationId}
-use Rattle.ghcn_files.specs.declared.station.Station.{Station}
-use Rattle.ghcn_files.specs.declared.element.Element.{Element}
-use Rattle.ghcn_files.specs.declared.element.Element.TheVariants.{Prcp, Snow, Snwd, Tmax, Tmin}
-use Rattle.ghcn_files.specs.Meaning.Ids.{same_id}
-use Rattle.ghcn_files.specs.Meaning.Elements.{elements}
-use Rattle.ghcn_files.specs.Elements.{same_element}
-use Rattle.ghcn_files.proofs.IdLaws.{same_id-is}
-use Rattle.ghcn_series.specs.Meaning.Series.{Series}
-use Rattle.ghcn_series.specs.Series.{series_of, is_series_of}
-use Rattle.ghcn_series.specs.DailyFaults.{is_listed}
-use Rattle.ghcn_series.specs.Meaning.Says.{Fact}
-use Rattle.ghcn_series.specs.Says.{days_of, usable_of, all_series}
-use Rattle.ghcn_series.specs.JoinedFiles.{facts_in}
+use Rattle.ghcn_series.proofs.Cited.{◌≡◌, ℕ, Bool, true, false, cond, not, List, [], ◌∷◌, length, map, filter, Option}
+use Rattle.ghcn_series.proofs.Cited.{None, Some, refl, ap₂, arith, ◌==◌, ◌&&◌, ◌||◌, flat_map, find, list_any}
+use Rattle.ghcn_series.proofs.Cited.{AllByRecursion, and_parts, StationId, Station, Element, Prcp, Snow, Snwd, Tmax}
+use Rattle.ghcn_series.proofs.Cited.{Tmin, same_id, elements, same_element, same_id-is, Series, series_of, is_series_of}
+use Rattle.ghcn_series.proofs.Cited.{is_listed, Fact, days_of, usable_of, all_series, facts_in}
 use Rattle.ghcn_series.proofs.AllSeries.{same_element-is}
 pub use Rattle.ghcn_series.proofs.AllSeries.{has_days}
 use Rattle.ghcn_series.proofs.ListFacts.{each-append}
@@ -63,16 +49,14 @@ module _ (facts : List Fact) where
 
     -- a series that is said is
     one_said : (s : Station) (f : Element) → IsTheOne (usable_of facts s f)
-    one_said s f passes =
-        let both = and_parts (same_id s.id id) (same_element f e) passes in
+    one_said s f passes = let both = and_parts (same_id s.id id) (same_element f e) passes in
         ap₂ (λ (i : StationId) (g : Element). record { id = i; element = g; days = days_of facts i g })
         (same_id-is s.id id both.0) (same_element-is f e both.1)
 
     -- so are those of all stations
     stations_said : (ss : List Station) → AllByRecursion IsTheOne (flat_map station_said ss)
     stations_said [] = tt
-    stations_said (s ∷ ss) =
-        let each = one_said s in
+    stations_said (s ∷ ss) = let each = one_said s in
         each-append IsTheOne (station_said s) (flat_map station_said ss)
         (each Prcp, (each Snow, (each Snwd, (each Tmax, (each Tmin, tt))))) (stations_said ss)
 
@@ -90,8 +74,7 @@ module _ (facts : List Fact) where
     -- the series of a listed station and an element, if it has a day
     pub series_found : (ss : List Station) → is_listed ss id ≡ true
         → find (is_series_of id e) (all_series ss facts) ≡ if_it_has_days series_made
-    series_found ss listed =
-        rw (listed_said ss, listed)
+    series_found ss listed = rw (listed_said ss, listed)
         at (find-kept (is_series_of id e) (λ (u : Series). length u.days == 0) series_made (flat_map station_said ss)
         (stations_said ss))
 

@@ -1,16 +1,12 @@
 -- Steps of the stations that are held.
-use Rattle.std.proofs.Common.{◌≡◌, ℕ, suc, ◌+◌, ◌*◌, ◌<◌, Bool, true, false, not, List, [], ◌∷◌, ◌++◌}
-use Rattle.std.proofs.Common.{length, get_or, min, inl, inr, refl, sym, ap, ◌∙◌, add-one, arith}
-use Rattle.std.specs.Prelude.{◌==◌}
-use Rattle.std.proofs.Math.ListN.{set}
-use Rattle.std.proofs.lemmas.Bool.{cases_lt, eqb-true, eqb-false, not-true, not-false}
-use Rattle.std.proofs.lemmas.List.{length-set, length-map, get_or-set_same, get_or-set_other, nil_from_length}
-use Rattle.ghcn_files.specs.declared.element.Keep.{Keep}
-use Rattle.ghcn_files.specs.declared.month.Month.{Month}
-use Rattle.ghcn_series.specs.declared.gathering.Gathering.{Gathering}
-use Rattle.ghcn_series.specs.declared.station.StationGathering.{StationGathering}
-use Rattle.ghcn_series.specs.ByPlace.{GatheredByPlace, numbered, place_numbered, by_place, ArePlaced}
-use Rattle.ghcn_series.specs.Steps.{FiveGather, FiveOfNothing, KeepsStation, KeepStations, TurnsTo, AddsAt}
+use Rattle.ghcn_series.proofs.Cited.{◌≡◌, ℕ, suc, ◌+◌, ◌*◌, ◌<◌, Bool, true, false, not, List, [], ◌∷◌, ◌++◌, length}
+use Rattle.ghcn_series.proofs.Cited.{get_or, min, inl, inr, refl, sym, ap, ◌∙◌, arith, ◌==◌, set, cases_lt, eqb-true}
+use Rattle.ghcn_series.proofs.Cited.{eqb-false, not-true, not-false, length-set, length-map, get_or-set_same}
+use Rattle.ghcn_series.proofs.Cited.{get_or-set_other, nil_from_length, Keep, Month, Gathering, StationGathering}
+use Rattle.ghcn_series.proofs.Cited.{GatheredByPlace, numbered, place_numbered, by_place, ArePlaced, FiveGather}
+use Rattle.ghcn_series.proofs.Cited.{FiveOfNothing, KeepsStation, TurnsTo, AddsAt}
+use Rattle.std.proofs.Common.{add-one}
+use Rattle.ghcn_series.specs.Steps.{KeepStations}
 use Rattle.ghcn_series.proofs.PlacedStations.{at_place, at_most_all, at_numbers, numbered-other, numbered-at}
 use Rattle.ghcn_series.proofs.PlacedStations.{placed-push, by_place-push}
 use Rattle.ghcn_series.proofs.StationMonths.{opens-nothing, opens-five}
@@ -64,11 +60,8 @@ module _ (numbers : List ℕ) (held : List StationGathering) (k : ℕ) (all : Li
 
 -- a station that has its gatherings is turned to
 pub turned : (k : ℕ) (all : List (List Gathering)) → length (get_or all k []) ≡ 5 → TurnsTo k all all
-turned k all five = record {
-  own = opens-five (get_or all k []) five;
-  others = λ i other. keeps-same (get_or all i []);
-  number = refl;
-}
+turned k all five =
+    record { own = opens-five (get_or all k []) five; others = λ i other. keeps-same (get_or all i []); number = refl }
 
 -- so is one that gets them
 pub turned-new : (k : ℕ) (all : List (List Gathering)) (five : List Gathering) → k < length all → get_or all k [] ≡ []
@@ -83,12 +76,9 @@ turned-new k all five lt none nothing = record {
 pub turned-after : (k : ℕ) (olds mids news : List (List Gathering)) → KeepStations olds mids → TurnsTo k mids news
     → TurnsTo k olds news
 turned-after k olds mids news keep turns = record {
-  own = record {
-    holds = λ asked before id is. turns.own.holds asked before id ((keep.each k).holds asked before id is);
-  };
+  own = record { holds = λ asked before id h. turns.own.holds asked before id ((keep.each k).holds asked before id h) };
   others = λ i other. record {
-    holds = λ asked before id is.
-        (turns.others i other).holds asked before id ((keep.each i).holds asked before id is);
+    holds = λ asked before id h. (turns.others i other).holds asked before id ((keep.each i).holds asked before id h);
   };
   number = turns.number ∙ keep.number;
 }
@@ -100,15 +90,12 @@ pub here_now : (k last at : ℕ) (numbers : List ℕ) (held : List StationGather
 here_now k last at numbers held v view same lt here =
     let is : last ≡ k = ap (λ (x : GatheredByPlace). x.last) view ∙ same in
     let long = ap (λ (x : GatheredByPlace). length x.stations) view in
-    ap (λ (i : ℕ). get_or numbers i 0) (sym is)
-    ∙ here (omega (arith, is, lt, long, length-map numbers (numbered held)))
+    ap (λ (i : ℕ). get_or numbers i 0) (sym is) ∙ here (omega (arith, is, lt, long, length-map numbers (numbered held)))
 
 -- the station of the line before is where it was, after another was held
-pub still_here : (numbers : List ℕ) (last at k n : ℕ) → get_or numbers k 0 ≡ 0
-    → (last < length numbers → get_or numbers last 0 ≡ at + 1) → last < length (set numbers k n)
-    → get_or (set numbers k n) last 0 ≡ at + 1
-still_here numbers last at k n none here lt =
-    let is = here (rw (length-set numbers k n) at lt) in
+pub still_here : (numbers : List ℕ) (last at k n : ℕ) → get_or numbers k 0 ≡ 0 → (last < length numbers
+    → get_or numbers last 0 ≡ at + 1) → last < length (set numbers k n) → get_or (set numbers k n) last 0 ≡ at + 1
+still_here numbers last at k n none here lt = let is = here (rw (length-set numbers k n) at lt) in
     let other : last ≡ k → ⊥ = λ e. omega (arith, rw e at is, none) in
     get_or-set_other numbers k last n 0 other ∙ is
 
@@ -121,10 +108,8 @@ pub is_held : (numbers : List ℕ) (held : List StationGathering) (g : StationGa
 is_held numbers held g n all view lt none five is last =
     let within : g.place < length numbers = omega (arith, lt, ap length view, length-map numbers (numbered held)) in
     let zero_there = not_held numbers held g.place all view is none in
-    rw (last, ← view) (
-      placed-push numbers held g within zero_there five is,
-      by_place-push numbers held g within zero_there five is,
-    )
+    rw (last, ← view)
+    (placed-push numbers held g within zero_there five is, by_place-push numbers held g within zero_there five is)
 
 module _ (numbers : List ℕ) (held : List StationGathering) (k at : ℕ) (is : ArePlaced numbers held)
     (here : get_or numbers k 0 ≡ at + 1) (g : StationGathering) (found : g ≡ get_or held at g) where
@@ -140,8 +125,7 @@ module _ (numbers : List ℕ) (held : List StationGathering) (k at : ℕ) (is : 
   pub month_added : (asked : Keep) (olds : List (List Gathering)) (now : StationGathering) (m : Month) (added : Bool)
       → TurnsTo k olds (by_place held numbers) → FiveGather asked g.by_element.items now.by_element.items m added
       → AddsAt asked k olds (by_place (set held at now) numbers) m added
-  month_added asked olds now m added turns adds =
-      let number = here ∙ add-one at in
+  month_added asked olds now m added turns adds = let number = here ∙ add-one at in
       let new : get_or (by_place (set held at now) numbers) k [] ≡ now.by_element.items =
       rw (at_place (set held at now) numbers k, number) (numbered-at (set held at now) at now
       (rw (length-set held at now) within_held) (sym (get_or-set_same held at now now within_held))) in

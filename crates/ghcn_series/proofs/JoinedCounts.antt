@@ -1,29 +1,19 @@
 -- What is counted of files, and of others after them.
-use Rattle.std.proofs.Common.{◌≡◌, ℕ, ◌+◌, Bool, true, false, cond, not, List, [], ◌∷◌, ◌++◌, length, map, filter}
-use Rattle.std.proofs.Common.{Option, None, Some, refl, sym, ap, ◌∙◌, arith}
-use Rattle.std.specs.Prelude.{◌-◌, ◌&&◌, ◌||◌}
-use Rattle.std.specs.List.{count_by, find, list_any, slice_get, enumerate_from}
-use Rattle.std.specs.Option.{option_map, option_or}
-use Rattle.std.proofs.lemmas.Bool.{or_parts, or_from, not-false}
-use Rattle.std.proofs.lemmas.List.{append-nil, map-append}
-use Rattle.std.proofs.lemmas.List.Elements.{filter-append}
-use Rattle.std.proofs.lemmas.List.Folds.{find-append, fold-map, list_any-append}
-use Rattle.std.proofs.lemmas.List.Sums.{sum_by-append}
-use Rattle.std.proofs.lemmas.Option.{slice_get-map}
-use Rattle.std.proofs.lemmas.Simd.{map-map}
-use Rattle.ghcn_fields.specs.Meaning.Bytes.{is_blank}
+use Rattle.ghcn_series.proofs.Cited.{◌≡◌, ℕ, ◌+◌, Bool, true, false, cond, not, List, [], ◌∷◌, ◌++◌, length, map}
+use Rattle.ghcn_series.proofs.Cited.{filter, Option, Some, refl, sym, ap, ◌∙◌, arith, ◌-◌, ◌&&◌, ◌||◌, count_by, find}
+use Rattle.ghcn_series.proofs.Cited.{list_any, slice_get, enumerate_from, option_map, option_or, or_parts, not-false}
+use Rattle.ghcn_series.proofs.Cited.{append-nil, map-append, filter-append, find-append, list_any-append}
+use Rattle.ghcn_series.proofs.Cited.{sum_by-append, slice_get-map, map-map, is_blank, EndsLine, enumerate_from-append}
+use Rattle.ghcn_series.proofs.Cited.{lines-append, Foreign, LinePlace, JoinsForeign, JoinsOdd, placed_after, FileLine}
+use Rattle.ghcn_series.proofs.Cited.{daily_lines, Files, going_on, cuts_foreign, has_element, is_foreign, is_odd}
+use Rattle.ghcn_series.proofs.Cited.{foreign_places, foreign_of, odd_among}
+use Rattle.std.proofs.lemmas.Bool.{or_from}
+use Rattle.std.proofs.lemmas.List.Folds.{fold-map}
 use Rattle.ghcn_fields.specs.Meaning.Lines as text
-use Rattle.ghcn_fields.specs.Lines.{EndsLine}
-use Rattle.ghcn_files.proofs.LineLaws.{enumerate_from-append, lines-append}
-use Rattle.ghcn_series.specs.declared.counts.Foreign.{Foreign}
-use Rattle.ghcn_series.specs.declared.counts.LinePlace.{LinePlace}
 use Rattle.ghcn_series.specs.declared.counts.OddLines.{OddLines}
-use Rattle.ghcn_series.specs.Counted.{JoinsForeign, JoinsOdd, placed_after}
-use Rattle.ghcn_series.specs.DailyFaults.{FileLine, daily_lines}
-use Rattle.ghcn_series.specs.Fed.{Files, going_on}
-use Rattle.ghcn_series.specs.LineKinds.{cuts_foreign, has_element, is_foreign, is_odd, foreign_places, foreign_of}
-use Rattle.ghcn_series.specs.LineKinds.{place_of, odd_among}
+use Rattle.ghcn_series.specs.LineKinds.{place_of}
 use Rattle.ghcn_series.proofs.CountedLines.{blank_line}
+use Rattle.ghcn_series.proofs.ListFacts.{map_or}
 use Rattle.ghcn_series.proofs.JoinedLines.{lines_on, either_map, on_line, numbered-on, passing, passing-later}
 
 -- ---- foreign files
@@ -40,8 +30,7 @@ places_from-later n k files = rw (passing-later is_foreign n k files) (simp map-
 -- the places of the foreign files, of files and of others after them
 places-append : (files others : List (List ℕ)) → foreign_places (files ++ others)
     ≡ foreign_places files ++ map (λ p. p + length files) (foreign_places others)
-places-append files others =
-    simp (enumerate_from-append, filter-append, map-append)
+places-append files others = simp (enumerate_from-append, filter-append, map-append)
     (ap (λ (ps : List ℕ). foreign_places files ++ ps) (places_from-later 0 (length files) others))
 
 -- the first of two lists is that of the first one, if it has one
@@ -56,8 +45,7 @@ foreign_joined these others both files more is of joins =
     let shift : ℕ → ℕ = λ p. p + length files in
     let count : both.count ≡ count_by is_foreign (files ++ more) =
     joins.count ∙ rw (is, of) (sym (sum_by-append (λ f. cond (is_foreign f) 1 0) files more)) in
-    let first : both.first ≡ slice_get (foreign_places (files ++ more)) 0 =
-    joins.first
+    let first : both.first ≡ slice_get (foreign_places (files ++ more)) 0 = joins.first
     ∙ rw (is, of, places-append files more, first-append (foreign_places files) (map shift (foreign_places more)))
     (ap (option_or (slice_get (foreign_places files) 0)) (sym (slice_get-map shift (foreign_places more) 0))) in
     rw (← count, ← first) refl
@@ -67,12 +55,6 @@ foreign_joined these others both files more is of joins =
 -- a line is odd
 abbrev odd_line : FileLine → Bool
 odd_line l = is_odd l.bytes
-
--- the first of two things, each taken to another one
-map_or : {A B : Type 0} (f : A → B) (one other : Option A)
-    → option_map f (option_or one other) ≡ option_or (option_map f one) (option_map f other)
-map_or f None other = refl
-map_or f (Some x) other = refl
 
 -- the place of the first odd line
 abbrev first_odd : List FileLine → Option LinePlace
@@ -84,11 +66,10 @@ first_odd-on : (n k : ℕ) (ls : List FileLine)
 first_odd-on n k [] = refl
 first_odd-on n k (l ∷ ls) =
     let file : l.file - 1 + n + 1 - 1 ≡ l.file - 1 + n = omega arith in
-    let on : LinePlace = placed_after n k (place_of l) in
     elim (is_odd l.bytes) as (λ b. option_map place_of (cond b (Some (on_line n k l))
     (find odd_line (map (on_line n k) ls)))
     ≡ option_map (placed_after n k) (option_map place_of (cond b (Some l) (find odd_line ls)))) [
-      | true ↦ λ i. Some (record { file = file i; line = on.line })
+      | true ↦ λ i. Some (record { file = file i; line = (placed_after n k (place_of l)).line })
       | false ↦ first_odd-on n k ls
     ]
 
@@ -97,10 +78,8 @@ pub odd_joined : (these others both : OddLines) (ls : List FileLine) (more : Lis
     → these ≡ odd_among ls → others ≡ odd_among (daily_lines more) → JoinsOdd these others files lines both
     → both ≡ odd_among (ls ++ lines_on (files + 1) lines more)
 odd_joined these others both ls more files lines is of joins =
-    let on = numbered-on files lines more in
-    let rest = lines_on (files + 1) lines more in
-    let number : count_by odd_line rest ≡ count_by odd_line (daily_lines more) =
-    ap (count_by odd_line) on
+    let on = numbered-on files lines more in let rest = lines_on (files + 1) lines more in
+    let number : count_by odd_line rest ≡ count_by odd_line (daily_lines more) = ap (count_by odd_line) on
     ∙ fold-map (λ (n : ℕ) (l : FileLine). n + cond (odd_line l) 1 0) (on_line files lines) 0 (daily_lines more) in
     let place : first_odd rest ≡ option_map (placed_after files lines) (first_odd (daily_lines more)) =
     ap first_odd on ∙ first_odd-on files lines (daily_lines more) in
@@ -108,8 +87,7 @@ odd_joined these others both ls more files lines is of joins =
     joins.count ∙ rw (is, of, ← number) (sym (sum_by-append (λ l. cond (odd_line l) 1 0) ls rest)) in
     let first : both.first ≡ first_odd (ls ++ rest) =
     joins.first ∙ rw (is, of, find-append odd_line ls rest, map_or place_of (find odd_line ls) (find odd_line rest))
-    (ap (option_or (first_odd ls)) (sym place)) in
-    rw (← count, ← first) refl
+    (ap (option_or (first_odd ls)) (sym place)) in rw (← count, ← first) refl
 
 -- ---- all counts
 
@@ -130,8 +108,7 @@ foreign-cut : (before rest : List ℕ) (files : List (List ℕ)) → EndsLine be
     → cuts_foreign before (rest ∷ files) ≡ false → is_foreign (before ++ rest) ≡ is_foreign rest
 foreign-cut before rest files ends whole =
     let told : List ℕ → Bool = λ l. not (is_blank l) in
-    let ls = text.lines before in
-    let more = text.lines rest in
+    let ls = text.lines before in let more = text.lines rest in
     rw (lines-append before rest ends, list_any-append told ls more, list_any-append has_element ls more)
     (parts_alone (list_any told ls) (list_any has_element ls) (list_any told more) (list_any has_element more)
     (none_of ls) whole)
@@ -144,8 +121,7 @@ foreign_same one other more same =
     let first = λ (file : List ℕ).
     either_map (is_foreign other) (λ (f : ℕ × List ℕ). f.0) (0, file) (passing is_foreign 1 more) in
     let places : foreign_places (one ∷ more) ≡ foreign_places (other ∷ more) =
-    rw same (sym (first one) ∙ first other) in
-    λ i. record { count = count i; first = slice_get (places i) 0 }
+    rw same (sym (first one) ∙ first other) in λ i. record { count = count i; first = slice_get (places i) 0 }
 
 -- the foreign files of both, if the first of the others goes on with a file
 pub foreign-followed : (these others both : Foreign) (files : Files) (more : List (List ℕ)) (whole : List ℕ)

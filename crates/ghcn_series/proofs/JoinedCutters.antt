@@ -1,34 +1,21 @@
 -- A cutter that goes on after another one.
-use Rattle.std.proofs.Common.{◌≡◌, ℕ, ◌+◌, ◌^◌, ◌<◌, Bool, true, false, List, [], ◌∷◌, ◌++◌, length, None}
-use Rattle.std.proofs.Common.{inl, inr, refl, sym, ap, ◌∙◌, append_assoc, length-append, arith}
-use Rattle.std.specs.Prelude.{◌&&◌, ◌||◌, not, nat_le, nat_lt, if◌then◌else◌}
-use Rattle.std.specs.List.{enumerate_from, filter_map}
-use Rattle.std.proofs.Math.Bool.{and-false, or-false}
-use Rattle.std.proofs.lemmas.Bool.{or_left, false≢true}
-use Rattle.std.proofs.lemmas.Bool.Decides.{nat_tests}
-use Rattle.std.proofs.lemmas.List.{append-nil}
-use Rattle.std.proofs.lemmas.List.Elements.{filter_map-append}
-use Rattle.std.proofs.lemmas.List.Folds.{list_any-append}
-use Rattle.ghcn_fields.specs.Meaning.Lines.{lines}
-use Rattle.ghcn_fields.specs.Lines.{EndsLine}
-use Rattle.ghcn_files.proofs.LineLaws.{lines-append}
-use Rattle.ghcn_files.specs.declared.station.StationId.{StationId}
-use Rattle.ghcn_series.specs.declared.cutter.Cutter.{Cutter}
-use Rattle.ghcn_series.specs.Counted.{HaveCounted, JoinsCounts, CutsForeign}
-use Rattle.ghcn_series.specs.Cut.{IsCutFile, lines_to, HasReadFed, HasFed, HasFedSome, LooksAtLines}
+use Rattle.ghcn_series.proofs.Cited.{◌≡◌, ℕ, ◌+◌, ◌^◌, ◌<◌, Bool, true, false, List, [], ◌∷◌, ◌++◌, length, None, inl}
+use Rattle.ghcn_series.proofs.Cited.{inr, refl, sym, ap, ◌∙◌, append_assoc, length-append, arith, ◌&&◌, ◌||◌, not}
+use Rattle.ghcn_series.proofs.Cited.{nat_le, nat_lt, if◌then◌else◌, enumerate_from, filter_map, and-false, or-false}
+use Rattle.ghcn_series.proofs.Cited.{or_left, false≢true, nat_tests, append-nil, filter_map-append, list_any-append}
+use Rattle.ghcn_series.proofs.Cited.{lines, EndsLine, lines-append, StationId, Cutter, HaveCounted, JoinsCounts}
+use Rattle.ghcn_series.proofs.Cited.{CutsForeign, IsCutFile, lines_to, HasReadFed, HasFed, HasFedSome, LooksAtLines}
+use Rattle.ghcn_series.proofs.Cited.{FileLine, not_blank, file_lines, daily_lines, month_on, Files, Fed, with_files}
+use Rattle.ghcn_series.proofs.Cited.{files_of, followed_by, going_on, and_current, has_month_of, line_texts, JoinsLines}
+use Rattle.ghcn_series.proofs.Cited.{ReadOneStation, in_64_bits}
 use Rattle.ghcn_series.specs.Cut.{WereFedAlike, Joins, StayApart, HasReadOn, GoOn}
-use Rattle.ghcn_series.specs.DailyFaults.{FileLine, not_blank, file_lines, daily_lines, month_on}
-use Rattle.ghcn_series.specs.Fed.{Files, Fed, with_files, files_of, followed_by, going_on, and_current}
-use Rattle.ghcn_series.specs.Gathered.{has_month_of}
-use Rattle.ghcn_series.specs.LinesRead.{Reading, line_texts, JoinsLines, HaveReadAlike, ReadOneStation}
-use Rattle.ghcn_series.specs.Says.{in_64_bits}
+use Rattle.ghcn_series.specs.LinesRead.{Reading, HaveReadAlike}
 use Rattle.ghcn_series.proofs.AlikeBeginnings.{begin-none, begin-some}
-use Rattle.ghcn_series.proofs.FedCounts.{at_file}
 use Rattle.ghcn_series.proofs.FedLines.{daily_lines-one, file_lines-append}
 use Rattle.ghcn_series.proofs.FedPieces.{without_fault}
 use Rattle.ghcn_series.proofs.JoinedLines.{lines_on, texts-on, ends-followed, parts-followed, ended-followed}
 use Rattle.ghcn_series.proofs.JoinedLines.{length-followed, lines-followed, nothing_left}
-use Rattle.ghcn_series.proofs.KeptFaults.{looking, lines-all}
+use Rattle.ghcn_series.proofs.KeptFaults.{read_on, lines-all}
 
 -- files that came: some that were ended, and the bytes of the one after them
 abbrev files_at : List (List ℕ) → List ℕ → Files
@@ -39,8 +26,7 @@ files_at ended current = record { ended = ended; current = current }
 -- lines with a month of a station have it with more lines after them
 has_more : (ls behind : List FileLine) (id : StationId) → has_month_of (filter_map month_on ls) id ≡ true
     → has_month_of (filter_map month_on (ls ++ behind)) id ≡ true
-has_more ls behind id has =
-    simp (filter_map-append, list_any-append)
+has_more ls behind id has = simp (filter_map-append, list_any-append)
     (or_left (has_month_of (filter_map month_on ls) id) (has_month_of (filter_map month_on behind) id) has)
 
 -- so have all lines of the files that came
@@ -53,8 +39,7 @@ has_in_all ended (b ∷ bs) whole rest id cut has =
     let n = length ended + 1 in
     let behind = not_blank n (enumerate_from (1 + length (lines whole)) (lines rest)) in
     let all : daily_lines (ended ++ (b ∷ bs) ∷ []) ≡ lines_to (files_at ended (b ∷ bs)) whole ++ behind =
-    daily_lines-one ended (b ∷ bs)
-    ∙ ap (λ (t : List ℕ). daily_lines ended ++ file_lines (n, t)) cut.parts
+    daily_lines-one ended (b ∷ bs) ∙ ap (λ (t : List ℕ). daily_lines ended ++ file_lines (n, t)) cut.parts
     ∙ rw (file_lines-append n whole rest cut.ends) (simp append_assoc) in
     rw all (has_more (lines_to (files_at ended (b ∷ bs)) whole) behind id has)
 
@@ -78,12 +63,10 @@ begun-followed files (file ∷ others) bytes ends is =
 numbered-followed : (files : Files) (others : List (List ℕ)) (whole : List ℕ) (ends : Bool) → EndsLine files.current
     → ends ≡ nat_lt 0 (length others) → (if not ends then length (lines files.current) else 0) + length (lines whole)
     ≡ length (lines (going_on files others whole).current)
-numbered-followed files [] whole ends line is =
-    rw (is, lines-append files.current whole line)
+numbered-followed files [] whole ends line is = rw (is, lines-append files.current whole line)
     (omega (arith, length-append (lines files.current) (lines whole)))
 numbered-followed files (file ∷ others) whole ends line is =
-    let some : ends ≡ true = is ∙ grind (arith, nat_tests) in
-    rw some (omega arith)
+    let some : ends ≡ true = is ∙ grind (arith, nat_tests) in rw some (omega arith)
 
 -- ---- cutters
 
@@ -95,14 +78,7 @@ record HasReadWhole {L : Type 0} (has_read : Reading L) (c : Cutter L) (fed : Fe
   pub read : has_read c.reader fed.stations fed.keep (lines_to fed.files fed.files.current)
 
 module _ {L : Type 0} {has_read : Reading L} where
-  -- what was read of the files that came, and at which file the cutter is
-  read_on : (c : Cutter L) (fed : Fed) → LooksAtLines c true → HasFed has_read c fed
-      → HasReadFed has_read c fed × (c.ended ≡ length fed.files.ended)
-  read_on c fed looks is =
-      let few = looking c fed.files looks is.counted in
-      (without_fault c fed few.0 (is.fault few.1), at_file c fed.files few.1 is.counted)
-
-  -- the same of a cutter without an error
+  -- what was read of the files that came, by a cutter without an error
   read_well : (c : Cutter L) (fed : Fed) → HasReadOn c fed.files → HasFed has_read c fed → HasReadFed has_read c fed
   read_well c fed on is = without_fault c fed (rw on.right refl) (is.fault on.few)
 
@@ -139,8 +115,7 @@ module _ {L : Type 0} {has_read : Reading L} where
       → first.rest.items ≡ [] → CutsForeign first.counts next.counts false
       → JoinsLines has_read first.reader next.reader both.reader → ends ≡ nat_lt 0 next.ended
       → JoinsCounts first.counts next.counts both.counts first.ended first.line ends
-      → both.ended ≡ in_64_bits (first.ended + next.ended)
-      → both.begun ≡ (next.begun || (first.begun && not ends))
+      → both.ended ≡ in_64_bits (first.ended + next.ended) → both.begun ≡ (next.begun || (first.begun && not ends))
       → both.line ≡ (if not ends then first.line else 0) + next.line
       → both.rest ≡ next.rest → both.fault ≡ None → Joins has_read first next both
   cutters_joined first next both ends looks looks_too empty cuts reads ended counts number begun line rest none =
@@ -149,8 +124,7 @@ module _ {L : Type 0} {has_read : Reading L} where
             let one = read_on first fed looks is in
             let two = read_on next (with_files fed files) looks_too of in
             let all = read_whole first fed one.0 (begin-none one.0.rest first.rest.items one.0.kept empty) in
-            let others = files.ended in
-            let whole = two.0.whole in
+            let others = files.ended in let whole = two.0.whole in
             let both_files = going_on fed.files others whole in
             let count : ℕ = length (lines fed.files.current) in
             let at_end : ends ≡ nat_lt 0 (length others) = ended ∙ ap (nat_lt 0) two.1 in
@@ -174,8 +148,7 @@ module _ {L : Type 0} {has_read : Reading L} where
                 };
                 unended = two.0.unended;
                 kept = rw rest two.0.kept;
-                numbered = line
-                    ∙ ap (λ (n : ℕ). (if not ends then n else 0) + next.line) all.numbered
+                numbered = line ∙ ap (λ (n : ℕ). (if not ends then n else 0) + next.line) all.numbered
                     ∙ ap (λ (n : ℕ). (if not ends then count else 0) + n) two.0.numbered
                     ∙ numbered-followed fed.files others whole ends all.ends at_end;
                 counted = rw same (counts.holds fed.files (files_at others whole) all.ends uncut one.1 all.numbered
@@ -192,10 +165,9 @@ module _ {L : Type 0} {has_read : Reading L} where
   -- and can be fed more
   pub going-joined : (first next both : Cutter L) → Joins has_read first next both → WereFedAlike has_read first next
       → HasFedSome has_read both
-  going-joined first next both joins alike = (
-    with_files alike.fed (followed_by alike.fed.files alike.files),
-    joins.holds alike.fed alike.files alike.of_first alike.of_next,
-  )
+  going-joined first next both joins alike =
+      let fed = with_files alike.fed (followed_by alike.fed.files alike.files) in
+      (fed, joins.holds alike.fed alike.files alike.of_first alike.of_next)
 
   -- ---- cutters that stay apart
 
@@ -203,20 +175,17 @@ module _ {L : Type 0} {has_read : Reading L} where
   not_read : (c : Cutter L) (fed : Fed) → LooksAtLines c false → HasFed has_read c fed → HasReadOn c fed.files → ⊥
   not_read c fed passed is on =
       let few : nat_le (length (files_of fed.files)) (2 ^ 20) ≡ true = grind (arith, nat_tests, on.few) in
-      let read : false ≡ true = passed.is fed.files is.counted ∙ rw (on.right, few) refl in
-      false≢true read
+      false≢true (passed.is fed.files is.counted ∙ rw (on.right, few) refl)
 
   -- the first cutter doesn't look at lines
   pub apart-passed : (first next : Cutter L) → LooksAtLines first false → StayApart has_read first next
-  apart-passed first next passed = record {
-    why = λ fed files is of on on_too ends. absurd (not_read first fed passed is on);
-  }
+  apart-passed first next passed =
+      record { why = λ fed files is of on on_too ends. absurd (not_read first fed passed is on) }
 
   -- or the next one doesn't
   pub apart-passed_next : (first next : Cutter L) → LooksAtLines next false → StayApart has_read first next
-  apart-passed_next first next passed = record {
-    why = λ fed files is of on on_too ends. absurd (not_read next (with_files fed files) passed of on_too);
-  }
+  apart-passed_next first next passed =
+      record { why = λ fed files is of on on_too ends. absurd (not_read next (with_files fed files) passed of on_too) }
 
   -- nothing is left of a line if the current file ends one
   none_of_line : (c : Cutter L) (fed : Fed) (read : HasReadFed has_read c fed) → EndsLine fed.files.current
@@ -237,8 +206,7 @@ module _ {L : Type 0} {has_read : Reading L} where
       → StayApart has_read first next
   apart-shared first next shares = record {
     why = λ fed files is of on on_too ends.
-        let read = read_well first fed on is in
-        let two = read_well next (with_files fed files) on_too of in
+        let read = read_well first fed on is in let two = read_well next (with_files fed files) on_too of in
         let one = shares.share fed.stations fed.keep (lines_to fed.files read.whole) (lines_to files two.whole)
         read.read two.read in
         inl (record {
@@ -255,8 +223,7 @@ module _ {L : Type 0} (has_read : Reading L) where
       → first.rest.items ≡ [] → CutsForeign first.counts next.counts cuts → GoOn has_read first next (not cuts)
   goes-on first next true looks looks_too empty cuts = record {
     why = λ fed files is of on on_too ends.
-        let read = read_well first fed on is in
-        let two = read_well next (with_files fed files) on_too of in
+        let read = read_well first fed on is in let two = read_well next (with_files fed files) on_too of in
         let all = read_whole first fed read (none_of_line first fed read ends) in
         inr (sym (cuts.is fed.files (files_at files.ended two.whole) all.counted two.counted));
   }

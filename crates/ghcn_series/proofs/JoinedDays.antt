@@ -1,23 +1,14 @@
 -- Days of a block that join those that are held.
-use Rattle.std.proofs.Common.{◌≡◌, ℕ, zero, suc, ◌+◌, ◌<◌, ◌^◌, List, [], ◌∷◌, ◌++◌, length, get_or, set}
-use Rattle.std.proofs.Common.{Option, Some, None, ◌⊎◌, inl, inr, refl, sym, ap, subst, ◌∙◌, arith, ℤ, pos, ◌+ℤ◌}
-use Rattle.std.proofs.Common.{w32, to_z, of_z, FitsSigned}
-use Rattle.std.specs.Prelude.{◌==◌, bit_or}
-use Rattle.std.specs.Int.{bit_at}
-use Rattle.std.specs.List.{AllByRecursion}
-use Rattle.std.specs.Option.{option_or}
-use Rattle.std.specs.Ordering.{int_eq}
-use Rattle.std.proofs.lemmas.Bool.{both_ways, cases_Bool, cases_lt}
-use Rattle.std.proofs.lemmas.Bool.Decides.{Decides-int_eq}
-use Rattle.std.proofs.lemmas.Nat.Bits.{bit_at_or, bit_at-lt}
+use Rattle.ghcn_series.proofs.Cited.{◌≡◌, ℕ, zero, suc, ◌+◌, ◌<◌, ◌^◌, List, [], ◌∷◌, ◌++◌, length, get_or, Option}
+use Rattle.ghcn_series.proofs.Cited.{Some, None, ◌⊎◌, inl, inr, refl, sym, ap, subst, ◌∙◌, arith, ℤ, pos, ◌+ℤ◌, w32}
+use Rattle.ghcn_series.proofs.Cited.{to_z, of_z, FitsSigned, ◌==◌, bit_or, bit_at, AllByRecursion, option_or, int_eq}
+use Rattle.ghcn_series.proofs.Cited.{both_ways, cases_Bool, cases_lt, Decides-int_eq, bit_at_or, bit_at-lt}
+use Rattle.ghcn_series.proofs.Cited.{get_or-set_same, get_or-set_other, to_z-of_z, block_of, DayValue, value_on, Block}
+use Rattle.ghcn_series.proofs.Cited.{block_start, if_so, value_at, block_days, days_of_blocks, blocks_of, IsPacked}
+use Rattle.ghcn_series.proofs.Cited.{AreJoined, JoinsAt, JoinsValues}
+use Rattle.std.proofs.Common.{set}
 use Rattle.std.proofs.lemmas.Nat.{le_or_l}
 use Rattle.std.specs.Int.Bits.{or_zero_l, or_zero_r}
-use Rattle.std.proofs.lemmas.List.{get_or-set_same, get_or-set_other}
-use Rattle.std.proofs.lemmas.Int.{to_z-of_z}
-use Rattle.ghcn_fields.specs.Days.{block_of}
-use Rattle.ghcn_series.specs.Meaning.Series.{DayValue, value_on}
-use Rattle.ghcn_series.specs.Packed.{Block, block_start, if_so, value_at, block_days, days_of_blocks, blocks_of, IsPacked}
-use Rattle.ghcn_series.specs.Parts.{AreJoined, JoinsAt, JoinsValues}
 use Rattle.ghcn_series.proofs.Lookups.{or_none, at_day, block-value, block-other, value_on-append}
 
 -- of two that may be nothing, joined to nothing, both are
@@ -49,8 +40,7 @@ module _ (w p : ℕ) (v u r : List ℤ) (j : ℕ)
         let bit : bit_at (bit_or w p) j ≡ bit_at p j = omega (arith, bit_at_or w p j) in
         rw (bit, absent) (ap (if_so (bit_at p j == 1)) (row.second (zeros_w absent)))
     | inr present ↦
-        let not_both : bit_at p j ≡ 1 → ⊥ = apart present in
-        let other : bit_at p j ≡ 0 = omega (arith, bit_at-lt p j, not_both) in
+        let other : bit_at p j ≡ 0 = omega (arith, bit_at-lt p j, apart present) in
         let bit : bit_at (bit_or w p) j ≡ 1 = omega (arith, bit_at_or w p j) in
         rw (bit, present) (ap Some (row.first (zeros_p other)))
   ]
@@ -75,8 +65,7 @@ module _ (n : ℤ) (w p : ℕ) (v u r : List ℤ) (a : IsPacked (n, (w, v))) (b 
   -- the joined block has the days of both
   pub block-joined : AreJoined (block_days (n, (w, v))) (block_days (n, (p, u))) (block_days (n, (bit_or w p, r)))
   block-joined d = elim (same_block n (block_of d)) [
-    | inl here ↦
-        at_day Joined d (subst (λ (b : ℤ). (j : ℕ) → j < 32 → Joined (block_start b +ℤ pos j)) here at_places)
+    | inl here ↦ at_day Joined d (subst (λ (b : ℤ). (j : ℕ) → j < 32 → Joined (block_start b +ℤ pos j)) here at_places)
     | inr other ↦
         rw (block-other (n, (bit_or w p, r)) d other, block-other (n, (w, v)) d other, block-other (n, (p, u)) d other)
   ]
@@ -86,8 +75,7 @@ module _ (n : ℤ) (w p : ℕ) (v u r : List ℤ) (a : IsPacked (n, (w, v))) (b 
   packed-joined fits = record {
     present = omega (arith, a.present, le_or_l w p);
     fits = fits;
-    zeros = λ j lt none.
-        (row j lt).second (a.zeros j lt (omega (arith, bit_at_or w p j)))
+    zeros = λ j lt none. (row j lt).second (a.zeros j lt (omega (arith, bit_at_or w p j)))
         ∙ b.zeros j lt (omega (arith, bit_at_or w p j));
     days = λ j lt set. elim (bit_cases w j) [
       | inl absent ↦ b.days j lt (omega (arith, bit_at_or w p j))
@@ -117,40 +105,30 @@ last-joined (n ∷ ns) (w ∷ ws) (v ∷ vs) (suc i) p r more lw lv last is d =
 pub last-packed : (ns : List ℤ) (ws : List ℕ) (vs : List (List ℤ)) (i : ℕ) (p : ℕ) (r : List ℤ)
     → AllByRecursion IsPacked (blocks_of ns ws vs) → IsPacked (get_or ns i (pos 0), (p, r))
     → AllByRecursion IsPacked (blocks_of ns (set ws i p) (set vs i r))
-last-packed [] ws vs i p r all one = tt
-last-packed (n ∷ ns) [] vs i p r all one = tt
-last-packed (n ∷ ns) (w ∷ ws) [] zero p r all one = tt
-last-packed (n ∷ ns) (w ∷ ws) [] (suc i) p r all one = tt
 last-packed (n ∷ ns) (w ∷ ws) (v ∷ vs) zero p r all one = (one, all.1)
 last-packed (n ∷ ns) (w ∷ ws) (v ∷ vs) (suc i) p r all one = (all.0, last-packed ns ws vs i p r all.1 one)
+last-packed (n ∷ ns) (w ∷ ws) [] zero p r all one = tt
+last-packed _ _ _ _ p r all one = tt
 
 -- one block more: all days are joined with its own
 pub pushed-blocks : (ns : List ℤ) (ws : List ℕ) (vs : List (List ℤ)) (n : ℤ) (w : ℕ) (v : List ℤ)
     → length ws ≡ length ns → length vs ≡ length ns
     → blocks_of (ns ++ n ∷ []) (ws ++ w ∷ []) (vs ++ v ∷ []) ≡ blocks_of ns ws vs ++ (n, (w, v)) ∷ []
 pushed-blocks [] [] [] n w v lw lv = refl
-pushed-blocks [] [] (v' ∷ vs) n w v lw lv = absurd (omega arith)
-pushed-blocks [] (w' ∷ ws) vs n w v lw lv = absurd (omega arith)
-pushed-blocks (n' ∷ ns) [] vs n w v lw lv = absurd (omega arith)
-pushed-blocks (n' ∷ ns) (w' ∷ ws) [] n w v lw lv = absurd (omega arith)
 pushed-blocks (n' ∷ ns) (w' ∷ ws) (v' ∷ vs) n w v lw lv = ap (λ (l : List Block). (n', (w', v')) ∷ l)
     (pushed-blocks ns ws vs n w v (omega arith) (omega arith))
+pushed-blocks _ _ _ n w v lw lv = absurd (omega arith)
 
 -- a day that none of the blocks has isn't in the one at a place
 pub none-at : (ns : List ℤ) (ws : List ℕ) (vs : List (List ℤ)) (i : ℕ) (d : ℤ) → length ws ≡ length ns
-    → length vs ≡ length ns → i < length ns
-    → value_on (days_of_blocks (blocks_of ns ws vs)) d ≡ None
+    → length vs ≡ length ns → i < length ns → value_on (days_of_blocks (blocks_of ns ws vs)) d ≡ None
     → value_on (block_days (get_or ns i (pos 0), (get_or ws i 0, get_or vs i []))) d ≡ None
-none-at [] ws vs i d lw lv lt none = absurd (omega arith)
-none-at (n ∷ ns) [] vs i d lw lv lt none = absurd (omega arith)
-none-at (n ∷ ns) (w ∷ ws) [] i d lw lv lt none = absurd (omega arith)
-none-at (n ∷ ns) (w ∷ ws) (v ∷ vs) zero d lw lv lt none =
-    (both-none (value_on (block_days (n, (w, v))) d) _
+none-at (n ∷ ns) (w ∷ ws) (v ∷ vs) zero d lw lv lt none = (both-none (value_on (block_days (n, (w, v))) d) _
     (sym (value_on-append (block_days (n, (w, v))) (days_of_blocks (blocks_of ns ws vs)) d) ∙ none)).0
 none-at (n ∷ ns) (w ∷ ws) (v ∷ vs) (suc i) d lw lv lt none =
-    none-at ns ws vs i d (omega arith) (omega arith) (omega arith)
-    (both-none (value_on (block_days (n, (w, v))) d) _
+    none-at ns ws vs i d (omega arith) (omega arith) (omega arith) (both-none (value_on (block_days (n, (w, v))) d) _
     (sym (value_on-append (block_days (n, (w, v))) (days_of_blocks (blocks_of ns ws vs)) d) ∙ none)).1
+none-at _ _ _ _ d lw lv lt none = absurd (omega arith)
 
 -- joined to 0 a value stays
 or-first : (a b : ℤ) → FitsSigned w32 b → a ≡ pos 0 → to_z w32 (bit_or (of_z w32 a) (of_z w32 b)) ≡ b
@@ -162,16 +140,14 @@ or-second a b fits e = rw (e, or_zero_r (of_z w32 a)) (to_z-of_z w32 a fits)
 
 -- one place more is joined
 pub joins-more : (a b both : List ℤ) (i : ℕ) → i < length both → FitsSigned w32 (get_or a i (pos 0))
-    → FitsSigned w32 (get_or b i (pos 0))
-    → ((j : ℕ) → j < i → JoinsAt a b both j)
+    → FitsSigned w32 (get_or b i (pos 0)) → ((j : ℕ) → j < i → JoinsAt a b both j)
     → (j : ℕ) → j < i + 1 → JoinsAt a b (set both i
     (to_z w32 (bit_or (of_z w32 (get_or a i (pos 0))) (of_z w32 (get_or b i (pos 0)))))) j
 joins-more a b both i lt fits_a fits_b so_far j less =
     let v : ℤ = to_z w32 (bit_or (of_z w32 (get_or a i (pos 0))) (of_z w32 (get_or b i (pos 0)))) in
     elim (cases_lt j i) [
       | inl before ↦
-          let same : get_or (set both i v) j (pos 0) ≡ get_or both j (pos 0) = get_or-set_other both i j v (pos 0)
-          (omega arith) in
+          let same = get_or-set_other both i j v (pos 0) (omega arith) in
           record { second = λ e. same ∙ (so_far j before).second e; first = λ e. same ∙ (so_far j before).first e }
       | inr here ↦
           let is : i ≡ j = omega arith in

@@ -1,28 +1,12 @@
 -- Files that are cut into parts: the facts of all of them are those of the parts, and so are the days that they say.
-use Rattle.std.proofs.Common.{◌≡◌, ℕ, ◌+◌, Bool, true, false, cond, not, List, [], ◌∷◌, ◌++◌, length, map, filter}
-use Rattle.std.proofs.Common.{Option, None, Some, Ok, Err, refl, sym, ap, ap₂, ◌∙◌}
-use Rattle.std.specs.Prelude.{◌==◌, ◌&&◌, nat_le, ◌^◌}
-use Rattle.std.specs.List.{filter_map, flat_map, AllZip}
-use Rattle.std.proofs.lemmas.Bool.{eqb-true, not-false}
-use Rattle.std.proofs.lemmas.Grind.{flat_map-append}
-use Rattle.std.proofs.lemmas.List.{map-append, append-nil, nil_from_length}
-use Rattle.std.proofs.lemmas.List.Elements.{filter-append, filter_map-append}
-use Rattle.std.proofs.lemmas.List.Folds.{flat_map-map}
-use Rattle.ghcn_fields.specs.Faults.{first_fault}
-use Rattle.ghcn_fields.specs.Sorting.{sorted_by}
-use Rattle.ghcn_files.specs.declared.station.StationId.{StationId}
-use Rattle.ghcn_files.specs.declared.station.Station.{Station}
-use Rattle.ghcn_files.specs.declared.element.Element.{Element}
-use Rattle.ghcn_files.specs.Meaning.Ids.{same_id}
-use Rattle.ghcn_files.specs.Elements.{same_element}
-use Rattle.ghcn_series.specs.declared.fault.DataFault.{DataFault}
-use Rattle.ghcn_series.specs.declared.fault.DataFault.TheVariants.{TooManyFiles}
-use Rattle.ghcn_series.specs.Meaning.Series.{DayValue}
-use Rattle.ghcn_series.specs.Series.{Data, by_day}
-use Rattle.ghcn_series.specs.DailyFaults.{FileLine, daily_lines, daily_fault, month_on}
-use Rattle.ghcn_series.specs.Meaning.Says.{Fact}
-use Rattle.ghcn_series.specs.Says.{contents, contents_unless}
-use Rattle.ghcn_series.specs.JoinedFiles.{facts_in, HaveData, FactsOfParts}
+use Rattle.ghcn_series.proofs.Cited.{◌≡◌, ℕ, ◌+◌, Bool, true, false, cond, not, List, [], ◌∷◌, ◌++◌, length, map}
+use Rattle.ghcn_series.proofs.Cited.{filter, Option, None, Ok, Err, refl, sym, ap, ap₂, ◌∙◌, ◌==◌, ◌&&◌, nat_le, ◌^◌}
+use Rattle.ghcn_series.proofs.Cited.{filter_map, flat_map, AllZip, eqb-true, not-false, flat_map-append, map-append}
+use Rattle.ghcn_series.proofs.Cited.{append-nil, nil_from_length, filter-append, filter_map-append, flat_map-map}
+use Rattle.ghcn_series.proofs.Cited.{first_fault, sorted_by, StationId, Station, Element, same_id, same_element}
+use Rattle.ghcn_series.proofs.Cited.{DataFault, TooManyFiles, DayValue, Data, by_day, FileLine, daily_lines}
+use Rattle.ghcn_series.proofs.Cited.{daily_fault, month_on, Fact, contents, contents_unless, facts_in, HaveData}
+use Rattle.ghcn_series.specs.JoinedFiles.{FactsOfParts}
 use Rattle.ghcn_series.proofs.FedLines.{lines_from, daily_lines-append, texts-renumbered}
 use Rattle.ghcn_series.proofs.ReadLines.{months-texts}
 use Rattle.ghcn_series.proofs.ReadySeries.{length-sorted}
@@ -49,8 +33,7 @@ facts_of_parts stations files (p ∷ parts) =
 -- so it is with parts that are files alone
 pub facts_joined : FactsOfParts
 facts_joined stations parts =
-    facts_of_parts stations (λ files. files) parts
-    ∙ flat_map-map (λ (f : List Fact). f) (facts_in stations) parts
+    facts_of_parts stations (λ files. files) parts ∙ flat_map-map (λ (f : List Fact). f) (facts_in stations) parts
 
 -- ---- what files hold
 
@@ -62,8 +45,7 @@ contents_in stations files = contents stations (daily_lines files)
 held_if_few : (b : Bool) (o : Option (FileLine × DataFault)) (c d : Data)
     → cond b (contents_unless o c) (Err TooManyFiles) ≡ Ok d → c ≡ d
 held_if_few true None c d e = cc
-held_if_few true (Some f) c d e = absurd cc
-held_if_few false o c d e = absurd cc
+held_if_few _ _ c d e = absurd cc
 
 -- the data of files without an error are what their lines hold
 pub data-held : (stations : List Station) (files : List (List ℕ)) (d : Data) → HaveData stations files d
@@ -77,11 +59,10 @@ pub all_data-held : {P : Type 0} (stations : List Station) (files : P → List (
     (ds : List Data) → AllZip (λ p d. HaveData stations (files p) d) parts ds
     → map (λ p. contents_in stations (files p)) parts ≡ ds
 all_data-held stations files [] [] h = refl
-all_data-held stations files [] (d ∷ ds) h = absurd h
-all_data-held stations files (p ∷ parts) [] h = absurd h
 all_data-held stations files (p ∷ parts) (d ∷ ds) h =
     ap₂ (λ (c : Data) (l : List Data). c ∷ l) (data-held stations (files p) d h.0)
     (all_data-held stations files parts ds h.1)
+all_data-held stations files _ _ h = absurd h
 
 -- ---- the days of facts
 
@@ -106,8 +87,7 @@ joined-right xs ys none = rw (none_sorted ys none, append-nil xs) refl
 
 -- the days of a station and element, as facts come
 abbrev pub days_said : List Fact → StationId → Element → List DayValue
-days_said facts id e =
-    map (λ f. (f.day, f.value)) (filter (λ f. same_id f.id id && same_element f.element e) facts)
+days_said facts id e = map (λ f. (f.day, f.value)) (filter (λ f. same_id f.id id && same_element f.element e) facts)
 
 -- those of facts, and of others after them
 pub days_said-append : (xs ys : List Fact) (id : StationId) (e : Element)

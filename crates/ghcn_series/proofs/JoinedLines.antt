@@ -1,21 +1,12 @@
 -- The lines of files, of which the first one goes on with a file that has begun.
-use Rattle.std.proofs.Common.{◌≡◌, ℕ, ◌+◌, ◌<◌, Bool, true, false, cond, not, List, [], ◌∷◌, ◌++◌, length, map, filter}
-use Rattle.std.proofs.Common.{refl, sym, subst, ap, ap₂, ◌∙◌, append_assoc, length-append, inl, inr, arith}
-use Rattle.std.specs.Prelude.{◌-◌, ◌==◌}
-use Rattle.std.specs.List.{enumerate_from}
-use Rattle.std.proofs.Math.Path.{fun_ext}
-use Rattle.std.proofs.lemmas.Bool.{true≢false, ne_eqb}
-use Rattle.std.proofs.lemmas.List.{append-nil, map-append, nil_from_length}
-use Rattle.std.proofs.lemmas.Simd.{map-map}
-use Rattle.ghcn_fields.specs.Meaning.Bytes.{is_blank}
-use Rattle.ghcn_fields.specs.Meaning.Lines.{lines}
-use Rattle.ghcn_fields.specs.Lines.{EndsLine, HasNoLineFeed}
-use Rattle.ghcn_series.specs.Counted.{placed_after}
-use Rattle.ghcn_series.specs.Cut.{lines_to}
-use Rattle.ghcn_series.specs.DailyFaults.{FileLine, file_line, not_blank, file_lines, daily_lines}
-use Rattle.ghcn_series.specs.Fed.{Files, going_on}
+use Rattle.ghcn_series.proofs.Cited.{◌≡◌, ℕ, ◌+◌, ◌<◌, Bool, true, false, cond, not, List, [], ◌∷◌, ◌++◌, length, map}
+use Rattle.ghcn_series.proofs.Cited.{filter, refl, sym, subst, ap, ap₂, ◌∙◌, append_assoc, length-append, inl, inr}
+use Rattle.ghcn_series.proofs.Cited.{arith, ◌-◌, ◌==◌, enumerate_from, fun_ext, ne_eqb, append-nil, map-append}
+use Rattle.ghcn_series.proofs.Cited.{nil_from_length, map-map, is_blank, lines, EndsLine, HasNoLineFeed, placed_after}
+use Rattle.ghcn_series.proofs.Cited.{lines_to, FileLine, file_line, not_blank, file_lines, daily_lines, Files, going_on}
+use Rattle.ghcn_series.proofs.Cited.{line_texts}
+use Rattle.std.proofs.lemmas.Bool.{true≢false}
 use Rattle.ghcn_series.specs.LineKinds.{place_of}
-use Rattle.ghcn_series.specs.LinesRead.{line_texts}
 use Rattle.ghcn_series.proofs.FedLines.{lines_from, lines_from-first, lines_from-nil, lines_from-cons}
 use Rattle.ghcn_series.proofs.FedLines.{daily_lines-append, daily_lines-one, file_lines-append}
 
@@ -79,8 +70,7 @@ module _ (n k : ℕ) where
       let file : m + n ≡ m - 1 + n + 1 = omega (arith, some) in
       let line : (a : ℕ) → a ≡ a + 0 = λ a. omega arith in
       let other : (m - 1 == 0) ≡ false = ne_eqb (m - 1) 0 (λ e. absurd (omega (arith, some, e))) in
-      each_on m (file_line (m + n))
-      (λ l. rw other (λ i. record { file = file i; line = line l.0 i; bytes = l.1 })) ls
+      each_on m (file_line (m + n)) (λ l. rw other (λ i. record { file = file i; line = line l.0 i; bytes = l.1 })) ls
 
   -- so it is with the lines of later files
   lines_from-on : (m : ℕ) (files : List (List ℕ)) → 1 < m
@@ -88,15 +78,10 @@ module _ (n k : ℕ) where
   lines_from-on m [] some = rw (lines_from-nil (m + n), lines_from-nil m) refl
   lines_from-on m (file ∷ files) some =
       let next : m + n + 1 ≡ m + 1 + n = omega arith in
-      rw (
-        lines_from-cons (m + n) file files,
-        lines_from-cons m file files,
-        map-append (on_line n k) (file_lines (m, file)) (lines_from (m + 1) files),
-        next,
-        lines_from-on (m + 1) files (omega (arith, some)),
-        later-on m (passing (λ (l : List ℕ). not (is_blank l)) 1 (lines file)) some,
-      )
-      refl
+      let first = later-on m (passing (λ (l : List ℕ). not (is_blank l)) 1 (lines file)) some in
+      rw (lines_from-cons (m + n) file files, lines_from-cons m file files, next)
+      (rw (map-append (on_line n k) (file_lines (m, file)) (lines_from (m + 1) files))
+      (rw (lines_from-on (m + 1) files (omega (arith, some)), first) refl))
 
   -- and with those of all files
   pub numbered-on : (files : List (List ℕ)) → lines_on (n + 1) k files ≡ map (on_line n k) (daily_lines files)
@@ -121,10 +106,9 @@ module _ (files : Files) where
   pub ends-followed : (others : List (List ℕ)) (whole : List ℕ) → EndsLine files.current → EndsLine whole
       → EndsLine (going_on files others whole).current
   ends-followed [] whole first (inl none) = rw (none, append-nil files.current) first
-  ends-followed [] whole first (inr (front, is)) = inr (
-    files.current ++ front,
-    ap (λ (t : List ℕ). files.current ++ t) is ∙ sym (append_assoc files.current front (10 ∷ [])),
-  )
+  ends-followed [] whole first (inr (front, is)) =
+      let same = ap (λ (t : List ℕ). files.current ++ t) is ∙ sym (append_assoc files.current front (10 ∷ [])) in
+      inr (files.current ++ front, same)
   ends-followed (file ∷ others) whole first next = next
 
   -- and what comes after it is the last part of the current file
@@ -150,15 +134,10 @@ module _ (files : Files) where
       → daily_lines (files.ended ++ (files.current ++ file) ∷ others) ≡ lines_to files files.current
       ++ lines_on (length files.ended + 1) (length (lines files.current)) (file ∷ others)
   daily_lines-on file others ends =
-      let n = length files.ended + 1 in
-      let first : 1 + length files.ended ≡ n = omega arith in
-      rw (
-        daily_lines-append files.ended ((files.current ++ file) ∷ others),
-        first,
-        lines_from-cons n (files.current ++ file) others,
-        file_lines-append n files.current file ends,
-      )
-      (simp append_assoc)
+      let n = length files.ended + 1 in let first : 1 + length files.ended ≡ n = omega arith in
+      rw (daily_lines-append files.ended ((files.current ++ file) ∷ others), first)
+      (rw (lines_from-cons n (files.current ++ file) others, file_lines-append n files.current file ends)
+      (simp append_assoc))
 
   -- the lines of both are those of the first, and then those of the others
   pub lines-followed : (others : List (List ℕ)) (whole : List ℕ) → EndsLine files.current
@@ -185,6 +164,4 @@ nothing_left [] rest (inr (front, e)) none = absurd (has_line_feed front (subst 
 nothing_left (w ∷ whole) rest (inl e) none = absurd cc
 nothing_left (w ∷ whole) rest (inr ([], e)) none =
     nil_from_length rest (omega (arith, ap length e, length-append whole rest))
-nothing_left (w ∷ whole) rest (inr (f ∷ front, e)) none =
-    let tail : whole ++ rest ≡ front ++ 10 ∷ [] = cc in
-    nothing_left whole rest (inr (front, tail)) none
+nothing_left (w ∷ whole) rest (inr (f ∷ front, e)) none = nothing_left whole rest (inr (front, cc)) none

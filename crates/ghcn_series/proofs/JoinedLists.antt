@@ -1,22 +1,13 @@
 -- Lists that are cut into parts, if of each thing at most one part holds any.
-use Rattle.std.proofs.Common.{◌≡◌, Bool, true, false, cond, List, [], ◌∷◌, ◌++◌, map, filter, refl, sym, ap, ◌∙◌}
-use Rattle.std.proofs.Common.{inl, inr, ap₂, subst, append_assoc}
-use Rattle.std.specs.List.{flat_map, AllByRecursion, IsDistinct}
-use Rattle.std.specs.List.Sorted.{IsPermutation}
-use Rattle.std.specs.Cmp.{IsTotalOrder}
-use Rattle.std.specs.Ordering.{is_le}
-use Rattle.std.specs.declared.cmp.Ordering.{Ordering}
-use Rattle.std.specs.declared.cmp.Ordering.TheVariants.{Equal}
-use Rattle.std.proofs.Math.Path.{fun_ext}
-use Rattle.std.proofs.lemmas.Bool.{cases_Bool, false≢true}
-use Rattle.std.proofs.lemmas.Grind.{flat_map-append}
-use Rattle.std.proofs.lemmas.List.Elements.{filter-append}
-use Rattle.std.proofs.lemmas.List.Folds.{flat_map-map}
+use Rattle.ghcn_series.proofs.Cited.{◌≡◌, Bool, true, false, cond, List, [], ◌∷◌, ◌++◌, map, filter, refl, sym, ap, ◌∙◌}
+use Rattle.ghcn_series.proofs.Cited.{inl, inr, ap₂, subst, append_assoc, flat_map, AllByRecursion, IsDistinct}
+use Rattle.ghcn_series.proofs.Cited.{IsPermutation, IsTotalOrder, is_le, Ordering, Equal, fun_ext, cases_Bool}
+use Rattle.ghcn_series.proofs.Cited.{false≢true, flat_map-append, filter-append, flat_map-map, IsPermutation-sym}
+use Rattle.ghcn_series.proofs.Cited.{sorted_by}
 use Rattle.std.proofs.lemmas.List.Sorted.{IsPermutation-refl, IsPermutation-trans, IsPermutation-append}
 use Rattle.std.proofs.lemmas.List.Sorted.{IsPermutation-append_left, IsPermutation-append_right}
-use Rattle.std.proofs.lemmas.List.Sorted.{IsPermutation-append_comm, IsPermutation-sym}
+use Rattle.std.proofs.lemmas.List.Sorted.{IsPermutation-append_comm}
 use Rattle.std.proofs.lemmas.Map.Keys.{IsDistinct-head, IsDistinct-tail, IsDistinct-IsPermutation}
-use Rattle.ghcn_fields.specs.Sorting.{sorted_by}
 use Rattle.ghcn_files.proofs.Ordered as ordered
 
 -- ---- lists that are made of pieces
@@ -50,8 +41,7 @@ module _ {X Z : Type 0} where
   two_parts : (g h : X → List Z) (xs : List X)
       → IsPermutation (flat_map (λ x. g x ++ h x) xs) (flat_map g xs ++ flat_map h xs)
   two_parts g h [] = IsPermutation-refl []
-  two_parts g h (x ∷ xs) =
-      IsPermutation-trans _ _ _ (IsPermutation-append_right (g x ++ h x) _ _ (two_parts g h xs))
+  two_parts g h (x ∷ xs) = IsPermutation-trans _ _ _ (IsPermutation-append_right (g x ++ h x) _ _ (two_parts g h xs))
       (exchanged (g x) (h x) (flat_map g xs) (flat_map h xs))
 
 -- no pieces of anything make nothing
@@ -63,8 +53,7 @@ no_pieces k (f ∷ fs) = no_pieces k fs
 pub turned_about : {F X Z : Type 0} (k : F → X → List Z) (fs : List F) (xs : List X)
     → IsPermutation (flat_map (λ f. flat_map (k f) xs) fs) (flat_map (λ x. flat_map (λ f. k f x) fs) xs)
 turned_about k fs [] = rw (no_pieces k fs) (IsPermutation-refl [])
-turned_about k fs (x ∷ xs) =
-    IsPermutation-trans _ _ _ (two_parts (λ f. k f x) (λ f. flat_map (k f) xs) fs)
+turned_about k fs (x ∷ xs) = IsPermutation-trans _ _ _ (two_parts (λ f. k f x) (λ f. flat_map (k f) xs) fs)
     (IsPermutation-append_right (flat_map (λ f. k f x) fs) _ _ (turned_about k fs xs))
 
 -- what passes a test in all pieces
@@ -74,8 +63,7 @@ filter-flat_map has g [] = refl
 filter-flat_map has g (x ∷ xs) = rw (filter-append has (g x) (flat_map g xs), filter-flat_map has g xs) refl
 
 -- what passes a test, thing by thing
-pub filter-pieces : {V : Type 0} (has : V → Bool) (xs : List V)
-    → filter has xs ≡ flat_map (λ x. filter has (x ∷ [])) xs
+pub filter-pieces : {V : Type 0} (has : V → Bool) (xs : List V) → filter has xs ≡ flat_map (λ x. filter has (x ∷ [])) xs
 filter-pieces has [] = refl
 filter-pieces has (x ∷ xs) = rw (← filter-pieces has xs) (filter-append has (x ∷ []) xs)
 
@@ -97,10 +85,9 @@ module _ {V : Type 0} (alike : V → V → Bool) (turned : (a b : V) → alike a
       → IsDistinct alike (flat_map g xs) → flat_map g xs ≡ flat_map h xs
   distinct_pieces g h [] same d = refl
   distinct_pieces g h (x ∷ xs) same d =
-      let rest : List V = flat_map g xs in
-      let own = distinct_right rest (g x)
-      (IsDistinct-IsPermutation alike turned _ _ (IsPermutation-append_comm (g x) rest) d) in
-      ap₂ (λ (a b : List V). a ++ b) (same x own) (distinct_pieces g h xs same (distinct_right (g x) rest d))
+      let own = distinct_right (flat_map g xs) (g x)
+      (IsDistinct-IsPermutation alike turned _ _ (IsPermutation-append_comm (g x) (flat_map g xs)) d) in
+      ap₂ (λ (a b : List V). a ++ b) (same x own) (distinct_pieces g h xs same (distinct_right (g x) (flat_map g xs) d))
 
 -- ---- one thing
 
@@ -120,8 +107,7 @@ module _ {T X V : Type 0} (u : List T → X → V) (has : V → Bool) (alike : V
   v f = u f x
 
   -- if no part holds any, the whole doesn't
-  none_held : (fs : List (List T)) → AllByRecursion (λ f. has (v f) ≡ false) fs
-      → has (v (flat_map (λ f. f) fs)) ≡ false
+  none_held : (fs : List (List T)) → AllByRecursion (λ f. has (v f) ≡ false) fs → has (v (flat_map (λ f. f) fs)) ≡ false
   none_held [] h = joins.none x
   none_held (f ∷ fs) h = ap has (joins.left x f (flat_map (λ g. g) fs) h.0) ∙ none_held fs h.1
 
@@ -138,24 +124,21 @@ module _ {T X V : Type 0} (u : List T → X → V) (has : V → Bool) (alike : V
   others_none : (f : List T) (fs : List (List T)) → AllByRecursion (λ y. alike (v f) y ≡ false) (kept_of fs)
       → AllByRecursion (λ g. has (v g) ≡ false) fs
   others_none f [] h = tt
-  others_none f (g ∷ fs) h =
-      elim (cases_Bool (has (v g))) [
-        | inl holds ↦ let k = rw holds at h in absurd (false≢true (sym k.0 ∙ joins.same x f g))
-        | inr fails ↦ (fails, others_none f fs (rw fails at h))
-      ]
+  others_none f (g ∷ fs) h = elim (cases_Bool (has (v g))) [
+    | inl holds ↦ let k = rw holds at h in absurd (false≢true (sym k.0 ∙ joins.same x f g))
+    | inr fails ↦ (fails, others_none f fs (rw fails at h))
+  ]
 
   -- if at most one part holds any, what is kept of all parts is what is kept of the whole
   one_held : (fs : List (List T)) → IsDistinct alike (kept_of fs)
       → kept_of fs ≡ filter has (v (flat_map (λ f. f) fs) ∷ [])
   one_held [] d = sym (ap (λ (b : Bool). cond b (v [] ∷ []) []) (joins.none x))
-  one_held (f ∷ fs) d =
-      let rest : List T = flat_map (λ g. g) fs in
-      elim (cases_Bool (has (v f))) [
-        | inl holds ↦
-            let others = others_none f fs (IsDistinct-head alike (v f) (kept_of fs) (rw holds at d)) in
-            rw (joins.right x f rest (none_held fs others), holds, none_kept fs others) refl
-        | inr fails ↦ rw (joins.left x f rest fails, fails) (one_held fs (rw fails at d))
-      ]
+  one_held (f ∷ fs) d = elim (cases_Bool (has (v f))) [
+    | inl holds ↦
+        let others = others_none f fs (IsDistinct-head alike (v f) (kept_of fs) (rw holds at d)) in
+        rw (joins.right x f (flat_map (λ g. g) fs) (none_held fs others), holds, none_kept fs others) refl
+    | inr fails ↦ rw (joins.left x f (flat_map (λ g. g) fs) fails, fails) (one_held fs (rw fails at d))
+  ]
 
 -- ---- all things
 
@@ -179,17 +162,14 @@ module _ {T X V : Type 0} (u : List T → X → V) (has : V → Bool) (alike : V
 
   -- what all parts hold, thing by thing
   by_thing : IsPermutation (flat_map held_in fs) (flat_map of_one xs)
-  by_thing =
-      rw (flat_map-same held_in (λ f. flat_map (one_in f) xs) fs (λ f. kept-pieces has (u f) xs))
+  by_thing = rw (flat_map-same held_in (λ f. flat_map (one_in f) xs) fs (λ f. kept-pieces has (u f) xs))
       (turned_about one_in fs xs)
 
   module _ (distinct : IsDistinct alike (flat_map held_in fs)) where
     -- if no two are alike, all parts hold of each thing what the whole does
     all_held : flat_map of_one xs ≡ held_in whole
-    all_held =
-        distinct_pieces alike joins.turned of_one (one_in whole) xs (λ x. one_held u has alike joins x fs)
-        (IsDistinct-IsPermutation alike joins.turned _ _ by_thing distinct)
-        ∙ sym (kept-pieces has (u whole) xs)
+    all_held = distinct_pieces alike joins.turned of_one (one_in whole) xs (λ x. one_held u has alike joins x fs)
+        (IsDistinct-IsPermutation alike joins.turned _ _ by_thing distinct) ∙ sym (kept-pieces has (u whole) xs)
 
     -- all parts hold what the whole does, in some order
     pub held_whole : IsPermutation (flat_map held_in fs) (held_in whole)

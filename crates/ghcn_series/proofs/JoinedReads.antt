@@ -1,29 +1,12 @@
 -- Lines that two readers have read, joined: those of the second one have other numbers then.
-use Rattle.std.proofs.Common.{◌≡◌, ◌+◌, Bool, true, false, cond, List, [], ◌∷◌, ◌++◌, length}
-use Rattle.std.proofs.Common.{Option, None, Some, Result, Ok, Err, refl, sym, ap, ◌∙◌, append_assoc, subst, arith}
-use Rattle.std.specs.Prelude.{◌&&◌, ◌||◌}
-use Rattle.std.specs.List.{filter_map, list_any, Contains}
-use Rattle.std.specs.Option.{option_map}
-use Rattle.std.proofs.lemmas.Bool.{or_right}
-use Rattle.std.proofs.lemmas.List.{append-nil, map-append}
-use Rattle.std.proofs.lemmas.List.Elements.{filter_map-append}
-use Rattle.std.proofs.lemmas.List.Folds.{list_any-append}
-use Rattle.ghcn_fields.specs.Faults.{HaveNoFault}
-use Rattle.ghcn_files.proofs.FaultLaws.{no_fault-more}
-use Rattle.ghcn_files.specs.declared.station.Station.{Station}
-use Rattle.ghcn_files.specs.declared.element.Keep.{Keep}
-use Rattle.ghcn_files.specs.declared.month.Month.{Month}
-use Rattle.ghcn_files.specs.declared.fault.LineWhy.{LineWhy}
-use Rattle.ghcn_files.specs.Months.{read_month}
-use Rattle.ghcn_series.specs.declared.fault.DailyWhy.TheVariants.{DuplicateMonth}
-use Rattle.ghcn_series.specs.declared.fault.DataFault.TheVariants.{DailyLine}
-use Rattle.ghcn_series.specs.declared.reader.Reader.{Reader}
-use Rattle.ghcn_series.specs.DailyFaults.{FileLine, month_on, month_if_ok, same_month, is_listed, repeats, daily_why}
-use Rattle.ghcn_series.specs.DailyFaults.{daily_fault}
-use Rattle.ghcn_series.specs.Gathered.{HasReadFor, has_month_of}
-use Rattle.ghcn_series.specs.LinesRead.{line_texts, JoinsLines, ReadOneStation}
-use Rattle.ghcn_series.specs.Says.{in_64_bits}
-use Rattle.ghcn_series.specs.Steps.{JoinStations, OneHasBoth}
+use Rattle.ghcn_series.proofs.Cited.{◌≡◌, ◌+◌, Bool, true, false, cond, List, [], ◌∷◌, ◌++◌, length, Option, None, Some}
+use Rattle.ghcn_series.proofs.Cited.{Result, Ok, Err, refl, sym, ap, ◌∙◌, append_assoc, subst, arith, ◌&&◌, ◌||◌}
+use Rattle.ghcn_series.proofs.Cited.{filter_map, list_any, Contains, option_map, or_right, append-nil, map-append}
+use Rattle.ghcn_series.proofs.Cited.{filter_map-append, list_any-append, HaveNoFault, no_fault-more, Station, Keep}
+use Rattle.ghcn_series.proofs.Cited.{Month, LineWhy, read_month, DuplicateMonth, DailyLine, Reader, FileLine, month_on}
+use Rattle.ghcn_series.proofs.Cited.{month_if_ok, same_month, is_listed, repeats, daily_why, daily_fault, HasReadFor}
+use Rattle.ghcn_series.proofs.Cited.{has_month_of, line_texts, JoinsLines, ReadOneStation, in_64_bits, JoinStations}
+use Rattle.ghcn_series.proofs.Cited.{OneHasBoth}
 use Rattle.ghcn_series.proofs.JoinedMonths.{not_among, read_joined}
 use Rattle.ghcn_series.proofs.ListFacts.{map_split}
 use Rattle.ghcn_series.proofs.ReadMonths.{as_many_gathered}
@@ -67,8 +50,7 @@ still_new listed first more apart none = grind arith
 -- the month of a line is among those of its lines
 is_among : (before : List FileLine) (l : FileLine) (rest : List FileLine) (m : Month) → month_on l ≡ Some m
     → has_month_of (filter_map month_on (before ++ l ∷ rest)) m.id ≡ true
-is_among before l rest m is =
-    rw (filter_map-append month_on before (l ∷ rest), list_any-append, is, same_id-refl m.id)
+is_among before l rest m is = rw (filter_map-append month_on before (l ∷ rest), list_any-append, is, same_id-refl m.id)
     (or_right (has_month_of (filter_map month_on before) m.id) true refl)
 
 -- lines without an error, and others without an error under other numbers, have none together, if no listed station has
@@ -83,14 +65,12 @@ no_fault-joined stations ls more numbered same apart is of =
     no_fault-append (daily_fault stations) ls numbered is (λ front l rest e.
     let at = map_split (λ (x : FileLine). x.bytes) more (line_texts front) l.bytes (line_texts rest)
     (sym same ∙ ap line_texts e ∙ map-append (λ (x : FileLine). x.bytes) front (l ∷ rest)) in
-    let months = months-texts at.0 front at.4 in
     let none = nothing_mapped (λ why. DailyLine at.1.file at.1.line why) (daily_why stations at.0 (read_month at.1.bytes))
     (of.none at.0 at.1 at.2 at.3) in
-    let kept = why_none stations at.0 (ls ++ front) (read_month at.1.bytes)
-    (λ m read new.
+    let kept = why_none stations at.0 (ls ++ front) (read_month at.1.bytes) (λ m read new.
     let some : has_month_of (filter_map month_on more) m.id ≡ true =
     rw at.3 (is_among at.0 at.1 at.2 m (ap month_if_ok read)) in
-    rw (filter_map-append month_on ls front, ← months, list_any-append)
+    rw (filter_map-append month_on ls front, ← months-texts at.0 front at.4, list_any-append)
     (still_new (is_listed stations m.id) (list_any (same_month m) (filter_map month_on ls))
     (list_any (same_month m) (filter_map month_on at.0)) (λ listed. apart m listed some) new)) none in
     rw (ap read_month (sym at.5), kept) refl)
@@ -111,8 +91,7 @@ pub reads_joined : (first next both : Reader) → both.keep ≡ first.keep → b
     → JoinStations first.gathered.stations next.gathered.stations both.gathered.stations → JoinsLines HasReadFor first next both
 reads_joined first next both keep stations unlisted joins = record {
   holds = λ list asked ls more numbered is of same.
-      let ms = filter_map month_on ls in
-      let others = filter_map month_on more in
+      let ms = filter_map month_on ls in let others = filter_map month_on more in
       let same_list : next.stations ≡ first.stations = of.listed ∙ sym is.listed in
       let same_keep : next.keep ≡ first.keep = of.kept ∙ sym is.kept in
       let apart = joins.apart first.keep ms others first.stations is.read.months.gathered

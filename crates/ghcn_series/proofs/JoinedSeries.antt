@@ -1,21 +1,9 @@
 -- Files that are cut into parts: the series of all of them are those of the parts, if they are apart.
-use Rattle.std.proofs.Common.{◌≡◌, ℕ, Bool, false, List, [], ◌∷◌, ◌++◌, map, filter, refl, sym, ap, ap₂}
-use Rattle.std.specs.Prelude.{◌&&◌}
-use Rattle.std.specs.List.{flat_map, IsDistinct}
-use Rattle.std.specs.List.Sorted.{IsPermutation}
-use Rattle.std.proofs.lemmas.Bool.{and_from, eq-eqb}
-use Rattle.std.proofs.lemmas.Cmp.{nat_eq_equiv}
-use Rattle.ghcn_files.specs.declared.station.Station.{Station}
-use Rattle.ghcn_files.specs.declared.element.Element.{Element}
-use Rattle.ghcn_files.specs.Meaning.Ids.{same_id}
-use Rattle.ghcn_files.specs.Meaning.Elements.{elements}
-use Rattle.ghcn_files.specs.Elements.{same_element, element_index}
-use Rattle.ghcn_files.proofs.IdLaws.{same_id-turned}
-use Rattle.ghcn_series.specs.Meaning.Series.{Series}
-use Rattle.ghcn_series.specs.Meaning.Says.{Fact}
-use Rattle.ghcn_series.specs.Says.{usable_of}
-use Rattle.ghcn_series.specs.Held.{same_series}
-use Rattle.ghcn_series.specs.JoinedFiles.{facts_in, all_their_series, SeriesOfParts}
+use Rattle.ghcn_series.proofs.Cited.{◌≡◌, ℕ, Bool, false, List, [], ◌∷◌, ◌++◌, map, filter, refl, sym, ap, ap₂, ◌&&◌}
+use Rattle.ghcn_series.proofs.Cited.{flat_map, IsDistinct, IsPermutation, and_from, eq-eqb, nat_eq_equiv, Station}
+use Rattle.ghcn_series.proofs.Cited.{Element, same_id, elements, same_element, element_index, same_id-turned, Series}
+use Rattle.ghcn_series.proofs.Cited.{Fact, usable_of, same_series, facts_in}
+use Rattle.ghcn_series.specs.JoinedFiles.{all_their_series, SeriesOfParts}
 use Rattle.ghcn_series.proofs.Places.{same_id-refl}
 use Rattle.ghcn_series.proofs.FoundSeries.{has_days}
 use Rattle.ghcn_series.proofs.JoinedFiles.{contents_in, facts_of_parts, data-held, all_data-held, days_said}
@@ -81,8 +69,7 @@ module _ (stations : List Station) where
   all_series_held : (parts : List (List (List ℕ))) → all_their_series (map (contents_in stations) parts)
       ≡ flat_map series_said (map (facts_in stations) parts)
   all_series_held [] = refl
-  all_series_held (p ∷ parts) =
-      ap₂ (λ (one rest : List Series). one ++ rest) (series_held p) (all_series_held parts)
+  all_series_held (p ∷ parts) = ap₂ (λ (one rest : List Series). one ++ rest) (series_held p) (all_series_held parts)
 
   -- if no two series of all parts have the same station and element, those of all files are these
   series_together : (parts : List (List (List ℕ)))
@@ -90,16 +77,14 @@ module _ (stations : List Station) where
       → IsPermutation (all_their_series (map (contents_in stations) parts))
       (contents_in stations (flat_map (λ files. files) parts)).series
   series_together parts distinct =
-      let all : List (List ℕ) = flat_map (λ files. files) parts in
       let moved = held_whole said_at has_days same_series series_join (map (facts_in stations) parts) (places stations)
       (rw (all_series_held parts) at distinct) in
       let facts = facts_of_parts stations (λ (files : List (List ℕ)). files) parts in
-      rw (all_series_held parts, series_held all, facts) moved
+      rw (all_series_held parts, series_held (flat_map (λ files. files) parts), facts) moved
 
 -- if no station and element has a series in two parts, the series of all files are those of the parts
 pub series_of_parts : SeriesOfParts
 series_of_parts stations parts ds held are all distinct =
     let of_parts : map (contents_in stations) parts ≡ ds = all_data-held stations (λ files. files) parts ds are in
-    let of_all : contents_in stations (flat_map (λ files. files) parts) ≡ held =
-    data-held stations (flat_map (λ files. files) parts) held all in
+    let of_all = data-held stations (flat_map (λ files. files) parts) held all in
     rw (← of_parts, ← of_all) (series_together stations parts (rw of_parts distinct))

@@ -1,25 +1,16 @@
 -- What a cutter knows that has taken a piece or a file's end, and what it returns when all files are ended.
-use Rattle.std.proofs.Common.{◌≡◌, ℕ, true, false, ◌+◌, ◌<◌, ◌≤◌, ◌^◌, List, [], length}
-use Rattle.std.proofs.Common.{Option, None, Some, refl, sym, ap, ◌∙◌, subst, length-append, arith}
-use Rattle.std.specs.Prelude.{is_none, Result, OnOk, IfErr}
-use Rattle.std.specs.Result.{result_err}
-use Rattle.std.proofs.lemmas.Bool.{leb-true, ltb-true, ltb-false}
-use Rattle.std.proofs.lemmas.Bool.Decides.{nat_tests}
-use Rattle.std.proofs.lemmas.List.{append-nil, nil_from_length}
-use Rattle.std.proofs.lemmas.Result.{IfOk-weaker, IfErr-weaker}
-use Rattle.ghcn_fields.specs.Refusals.{IsRefusal}
+use Rattle.ghcn_series.proofs.Cited.{◌≡◌, ℕ, true, false, ◌+◌, ◌<◌, ◌≤◌, ◌^◌, List, [], length, Option, None, Some}
+use Rattle.ghcn_series.proofs.Cited.{refl, sym, ap, ◌∙◌, subst, length-append, arith, is_none, Result, OnOk, IfErr}
+use Rattle.ghcn_series.proofs.Cited.{result_err, ltb-true, nat_tests, append-nil, nil_from_length, IfOk-weaker}
+use Rattle.ghcn_series.proofs.Cited.{IfErr-weaker, IsRefusal, Cutter, DataFault, HaveCounted, IsCutFile, lines_to}
+use Rattle.ghcn_series.proofs.Cited.{HasReadFed, HasLineFault, HasCounted, HasFed, HasFedSome, EndsFile, LooksAtLines}
+use Rattle.ghcn_series.proofs.Cited.{daily_lines, is_memory, Files, Fed, ended_files, more, with_end, with_files}
+use Rattle.ghcn_series.proofs.Cited.{files_of, IsLineRefusal, HasReadSome, in_64_bits, data_of}
+use Rattle.std.proofs.lemmas.Bool.{leb-true, ltb-false}
 use Rattle.ghcn_series.specs.declared.cutter.Cut.{Cut}
-use Rattle.ghcn_series.specs.declared.cutter.Cutter.{Cutter}
-use Rattle.ghcn_series.specs.declared.fault.DataFault.{DataFault}
-use Rattle.ghcn_series.specs.Counted.{HaveCounted}
-use Rattle.ghcn_series.specs.Cut.{IsCutFile, lines_to, HasReadFed, HasLineFault, HasCounted, HasFed, HasFedSome}
-use Rattle.ghcn_series.specs.Cut.{TakesPiece, EndsFile, HoldsFed, RefusesFed, CountsFew, LooksAtLines}
+use Rattle.ghcn_series.specs.Cut.{TakesPiece, HoldsFed, RefusesFed, CountsFew}
 use Rattle.ghcn_series.specs.Cut.{ReadsBytes, RefusesBytes, ReadsEnd, RefusesEnd}
-use Rattle.ghcn_series.specs.DailyFaults.{daily_lines, is_memory}
-use Rattle.ghcn_series.specs.Fed.{Files, Fed, ended_files, more, with_end, with_files, files_of}
-use Rattle.ghcn_series.specs.Gathered.{IsLineRefusal}
-use Rattle.ghcn_series.specs.LinesRead.{Reading, HasReadSome}
-use Rattle.ghcn_series.specs.Says.{in_64_bits, data_of}
+use Rattle.ghcn_series.specs.LinesRead.{Reading}
 use Rattle.ghcn_series.proofs.AlikeBeginnings.{begin-some}
 use Rattle.ghcn_series.proofs.ReadFiles.{data_of-refused, first_refusal}
 use Rattle.ghcn_series.proofs.FedCounts.{and_current-some, counted-more, counted-end, at_file, at_place, may_be_read}
@@ -55,8 +46,7 @@ pub record HasEnded {L : Type 0} (has_read : Reading L) (old new : Cutter L) : T
 
 -- no byte of ended files is left
 none_left : (files : List (List ℕ)) (whole rest : List ℕ) → IsCutFile (ended_files files) whole rest → whole ≡ []
-none_left files whole rest cut =
-    nil_from_length whole (omega (arith, ap length cut.parts, length-append whole rest))
+none_left files whole rest cut = nil_from_length whole (omega (arith, ap length cut.parts, length-append whole rest))
 
 -- so their lines are all that was read
 pub lines-all : (files : List (List ℕ)) (whole rest : List ℕ) → IsCutFile (ended_files files) whole rest
@@ -64,6 +54,13 @@ pub lines-all : (files : List (List ℕ)) (whole rest : List ℕ) → IsCutFile 
 lines-all files whole rest cut = rw (none_left files whole rest cut) (append-nil (daily_lines files))
 
 module _ {L : Type 0} {has_read : Reading L} where
+  -- what was read of the files that came, and at which file the cutter is
+  pub read_on : (c : Cutter L) (fed : Fed) → LooksAtLines c true → HasFed has_read c fed
+      → HasReadFed has_read c fed × (c.ended ≡ length fed.files.ended)
+  read_on c fed looks is =
+      let few = looking c fed.files looks is.counted in
+      (without_fault c fed few.0 (is.fault few.1), at_file c fed.files few.1 is.counted)
+
   -- ---- a piece
 
   -- the bytes are counted
@@ -96,8 +93,7 @@ module _ {L : Type 0} {has_read : Reading L} where
       → TakesPiece has_read old (keeping after fault) bytes
   takes-read old after bytes result fault some looks ended begun reads refuses kept = record {
     holds = λ fed is.
-        let files = more fed.files bytes in
-        let counted = byte_counted old fed bytes some is in
+        let files = more fed.files bytes in let counted = byte_counted old fed bytes some is in
         let none = (looking (with_byte old) files looks counted).0 in
         record {
           counted = counted-more old (keeping after fault) fed.files bytes some ended begun is.counted;
@@ -117,12 +113,10 @@ module _ {L : Type 0} {has_read : Reading L} where
       → TakesPiece has_read old (with_byte old) bytes
   takes-passed old bytes some looks = record {
     holds = λ fed is.
-        let files = more fed.files bytes in
-        let counted = byte_counted old fed bytes some is in
+        let files = more fed.files bytes in let counted = byte_counted old fed bytes some is in
         record {
           counted = counted;
-          fault = λ few.
-              with_fault has_read old (with_byte old) fed (with_files fed files) old.fault
+          fault = λ few. with_fault has_read old (with_byte old) fed (with_files fed files) old.fault
               (λ f has. fault-more fed f bytes has)
               (passing (with_byte old) files looks counted few) (is.fault (few_before fed.files bytes few));
         };
@@ -147,14 +141,12 @@ module _ {L : Type 0} {has_read : Reading L} where
 
   -- the place of a file whose end is looked at is one of the first
   pub end-place : (c : Cutter L) → LooksAtLines c true → HasFedSome has_read c → c.ended ≤ 2 ^ 20
-  end-place c looks fed =
-      at_place c fed.0.files (looking c fed.0.files looks fed.1.counted).1 fed.1.counted
+  end-place c looks fed = at_place c fed.0.files (looking c fed.0.files looks fed.1.counted).1 fed.1.counted
 
   -- before a file's end that is looked at, lines were read
   pub end-some : (c : Cutter L) → LooksAtLines c true → HasFedSome has_read c → HasReadSome has_read c.reader
   end-some c looks fed =
-      let at = looking c fed.0.files looks fed.1.counted in
-      let read = without_fault c fed.0 at.0 (fed.1.fault at.1) in
+      let read = (read_on c fed.0 looks fed.1).0 in
       (fed.0.stations, (fed.0.keep, (lines_to fed.0.files read.whole, read.read)))
 
   -- a file that is read to its end
@@ -165,16 +157,13 @@ module _ {L : Type 0} {has_read : Reading L} where
   ends-read old after result fault ended looks same reads refuses kept one_more = record {
     holds = λ fed is.
         let new = ending (keeping after fault) ended in
-        let none = (looking old fed.files looks is.counted).0 in
+        let now = read_on old fed looks is in
         record {
           counted = counted-end old new fed.files (one_more ∙ ap (λ n. in_64_bits (n + 1)) same) refl is.counted;
           fault = λ few.
-              let few_now = few_at_end fed.files few in
-              let at : old.ended ≡ length fed.files.ended = at_file old fed.files few_now is.counted in
-              let before : HasReadFed has_read old fed = without_fault old fed none (is.fault few_now) in
               rw kept (kept_fault has_read after new (with_files fed (with_end fed.files)) result refl refl refl refl
-              (IfOk-weaker result _ _ (λ _ step. step.holds fed at before) reads)
-              (IfErr-weaker result _ _ (λ f step. step.found fed at before) refuses));
+              (IfOk-weaker result _ _ (λ _ step. step.holds fed now.1 now.0) reads)
+              (IfErr-weaker result _ _ (λ f step. step.found fed now.1 now.0) refuses));
         };
   }
 
@@ -213,8 +202,7 @@ module _ {L : Type 0} {has_read : Reading L} where
         let none : fed.files.current ≡ [] = nil_from_length fed.files.current
         (omega (arith, ltb-false 0 (length fed.files.current) (sym is.counted.begun ∙ begun))) in
         let P : List ℕ → Type 0 = λ current.
-        HasFed has_read c (with_files fed (more (ended_files fed.files.ended) current)) in
-        rw none (subst P none is);
+        HasFed has_read c (with_files fed (more (ended_files fed.files.ended) current)) in rw none (subst P none is);
   }
 
   -- all that was fed is read
@@ -222,8 +210,7 @@ module _ {L : Type 0} {has_read : Reading L} where
       → all.reader ≡ c.reader → all.files ≡ c.ended → all.counts ≡ c.counts → HoldsFed has_read old all
   holds_fed old c all ended counts none reader number counted = record {
     is = λ fed is.
-        let files = files_of fed.files in
-        let now = ended.holds fed is in
+        let files = files_of fed.files in let now = ended.holds fed is in
         let few = leb-true (length files) (2 ^ 20) (sym (counts.is (ended_files files) now.counted)) in
         let read = without_fault c (with_files fed (ended_files files)) (ap is_none none) (now.fault few) in
         record {
@@ -248,12 +235,9 @@ module _ {L : Type 0} {has_read : Reading L} where
       → c.fault ≡ Some f → RefusesFed has_read old f
   refuses_kept old c f ended counts kept =
       let refuses : (fed : Fed) → HasFed has_read old fed → (length (files_of fed.files) ≤ 2 ^ 20)
-      × IsRefusal is_memory f (data_of fed.stations (files_of fed.files)) =
-      λ fed is.
-      let files = files_of fed.files in
-      let now = ended.holds fed is in
-      let few : length files ≤ 2 ^ 20 =
-      leb-true (length files) (2 ^ 20) (sym (counts.is (ended_files files) now.counted)) in
+      × IsRefusal is_memory f (data_of fed.stations (files_of fed.files)) = λ fed is.
+      let files = files_of fed.files in let now = ended.holds fed is in
+      let few = leb-true (length files) (2 ^ 20) (sym (counts.is (ended_files files) now.counted)) in
       let has : HasLineFault (with_files fed (ended_files files)) f = rw kept at (now.fault few) in (
         few,
         data_of-refused fed.stations files f few

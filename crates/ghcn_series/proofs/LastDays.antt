@@ -1,18 +1,13 @@
 -- The last day of a word, of a block and of columns.
-use Rattle.std.proofs.Common.{◌≡◌, ℕ, zero, suc, ◌+◌, ◌-◌, ◌*◌, ◌<◌, ◌≤◌, ◌^◌, List, [], ◌∷◌, ◌++◌, length, get_or}
-use Rattle.std.proofs.Common.{drop, Option, Some, None, inl, inr, refl, sym, ap, ◌∙◌, arith, ℤ, pos, ◌+ℤ◌}
+use Rattle.ghcn_series.proofs.Cited.{◌≡◌, ℕ, zero, suc, ◌+◌, ◌-◌, ◌*◌, ◌<◌, ◌≤◌, ◌^◌, List, [], ◌∷◌, ◌++◌, length}
+use Rattle.ghcn_series.proofs.Cited.{get_or, drop, Option, Some, None, inl, inr, refl, sym, ap, ◌∙◌, arith, ℤ, pos}
+use Rattle.ghcn_series.proofs.Cited.{◌+ℤ◌, bit_at, cons_option, filter_map, range_with_len, option_map, pow-succ'}
+use Rattle.ghcn_series.proofs.Cited.{cases_lt, append-nil, slice_get_within, get_or_from_slice_get, bit_at_above}
+use Rattle.ghcn_series.proofs.Cited.{DayValue, Block, block_start, day_at, block_days, days_from, days_of_blocks}
+use Rattle.ghcn_series.proofs.Cited.{blocks_of, AreBlocks, AreCalendarDays, IsPacked}
 use Rattle.std.specs.Prelude.{slice_get}
-use Rattle.std.specs.Int.{bit_at}
-use Rattle.std.specs.List.{cons_option, filter_map, range_with_len}
-use Rattle.std.specs.Option.{option_map}
-use Rattle.std.proofs.Math.Nat.{pow-succ'}
-use Rattle.std.proofs.lemmas.Bool.{cases_lt}
-use Rattle.std.proofs.lemmas.List.{append-nil}
-use Rattle.std.proofs.lemmas.Option.{slice_get_within, get_or_from_slice_get}
-use Rattle.std.proofs.lemmas.Nat.Bits.{bit_at_cat_high, bit_at_above}
-use Rattle.ghcn_series.specs.Meaning.Series.{DayValue}
-use Rattle.ghcn_series.specs.Packed.{Block, block_start, day_at, block_days, days_from, days_of_blocks, blocks_of}
-use Rattle.ghcn_series.specs.Packed.{AreBlocks, AreCalendarDays, IsLastOf, IsPacked}
+use Rattle.std.proofs.lemmas.Nat.Bits.{bit_at_cat_high}
+use Rattle.ghcn_series.specs.Packed.{IsLastOf}
 use Rattle.ghcn_series.proofs.Lookups.{blocks-behind, blocks-end}
 use Rattle.ghcn_series.proofs.FirstDays.{none-set}
 use Rattle.ghcn_series.proofs.PartsAdded.{packed-at}
@@ -48,14 +43,12 @@ last-places : (b : Block) (t s m : ℕ) → s ≤ t → t < s + m → bit_at b.1
     → last_of (filter_map (day_at b) (range_with_len s m)) ≡ Some (block_start b.0 +ℤ pos t)
 last-places b t s zero le lt set above = absurd (omega arith)
 last-places b t s (suc m) le lt set above = elim (cases_lt s t) [
-  | inl before ↦
-      last-cons (day_at b s) (filter_map (day_at b) (range_with_len (s + 1) m)) (block_start b.0 +ℤ pos t)
+  | inl before ↦ last-cons (day_at b s) (filter_map (day_at b) (range_with_len (s + 1) m)) (block_start b.0 +ℤ pos t)
       (last-places b t (s + 1) m (omega arith) (omega arith) set above)
   | inr here ↦
       let is : s ≡ t = omega arith in
       let rest : filter_map (day_at b) (range_with_len (s + 1) m) ≡ [] =
-      none-set b.0 b.1.1 b.1.0 (s + 1) m (λ i more less. above i (omega arith)) in
-      rw (rest, is, set)
+      none-set b.0 b.1.1 b.1.0 (s + 1) m (λ i more less. above i (omega arith)) in rw (rest, is, set)
 ]
 
 -- the last day of a block
@@ -84,11 +77,10 @@ last-of_columns ns ws vs i day bs at is =
 pub highest-bit : (w t : ℕ) → 2 ^ t ≤ w → w < 2 * 2 ^ t → (bit_at w t ≡ 1) × ((i : ℕ) → t < i → bit_at w i ≡ 0)
 highest-bit w t low high =
     let rest : ℕ = w - 2 ^ t in
-    let parts : 1 * 2 ^ t + rest ≡ w = omega arith in (
-      ap (λ (k : ℕ). bit_at k t) (sym parts) ∙ bit_at_cat_high 1 t rest t (omega arith) (omega arith)
-          ∙ ap (bit_at 1) {x = t - t} {y = 0} (omega arith),
-      λ i lt. bit_at_above w (suc t) i (omega (arith, pow-succ' 2 t)) (omega arith),
-    )
+    let parts : 1 * 2 ^ t + rest ≡ w = omega arith in
+    let set : bit_at w t ≡ 1 = ap (λ (k : ℕ). bit_at k t) (sym parts)
+    ∙ bit_at_cat_high 1 t rest t (omega arith) (omega arith) ∙ ap (bit_at 1) {x = t - t} {y = 0} (omega arith) in
+    (set, λ i lt. bit_at_above w (suc t) i (omega (arith, pow-succ' 2 t)) (omega arith))
 
 -- the last block of columns, and its days
 pub record IsLastBlock (ns : List ℤ) (ws : List ℕ) (n : ℤ) (w : ℕ) : Type 0 where
@@ -102,8 +94,7 @@ pub record IsLastBlock (ns : List ℤ) (ws : List ℕ) (n : ℤ) (w : ℕ) : Typ
 pub last-block : (ns : List ℤ) (ws : List ℕ) (vs : List (List ℤ)) (n : ℤ) (w : ℕ) → AreBlocks ns ws vs
     → Some n ≡ slice_get ns (length ns - 1) → Some w ≡ slice_get ws (length ws - 1) → IsLastBlock ns ws n w
 last-block ns ws vs n w bs here there =
-    let i : ℕ = length ns - 1 in
-    let within : i < length ns = slice_get_within ns i n (sym here) in
+    let i : ℕ = length ns - 1 in let within : i < length ns = slice_get_within ns i n (sym here) in
     let number : get_or ns i (pos 0) ≡ n = get_or_from_slice_get ns i n (pos 0) (sym here) in
     let word : get_or ws i 0 ≡ w = ap (λ (k : ℕ). get_or ws (k - 1) 0) (sym bs.enough_words)
     ∙ get_or_from_slice_get ws (length ws - 1) w 0 (sym there) in

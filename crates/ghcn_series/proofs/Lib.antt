@@ -1,3 +1,4 @@
+pub mod Cited
 pub mod ListFacts
 pub mod PartDays
 pub mod RunDays

@@ -1,11 +1,9 @@
 -- Facts of all elements of a list.
-use Rattle.std.proofs.Common.{◌≡◌, ℕ, zero, suc, ◌<◌, List, [], ◌∷◌, ◌++◌, length, Some, subst, Bool, true, false}
-use Rattle.std.proofs.Common.{filter, map, refl, ap, get_or}
-use Rattle.std.specs.List.{AllByRecursion, AllZip, slice_get, IsDistinct}
-use Rattle.std.proofs.Math.ListN.{set}
-use Rattle.std.proofs.lemmas.Bool.{cond_both}
+use Rattle.ghcn_series.proofs.Cited.{◌≡◌, ℕ, zero, suc, ◌<◌, List, [], ◌∷◌, ◌++◌, length, Option, None, Some, subst}
+use Rattle.ghcn_series.proofs.Cited.{Bool, true, false, filter, map, refl, ap, get_or, AllByRecursion, AllZip}
+use Rattle.ghcn_series.proofs.Cited.{option_map, option_or, slice_get, IsDistinct, set, cond_both, slice_get_within}
+use Rattle.ghcn_series.proofs.Cited.{get_or_from_slice_get}
 use Rattle.std.proofs.lemmas.List.Elements.{All-from_recursion, All-get_or}
-use Rattle.std.proofs.lemmas.Option.{slice_get_within, get_or_from_slice_get}
 pub use Rattle.ghcn_files.proofs.Among.{each-weaker}
 
 module _ {X : Type 0} where
@@ -20,22 +18,18 @@ module _ {X : Type 0} where
       → AllByRecursion (λ x. AllByRecursion (λ y. eq x y ≡ false) ys) xs → IsDistinct eq (xs ++ ys)
   unfolding IsDistinct
   both_distinct eq [] ys p q all = q
-  both_distinct eq (x ∷ xs) ys p q all = (
-    each-append (λ y. eq x y ≡ false) xs ys p.0 all.0,
-    both_distinct eq xs ys p.1 q all.1,
-  )
+  both_distinct eq (x ∷ xs) ys p q all =
+      (each-append (λ y. eq x y ≡ false) xs ys p.0 all.0, both_distinct eq xs ys p.1 q all.1)
 
   -- what follows for those that pass a test is true of all of them
   pub passed : (P Q : X → Type 0) (p : X → Bool) (xs : List X) → ((x : X) → P x → p x ≡ true → Q x)
       → AllByRecursion P xs → AllByRecursion Q (filter p xs)
   passed P Q p [] follows all = tt
-  passed P Q p (x ∷ xs) follows all =
-      cond_both (p x) (x ∷ filter p xs) (filter p xs) (AllByRecursion Q)
+  passed P Q p (x ∷ xs) follows all = cond_both (p x) (x ∷ filter p xs) (filter p xs) (AllByRecursion Q)
       (λ is. (follows x all.0 is, passed P Q p xs follows all.1)) (λ is. passed P Q p xs follows all.1)
 
   -- what is true of all is true of those that pass a test
-  pub all-filter : (P : X → Type 0) (p : X → Bool) (xs : List X) → AllByRecursion P xs
-      → AllByRecursion P (filter p xs)
+  pub all-filter : (P : X → Type 0) (p : X → Bool) (xs : List X) → AllByRecursion P xs → AllByRecursion P (filter p xs)
   all-filter P p xs all = passed P P p xs (λ x holds is. holds) all
 
   -- distinct elements stay distinct
@@ -43,10 +37,15 @@ module _ {X : Type 0} where
       → IsDistinct eq (filter p xs)
   unfolding IsDistinct
   distinct_filter eq p [] apart = tt
-  distinct_filter eq p (x ∷ xs) apart =
-      cond_both (p x) (x ∷ filter p xs) (filter p xs) (IsDistinct eq)
+  distinct_filter eq p (x ∷ xs) apart = cond_both (p x) (x ∷ filter p xs) (filter p xs) (IsDistinct eq)
       (λ is. (all-filter (λ y. eq x y ≡ false) p xs apart.0, distinct_filter eq p xs apart.1))
       (λ is. distinct_filter eq p xs apart.1)
+
+-- the first of two things, each taken to another one
+pub map_or : {A B : Type 0} (f : A → B) (one other : Option A)
+    → option_map f (option_or one other) ≡ option_or (option_map f one) (option_map f other)
+map_or f None other = refl
+map_or f (Some x) other = refl
 
 -- what is true of all is true at each place
 pub all-at : {X : Type 0} (P : X → Type 0) (xs : List X) (i : ℕ) (d : X) → AllByRecursion P xs → i < length xs

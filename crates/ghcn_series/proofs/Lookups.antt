@@ -1,21 +1,17 @@
 -- What is looked up among the days of blocks.
-use Rattle.std.proofs.Common.{◌≡◌, ℕ, zero, suc, ◌+◌, ◌<◌, ◌≤◌, Bool, true, false, cond, List, [], ◌∷◌, ◌++◌, length}
-use Rattle.std.proofs.Common.{get_or, Option, Some, None, inl, inr, refl, sym, ap, subst, ◌∙◌, arith, ℤ, pos, negsuc}
-use Rattle.std.proofs.Common.{◌≤ℤ◌, ◌<ℤ◌, ◌+ℤ◌, drop, drop_of_length-le}
-use Rattle.std.specs.Prelude.{◌==◌, unsigned_abs}
-use Rattle.std.specs.Int.{bit_at}
-use Rattle.std.specs.List.{find, cons_option, filter_map, range_with_len, zip}
-use Rattle.std.specs.Option.{option_map, option_or}
-use Rattle.std.specs.Ordering.{int_eq}
-use Rattle.std.proofs.lemmas.Bool.{cases_lt, false_from_ne_true}
-use Rattle.std.proofs.lemmas.Bool.Decides.{Decides-int_eq}
-use Rattle.std.proofs.lemmas.Int.{ints}
+use Rattle.ghcn_series.proofs.Cited.{◌≡◌, ℕ, zero, suc, ◌+◌, ◌<◌, ◌≤◌, Bool, true, false, List, [], ◌∷◌, ◌++◌}
+use Rattle.ghcn_series.proofs.Cited.{length, get_or, Option, Some, None, inl, inr, refl, sym, ap, subst, ◌∙◌, arith, ℤ}
+use Rattle.ghcn_series.proofs.Cited.{pos, ◌≤ℤ◌, ◌<ℤ◌, ◌+ℤ◌, drop, ◌==◌, unsigned_abs, bit_at, find, cons_option}
+use Rattle.ghcn_series.proofs.Cited.{filter_map, range_with_len, zip, option_or, int_eq, find-append, cases_lt}
+use Rattle.ghcn_series.proofs.Cited.{Decides-int_eq, ints, length-zip, block_of, DayValue, value_on, Block, block_start}
+use Rattle.ghcn_series.proofs.Cited.{if_so, value_at, days_from, block_days, days_of_blocks, blocks_of, AreBlocks}
+use Rattle.std.proofs.Common.{negsuc}
+use Rattle.std.proofs.Common.{drop_of_length-le}
+use Rattle.std.proofs.lemmas.Bool.{false_from_ne_true}
 use Rattle.std.proofs.lemmas.List.{drop_more}
-use Rattle.std.proofs.lemmas.Slice.Zip.{length-zip, get_or-zip}
-use Rattle.ghcn_fields.specs.Days.{block_of}
-use Rattle.ghcn_series.specs.Meaning.Series.{DayValue, value_on}
-use Rattle.ghcn_series.specs.Packed.{Block, block_start, place_in_block, if_so, value_at, day_from, days_from, block_days}
-use Rattle.ghcn_series.specs.Packed.{days_of_blocks, blocks_of, AreBlocks}
+use Rattle.std.proofs.lemmas.Slice.Zip.{get_or-zip}
+use Rattle.ghcn_series.specs.Packed.{place_in_block, day_from}
+use Rattle.ghcn_series.proofs.ListFacts.{map_or}
 
 -- equal numbers pass the test
 pub int_eq-yes : (a b : ℤ) → a ≡ b → int_eq a b ≡ true
@@ -32,10 +28,7 @@ block-holds (negsuc a) = (omega (arith, ints), omega (arith, ints))
 
 -- the day at a place of a block is in that block
 pub block-of_place : (b : ℤ) (k : ℕ) → k < 32 → block_of (block_start b +ℤ pos k) ≡ b
-block-of_place b k lt =
-    let day : ℤ = block_start b +ℤ pos k in
-    let holds = block-holds day in
-    omega (arith, ints)
+block-of_place b k lt = let holds = block-holds (block_start b +ℤ pos k) in omega (arith, ints)
 
 -- a day that isn't the first of some days is looked up after it
 pub value_on-other : (t : Bool) (x : DayValue) (xs : List DayValue) (day : ℤ) → int_eq x.0 day ≡ false
@@ -65,18 +58,15 @@ module _ (first : ℤ) (w : ℕ) (vs : List ℤ) where
       → value_on (filter_map (day_from first w vs) (range_with_len s n)) (first +ℤ pos j) ≡ value_at w vs j
   found_at j s zero le lt = absurd (omega arith)
   found_at j s (suc n) le lt =
-      let day : ℤ = first +ℤ pos j in
-      let x : DayValue = (first +ℤ pos s, get_or vs s (pos 0)) in
+      let day : ℤ = first +ℤ pos j in let x : DayValue = (first +ℤ pos s, get_or vs s (pos 0)) in
       let xs : List DayValue = filter_map (day_from first w vs) (range_with_len (s + 1) n) in
       elim (cases_lt s j) [
-        | inl before ↦
-            value_on-other (bit_at w s == 1) x xs day (int_eq-no x.0 day (λ e. omega (arith, ints)))
+        | inl before ↦ value_on-other (bit_at w s == 1) x xs day (int_eq-no x.0 day (λ e. omega (arith, ints)))
             ∙ found_at j (s + 1) n (omega arith) (omega arith)
         | inr here ↦
             let same : s ≡ j = omega arith in
             value_on-same (bit_at w s == 1) x xs day (int_eq-yes x.0 day (ap (λ (k : ℕ). first +ℤ pos k) same))
-            (none_among day (s + 1) n (λ k more less e. omega (arith, ints)))
-            ∙ ap (value_at w vs) same
+            (none_among day (s + 1) n (λ k more less e. omega (arith, ints))) ∙ ap (value_at w vs) same
       ]
 
   -- each of 32 days has the value of its place
@@ -103,15 +93,9 @@ block-other b day h =
 -- a day is looked up among some days, and otherwise among those after them
 pub value_on-append : (xs ys : List DayValue) (day : ℤ) → value_on (xs ++ ys) day ≡ option_or (value_on xs day)
     (value_on ys day)
-value_on-append [] ys day = refl
-value_on-append (x ∷ xs) ys day =
-    elim (int_eq x.0 day) as (λ b. option_map (λ (y : DayValue). y.1)
-    (cond b (Some x) (find (λ y. int_eq y.0 day) (xs ++ ys)))
-    ≡ option_or (option_map (λ (y : DayValue). y.1) (cond b (Some x) (find (λ y. int_eq y.0 day) xs)))
-    (value_on ys day)) [
-      | true ↦ refl
-      | false ↦ value_on-append xs ys day
-    ]
+value_on-append xs ys day =
+    let is : DayValue → Bool = λ x. int_eq x.0 day in
+    rw (find-append is xs ys) (map_or (λ (x : DayValue). x.1) (find is xs) (find is ys))
 
 -- x, or nothing
 pub or_none : {X : Type 0} (x : Option X) → option_or x None ≡ x
@@ -132,8 +116,7 @@ days-without (b ∷ bs) day h =
 
 -- if one block alone has the day's number, the day has the value of its place there
 pub days-at : (bs : List Block) (i : ℕ) (number : ℤ) (j : ℕ) → j < 32 → i < length bs
-    → (get_or bs i no_block).0 ≡ number
-    → ((k : ℕ) → k < length bs → (get_or bs k no_block).0 ≡ number → k ≡ i)
+    → (get_or bs i no_block).0 ≡ number → ((k : ℕ) → k < length bs → (get_or bs k no_block).0 ≡ number → k ≡ i)
     → value_on (days_of_blocks bs) (block_start number +ℤ pos j) ≡ value_at (get_or bs i no_block).1.0
     (get_or bs i no_block).1.1 j
 days-at [] i number j below lt is alone = absurd (omega arith)
@@ -154,8 +137,7 @@ days-at (b ∷ bs) (suc i) number j below lt is alone =
 
 -- the block at a place of three columns of one length
 pub blocks-at : (numbers : List ℤ) (words : List ℕ) (values : List (List ℤ)) (i : ℕ) → length words ≡ length numbers
-    → length values ≡ length numbers → i < length numbers
-    → get_or (blocks_of numbers words values) i no_block
+    → length values ≡ length numbers → i < length numbers → get_or (blocks_of numbers words values) i no_block
     ≡ (get_or numbers i (pos 0), (get_or words i 0, get_or values i []))
 blocks-at numbers words values i w v lt =
     get_or-zip numbers (zip words values) i no_block lt (rw (length-zip words values) (omega arith))
@@ -164,8 +146,7 @@ blocks-at numbers words values i w v lt =
 
 -- there are as many blocks as numbers
 pub blocks-length : (numbers : List ℤ) (words : List ℕ) (values : List (List ℤ)) → length words ≡ length numbers
-    → length values ≡ length numbers
-    → length (blocks_of numbers words values) ≡ length numbers
+    → length values ≡ length numbers → length (blocks_of numbers words values) ≡ length numbers
 blocks-length numbers words values w v = omega (arith, length-zip numbers (zip words values), length-zip words values)
 
 -- the place of a day in its block, which is below 32

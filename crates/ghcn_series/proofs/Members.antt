@@ -1,8 +1,7 @@
 -- Which elements a list has: of what was found, kept, put in order, or made of others.
-use Rattle.std.proofs.Common.{◌≡◌, inl, inr, zero, suc, Bool, true, cond, List, [], ◌∷◌, ◌++◌, map}
-use Rattle.std.proofs.Common.{filter, Option, Some, None, refl, sym, ap, ◌∙◌, subst, arith}
-use Rattle.std.specs.List.{Contains, list_any, flat_map, filter_map, cons_option, AllByRecursion}
-use Rattle.std.proofs.lemmas.Bool.{or_cases, or_left, or_right}
+use Rattle.ghcn_series.proofs.Cited.{◌≡◌, inl, inr, zero, suc, Bool, true, cond, List, [], ◌∷◌, ◌++◌, map, filter}
+use Rattle.ghcn_series.proofs.Cited.{Option, Some, None, refl, sym, ap, ◌∙◌, subst, arith, Contains, list_any, flat_map}
+use Rattle.ghcn_series.proofs.Cited.{filter_map, cons_option, AllByRecursion, or_cases, or_left, or_right}
 use Rattle.std.proofs.lemmas.List.Elements.{All-contains, Contains-append_cases, Contains-append_left}
 use Rattle.std.proofs.lemmas.List.Elements.{Contains-append_right, filter_passes}
 use Rattle.ghcn_series.proofs.ListFacts.{all-filter}
@@ -78,8 +77,7 @@ pub made_in : {X Y : Type 0} (f : X → Option Y) (xs : List X) (y : Y) → In (
     → (x : X) × In xs x × (f x ≡ Some y)
 made_in f [] y h = absurd h
 made_in {X = X} f (x ∷ xs) y h =
-    elim (f x) as (λ o. f x ≡ o → In (cons_option o (filter_map f xs)) y
-    → (z : X) × In (x ∷ xs) z × (f z ≡ Some y)) [
+    elim (f x) as (λ o. f x ≡ o → In (cons_option o (filter_map f xs)) y → (z : X) × In (x ∷ xs) z × (f z ≡ Some y)) [
       | None ↦ λ e k. let rest = made_in f xs y k in (rest.0, inr rest.1, rest.2)
       | Some u ↦ λ e k. elim k [
         | inl s ↦ (x, inl refl, e ∙ ap (λ w. Some w) s)
@@ -98,11 +96,9 @@ in_made f (z ∷ zs) x y (inr h) e = grind (arith, in_made f zs x y h e)
 -- what is in the list of one of those that are there
 pub in_all : {X Y : Type 0} (f : X → List Y) (xs : List X) (x : X) (y : Y) → In xs x → In (f x) y → In (flat_map f xs) y
 in_all f [] x y h k = absurd h
-in_all f (z ∷ zs) x y (inl e) k =
-    contains-in (f z ++ flat_map f zs) y
+in_all f (z ∷ zs) x y (inl e) k = contains-in (f z ++ flat_map f zs) y
     (Contains-append_left (f z) (flat_map f zs) y (in-contains (f z) y (subst (λ w. In (f w) y) (sym e) k)))
-in_all f (z ∷ zs) x y (inr h) k =
-    contains-in (f z ++ flat_map f zs) y
+in_all f (z ∷ zs) x y (inr h) k = contains-in (f z ++ flat_map f zs) y
     (Contains-append_right (f z) (flat_map f zs) y (in-contains (flat_map f zs) y (in_all f zs x y h k)))
 
 -- and back

@@ -1,29 +1,14 @@
 -- A month's usable days by their places.
-use Rattle.std.proofs.Common.{◌≡◌, ℕ, zero, suc, ◌+◌, ◌<◌, ◌≤◌, Bool, true, false, cond, List, [], ◌∷◌, get_or}
-use Rattle.std.proofs.Common.{Option, Some, None, inl, inr, refl, sym, ap, subst, ◌∙◌, arith, ℤ, pos, ◌+ℤ◌, ◌-ℤ◌, ◌<ℤ◌}
-use Rattle.std.proofs.Common.{◌≤ℤ◌}
-use Rattle.std.specs.Prelude.{unsigned_abs}
-use Rattle.std.specs.Int.{bit_at}
-use Rattle.std.specs.List.{cons_option, filter_map, enumerate_from}
-use Rattle.std.specs.Option.{option_map, option_and_then}
-use Rattle.std.proofs.lemmas.Bool.{cases_lt, lt-ltb, le-ltb}
-use Rattle.std.proofs.lemmas.Int.{ints, by_lt_z}
-use Rattle.std.proofs.lemmas.Option.{same_Some}
-use Rattle.jiff_core.specs.Calendar.{days_in_month, days_from_civil}
-use Rattle.jiff_core.proofs.CalendarLemmas.{days_in_month_bounds}
-use Rattle.ghcn_fields.specs.Meaning.Days.{is_day}
-use Rattle.ghcn_fields.specs.Days.{day_number}
-use Rattle.ghcn_files.specs.declared.month.Month.{Month}
-use Rattle.ghcn_files.specs.declared.month.Reading.{Reading}
-use Rattle.ghcn_files.specs.declared.row.MonthRow.{MonthRow}
-use Rattle.ghcn_files.specs.Months.{IsMonth}
-use Rattle.ghcn_files.specs.Rows.{value_at, if_possible, no_reading, day_value, AreDays, IsRowOf}
-use Rattle.ghcn_series.specs.Meaning.Series.{DayValue, value_on}
-use Rattle.ghcn_series.specs.Says.{fact_if}
-use Rattle.ghcn_series.specs.Packed.{days_from}
-use Rattle.ghcn_series.specs.Parts.{IsRow, day_of, row_days}
-use Rattle.ghcn_series.specs.Steps.{IsRowFor}
-use Rattle.ghcn_series.specs.Gathered.{counted_day, usable_day, usable_days, usable_value}
+use Rattle.ghcn_series.proofs.Cited.{◌≡◌, ℕ, zero, suc, ◌+◌, ◌<◌, ◌≤◌, Bool, true, false, cond, List, [], ◌∷◌, get_or}
+use Rattle.ghcn_series.proofs.Cited.{Option, Some, None, inl, inr, refl, sym, ap, subst, ◌∙◌, arith, ℤ, pos, ◌+ℤ◌, ◌<ℤ◌}
+use Rattle.ghcn_series.proofs.Cited.{◌≤ℤ◌, unsigned_abs, bit_at, cons_option, filter_map, enumerate_from, option_map}
+use Rattle.ghcn_series.proofs.Cited.{option_and_then, cases_lt, lt-ltb, le-ltb, ints, by_lt_z, same_Some, days_in_month}
+use Rattle.ghcn_series.proofs.Cited.{days_from_civil, days_in_month_bounds, is_day, day_number, Month, Reading}
+use Rattle.ghcn_series.proofs.Cited.{MonthRow, IsMonth, IsRowOf, DayValue, value_on, fact_if, days_from, IsRow, day_of}
+use Rattle.ghcn_series.proofs.Cited.{row_days, IsRowFor, counted_day, usable_day, usable_days}
+use Rattle.std.proofs.Common.{◌-ℤ◌}
+use Rattle.ghcn_files.specs.Rows.{value_at, if_possible, no_reading, day_value, AreDays}
+use Rattle.ghcn_series.specs.Gathered.{usable_value}
 use Rattle.ghcn_series.proofs.Lookups.{from-value, from-other}
 use Rattle.ghcn_series.proofs.RisingDays.{behind, front}
 use Rattle.ghcn_series.proofs.MonthDays.{IsOfCalendar, has_number, day_number-is, day_number-after}
@@ -112,8 +97,7 @@ module _ (m : Month) (first : ℤ) (begins : day_number m.year m.month 1 ≡ Som
       → value_on (filter_map (usable_day m) (enumerate_from (s + 1) rs)) d ≡ None
   elsewhere [] s d other = refl
   elsewhere (r ∷ rs) s d other =
-      after_place r rs s d (other s (omega arith))
-      ∙ elsewhere rs (s + 1) d (λ k le. other k (omega (arith, le)))
+      after_place r rs s d (other s (omega arith)) ∙ elsewhere rs (s + 1) d (λ k le. other k (omega (arith, le)))
 
   -- the day at a place has its value
   found : (rs : List Reading) (s j k : ℕ) → s + j ≡ k
@@ -123,8 +107,7 @@ module _ (m : Month) (first : ℤ) (begins : day_number m.year m.month 1 ≡ Som
   found (r ∷ rs) s zero k at =
       let rest : List DayValue = filter_map (usable_day m) (enumerate_from (s + 1 + 1) rs) in
       let same : k ≡ s = omega (arith, at) in
-      rw same
-      (elim (usable_day m (s + 1, r)) as (λ o. usable_day m (s + 1, r) ≡ o
+      rw same (elim (usable_day m (s + 1, r)) as (λ o. usable_day m (s + 1, r) ≡ o
       → value_on (cons_option o rest) (first +ℤ pos s) ≡ option_map (λ (x : DayValue). x.1) o) [
         | None ↦ λ is. elsewhere rs (s + 1) (first +ℤ pos s) (λ i le e. omega (arith, ints, le, e))
         | Some x ↦ λ is. ap (value_on (x ∷ rest)) (sym (day-at s r x is)) ∙ front x rest
@@ -134,8 +117,7 @@ module _ (m : Month) (first : ℤ) (begins : day_number m.year m.month 1 ≡ Som
 
   -- no month has a day past its 31st
   past-none : (k : ℕ) (r : Reading) → 31 ≤ k → usable_day m (k + 1, r) ≡ None
-  past-none k r past =
-      none_if (usable_day m (k + 1, r)) (λ x is.
+  past-none k r past = none_if (usable_day m (k + 1, r)) (λ x is.
       let has = has_number m.year m.month (k + 1) x.0 (is_day_of m (k + 1) r x is) in
       omega (arith, past, has.0.day, days_in_month_bounds (pos m.year) m.month))
 
@@ -146,8 +128,7 @@ module _ (m : Month) (first : ℤ) (begins : day_number m.year m.month 1 ≡ Som
       | inl less ↦ row.holds k less ∙ sym (usable_is m k right)
       | inr last ↦
           let same : k ≡ 31 = omega (arith, lt, last) in
-          let small = row.fits in
-          let unset : bit_at w 31 ≡ 0 = omega (arith, small) in
+          let unset : bit_at w 31 ≡ 0 = omega (arith, row.fits) in
           rw (past-none k (get_or m.days k no_reading) last, same, unset) refl
     ]
 
@@ -165,8 +146,7 @@ module _ (m : Month) (first : ℤ) (begins : day_number m.year m.month 1 ≡ Som
 
     -- the days of a month's row have the values of its usable days
     pub row-values : (d : ℤ) → value_on (days_from first w vs) d ≡ value_on (usable_days m) d
-    row-values d = by_lt_z d first
-        (λ (lt : d <ℤ first).
+    row-values d = by_lt_z d first (λ (lt : d <ℤ first).
         from-other first w vs d (λ j less e. omega (arith, ints, lt, e))
         ∙ sym (elsewhere m.days 0 d (λ k le e. omega (arith, ints, lt, e))))
         (λ (ge : first ≤ℤ d).
@@ -183,13 +163,11 @@ module _ (m : Month) (first : ℤ) (begins : day_number m.year m.month 1 ≡ Som
     }
       where
         usable : (j : ℕ) (v : ℤ) → usable_value m j ≡ Some v → is_day (first +ℤ pos j) ≡ true
-        usable j v some =
-            elim (usable_day m (j + 1, get_or m.days j no_reading)) as
+        usable j v some = elim (usable_day m (j + 1, get_or m.days j no_reading)) as
             (λ o. usable_day m (j + 1, get_or m.days j no_reading) ≡ o → option_map (λ (x : DayValue). x.1) o
             ≡ Some v → is_day (first +ℤ pos j) ≡ true) [
               | None ↦ λ is e. absurd cc
-              | Some x ↦ λ is e.
-                  ap is_day (sym (day-at j (get_or m.days j no_reading) x is))
+              | Some x ↦ λ is e. ap is_day (sym (day-at j (get_or m.days j no_reading) x is))
                   ∙ is_day-numbered m.year m.month (j + 1) x.0 (is_day_of m (j + 1) (get_or m.days j no_reading) x is)
             ] refl some
 
@@ -201,7 +179,5 @@ pub row-at : (m : Month) (row : MonthRow) (first number block : ℤ) (place : �
 row-at m row first number block place right of first_is near at =
     let begins : day_number m.year m.month 1 ≡ Some first = rw (← of.year, ← of.month) first_is in
     let is : day_of number place ≡ first = ap (λ (n : ℤ). day_of n place) near ∙ at in
-    rw is (
-      row-is m first begins row.word row.values right of.days,
-      row-values m first begins row.word row.values right of.days,
-    )
+    let values = row-values m first begins row.word row.values right of.days in
+    rw is (row-is m first begins row.word row.values right of.days, values)

@@ -1,16 +1,11 @@
 -- The first block from a number on.
-use Rattle.std.proofs.Common.{◌≡◌, ℕ, zero, suc, ◌<◌, ◌^◌, Bool, true, false, List, [], ◌∷◌, ◌++◌, map, length}
-use Rattle.std.proofs.Common.{inl, inr, Some, refl, sym, ap, ◌∙◌, arith, ℤ, pos, length-append}
-use Rattle.std.specs.Prelude.{◌==◌, int_le, int_lt, slice_get}
-use Rattle.std.specs.List.{find, AllByRecursion}
+use Rattle.ghcn_series.proofs.Cited.{◌≡◌, ℕ, zero, suc, ◌<◌, ◌^◌, Bool, true, false, List, [], ◌∷◌, ◌++◌, map, length}
+use Rattle.ghcn_series.proofs.Cited.{inl, inr, Some, refl, sym, ap, ◌∙◌, arith, ℤ, pos, length-append, ◌==◌, int_le}
+use Rattle.ghcn_series.proofs.Cited.{int_lt, find, AllByRecursion, option_map, cases_Bool, ne_eqb, ints, block_of}
+use Rattle.ghcn_series.proofs.Cited.{DayValue, Block, block_days, days_of_blocks, blocks_of, AreBlocks, IsPacked}
+use Rattle.ghcn_series.proofs.Cited.{next_block}
+use Rattle.std.specs.Prelude.{slice_get}
 use Rattle.std.specs.List.Sorted.{IsPartitionPoint}
-use Rattle.std.specs.Option.{option_map}
-use Rattle.std.proofs.lemmas.Bool.{cases_Bool}
-use Rattle.std.proofs.lemmas.Bool.Decides.{nat_tests}
-use Rattle.std.proofs.lemmas.Int.{ints}
-use Rattle.ghcn_fields.specs.Days.{block_of}
-use Rattle.ghcn_series.specs.Meaning.Series.{DayValue}
-use Rattle.ghcn_series.specs.Packed.{Block, block_days, days_of_blocks, blocks_of, AreBlocks, IsPacked, next_block}
 use Rattle.ghcn_series.proofs.Lookups.{block-of_place}
 use Rattle.ghcn_series.proofs.FirstDays.{block-first, fewer}
 use Rattle.ghcn_series.proofs.PartDays.{each-day}
@@ -27,22 +22,16 @@ block-own b = each-day (λ (d : ℤ). block_of d ≡ b.0) b.0 b.1.1 b.1.0 (λ j 
 pub block-nonempty : (b : Block) → 0 < b.1.0 → b.1.0 < 2 ^ 32 → 0 < length (block_days b)
 block-nonempty b some fits = omega (arith, fewer (block_days b) _ _ (block-first b.0 b.1.1 b.1.0 some fits))
 
--- a number above 0 isn't 0
-not_zero : (k : ℕ) → 0 < k → (k == 0) ≡ false
-not_zero k some = grind (arith, nat_tests)
-
 -- blocks have no day if and only if there is no block
 pub no-days : (ns : List ℤ) (ws : List ℕ) (vs : List (List ℤ)) → AreBlocks ns ws vs
     → (length ns == 0) ≡ (length (days_of_blocks (blocks_of ns ws vs)) == 0)
 no-days [] ws vs bs = refl
-no-days (n ∷ ns) [] vs bs = absurd (omega (arith, bs.enough_words))
-no-days (n ∷ ns) (w ∷ ws) [] bs = absurd (omega (arith, bs.enough_values))
 no-days (n ∷ ns) (w ∷ ws) (v ∷ vs) bs =
     let some = block-nonempty (n, (w, v)) bs.packed.0.present bs.packed.0.fits in
     let all = days_of_blocks (blocks_of ns ws vs) in
-    not_zero (length (n ∷ ns)) (omega arith)
-    ∙ sym (not_zero (length (block_days (n, (w, v)) ++ all))
-    (omega (arith, length-append (block_days (n, (w, v))) all, some)))
+    ne_eqb (length (n ∷ ns)) 0 (λ e. omega (arith, e)) ∙ sym (ne_eqb (length (block_days (n, (w, v)) ++ all)) 0
+    (λ e. omega (arith, length-append (block_days (n, (w, v))) all, some, e)))
+no-days _ _ _ bs = absurd (omega (arith, bs.enough_words, bs.enough_values))
 
 -- a day is in a block or after it
 abbrev reached : ℤ → DayValue → Bool
@@ -58,20 +47,18 @@ first-reached b n (x ∷ xs) ys all some hit = rw (all.0, hit) (ap Some all.0)
 none-reached : (b n : ℤ) (xs ys : List DayValue) → AreOf n xs → int_le b n ≡ false → find (reached b) (xs ++ ys)
     ≡ find (reached b) ys
 none-reached b n [] ys all missed = refl
-none-reached b n (x ∷ xs) ys all missed =
-    rw (all.0, missed) (none-reached b n xs ys all.1 missed)
+none-reached b n (x ∷ xs) ys all missed = rw (all.0, missed) (none-reached b n xs ys all.1 missed)
 
 -- the next block of some days is found among the numbers of their blocks
 pub next-of_numbers : (b : ℤ) (bs : List Block) → AllByRecursion IsPacked bs → next_block (days_of_blocks bs) b
     ≡ find (int_le b) (map (λ x. x.0) bs)
 next-of_numbers b [] all = refl
-next-of_numbers b (x ∷ xs) all =
-    elim (cases_Bool (int_le b x.0)) [
-      | inl hit ↦ rw hit (first-reached b x.0 (block_days x) (days_of_blocks xs) (block-own x)
-          (block-nonempty x all.0.present all.0.fits) hit)
-      | inr missed ↦ rw missed (ap (option_map (λ (y : DayValue). block_of y.0))
-          (none-reached b x.0 (block_days x) (days_of_blocks xs) (block-own x) missed) ∙ next-of_numbers b xs all.1)
-    ]
+next-of_numbers b (x ∷ xs) all = elim (cases_Bool (int_le b x.0)) [
+  | inl hit ↦ rw hit (first-reached b x.0 (block_days x) (days_of_blocks xs) (block-own x)
+      (block-nonempty x all.0.present all.0.fits) hit)
+  | inr missed ↦ rw missed (ap (option_map (λ (y : DayValue). block_of y.0))
+      (none-reached b x.0 (block_days x) (days_of_blocks xs) (block-own x) missed) ∙ next-of_numbers b xs all.1)
+]
 
 -- a partition point is the place of the first number that is found
 pub found-at_partition : (b : ℤ) (ns : List ℤ) (i : ℕ)
@@ -79,8 +66,7 @@ pub found-at_partition : (b : ℤ) (ns : List ℤ) (i : ℕ)
 found-at_partition b [] i parted = refl
 found-at_partition b (n ∷ ns) zero parted =
     let above : int_lt n b ≡ false = parted.1 0 (pos 0) (omega arith) (omega arith) in
-    let hit : int_le b n ≡ true = grind (arith, ints) in
-    rw hit
+    let hit : int_le b n ≡ true = grind (arith, ints) in rw hit
 found-at_partition b (n ∷ ns) (suc i) parted =
     let below : int_lt n b ≡ true = parted.0 0 (pos 0) (omega arith) (omega arith) in
     let missed : int_le b n ≡ false = grind (arith, ints) in

@@ -1,16 +1,13 @@
 -- The days of a block up to a place, and those after it.
-use Rattle.std.proofs.Common.{◌≡◌, ℕ, zero, suc, ◌+◌, ◌-◌, ◌<◌, ◌≤◌, ◌^◌, List, [], ◌∷◌, ◌++◌, length, get_or, Option}
-use Rattle.std.proofs.Common.{Some, None, refl, sym, ap, ◌∙◌, arith, ℤ, pos, ◌+ℤ◌, inl, inr, ◌<ℤ◌}
-use Rattle.std.specs.Prelude.{◌==◌, bit_and, slice_get}
-use Rattle.std.specs.Int.{bit_at}
-use Rattle.std.specs.List.{filter_map, range_with_len, cons_option, AllByRecursion}
-use Rattle.std.proofs.lemmas.Bool.{cases_lt}
-use Rattle.std.proofs.lemmas.Int.{ints}
+use Rattle.ghcn_series.proofs.Cited.{◌≡◌, ℕ, zero, suc, ◌+◌, ◌-◌, ◌<◌, ◌≤◌, ◌^◌, List, [], ◌∷◌, ◌++◌, length, get_or}
+use Rattle.ghcn_series.proofs.Cited.{Option, Some, None, refl, sym, ap, ◌∙◌, arith, ℤ, pos, ◌+ℤ◌, inl, inr, ◌<ℤ◌, ◌==◌}
+use Rattle.ghcn_series.proofs.Cited.{bit_and, bit_at, filter_map, range_with_len, cons_option, AllByRecursion, cases_lt}
+use Rattle.ghcn_series.proofs.Cited.{ints, bit_at_and, bit_at-lt, bit_at_ones, DayValue, block_start, day_at, if_so}
+use Rattle.ghcn_series.proofs.Cited.{block_days, days_from, AreCalendarDays, BeginsBy}
+use Rattle.std.specs.Prelude.{slice_get}
 use Rattle.std.proofs.lemmas.Nat.{pow_pos}
-use Rattle.std.proofs.lemmas.Nat.Bits.{bit_at_and, bit_at-lt, bit_at_ones, bit_at_ones_above, bit_at_mask_inside}
+use Rattle.std.proofs.lemmas.Nat.Bits.{bit_at_ones_above, bit_at_mask_inside}
 use Rattle.std.proofs.lemmas.Nat.Bits.{bit_at_mask_below}
-use Rattle.ghcn_series.specs.Meaning.Series.{DayValue}
-use Rattle.ghcn_series.specs.Packed.{block_start, day_at, if_so, block_days, days_from, AreCalendarDays, BeginsBy}
 use Rattle.ghcn_series.proofs.FirstDays.{same-bits, none-set, block-first}
 
 -- a day in front of days and of others
@@ -20,9 +17,8 @@ cons-append (Some x) xs ys = refl
 
 -- the days that some of a word's bits leave are in the calendar
 pub some-bits : (n : ℤ) (w mask : ℕ) → AreCalendarDays n w → AreCalendarDays n (bit_and w mask)
-some-bits n w mask are = record {
-  days = λ j lt set. are.days j lt (omega (arith, bit_at_and w mask j, bit_at-lt w j, set));
-}
+some-bits n w mask are =
+    record { days = λ j lt set. are.days j lt (omega (arith, bit_at_and w mask j, bit_at-lt w j, set)) }
 
 -- a bit of both of two words is one of the second
 of-mask : (w mask j : ℕ) → bit_at (bit_and w mask) j ≡ 1 → bit_at mask j ≡ 0 → ⊥
@@ -61,8 +57,7 @@ module _ (n : ℤ) (vs : List ℤ) (w k : ℕ) (le : k ≤ 32) where
 
   -- so it is with the places after them
   pub later-in : (j : ℕ) → k ≤ j → j < 32 → bit_at later_bits j ≡ bit_at w j
-  later-in j more lt =
-      omega (arith, bit_at_and w (2 ^ 32 - 2 ^ k) j, bit_at_mask_inside k 32 j more lt, bit_at-lt w j)
+  later-in j more lt = omega (arith, bit_at_and w (2 ^ 32 - 2 ^ k) j, bit_at_mask_inside k 32 j more lt, bit_at-lt w j)
 
   -- which have no others either
   pub later-out : (j : ℕ) → j < k → bit_at later_bits j ≡ 0
@@ -79,8 +74,7 @@ module _ (n : ℤ) (vs : List ℤ) (w k : ℕ) (le : k ≤ 32) where
     | inl lt ↦ rw (first-in s lt, later-out s lt, cut-days (s + 1) m (omega arith))
         (cons-append (day_at (n, (w, vs)) s) (at first_bits (s + 1) m) (at later_bits (s + 1) m))
     | inr ge ↦
-        let none : at first_bits s (suc m) ≡ [] =
-        none-set n vs first_bits s (suc m) (λ i more under. first-out i (omega arith)) in
+        let none = none-set n vs first_bits s (suc m) (λ i more under. first-out i (omega arith)) in
         rw none (same-bits n vs w later_bits s (suc m) (λ i more under. sym (later-in i (omega arith) (omega arith))))
   ]
 
@@ -101,8 +95,7 @@ pub each-place : (P : ℤ → Type 0) (n : ℤ) (vs : List ℤ) (w s m : ℕ)
     → ((j : ℕ) → s ≤ j → j < s + m → bit_at w j ≡ 1 → P (block_start n +ℤ pos j))
     → AllByRecursion (λ x. P x.0) (filter_map (day_at (n, (w, vs))) (range_with_len s m))
 each-place P n vs w s zero holds = tt
-each-place P n vs w s (suc m) holds =
-    cons-each P (bit_at w s) (block_start n +ℤ pos s, get_or vs s (pos 0))
+each-place P n vs w s (suc m) holds = cons-each P (bit_at w s) (block_start n +ℤ pos s, get_or vs s (pos 0))
     (filter_map (day_at (n, (w, vs))) (range_with_len (s + 1) m)) (bit_at-lt w s) (holds s (omega arith) (omega arith))
     (each-place P n vs w (s + 1) m (λ j more lt. holds j (omega arith) (omega arith)))
 
@@ -136,12 +129,10 @@ begins-taken last cur rest (t ∷ ts) left some begins parts later = omega arith
 begins-taken last [] rest [] left some begins parts later = absurd (omega (arith, some))
 begins-taken last (x ∷ xs) rest [] [] some begins parts later = absurd cc
 begins-taken last (x ∷ xs) rest [] (y ∷ ys) some begins parts later =
-    let same : x ≡ y = cc in
-    let day : x.0 ≡ y.0 = ap (λ (d : DayValue). d.0) same in
+    let same : x ≡ y = cc in let day : x.0 ≡ y.0 = ap (λ (d : DayValue). d.0) same in
     absurd (omega (arith, ints, begins, later.0, day))
 
 -- if the block at hand has no day left, the next one comes
 pub begun-next : (all cur behind block rest : List DayValue) → cur ++ behind ≡ all → cur ≡ [] → behind ≡ block ++ rest
     → all ≡ block ++ rest
-begun-next all cur behind block rest is none parts =
-    sym is ∙ ap (λ (days : List DayValue). days ++ behind) none ∙ parts
+begun-next all cur behind block rest is none parts = sym is ∙ ap (λ (days : List DayValue). days ++ behind) none ∙ parts

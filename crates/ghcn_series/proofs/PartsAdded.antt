@@ -1,19 +1,12 @@
 -- Parts that are joined or pushed.
-use Rattle.std.proofs.Common.{◌≡◌, ℕ, ◌+◌, ◌-◌, ◌<◌, true, List, [], ◌∷◌, ◌++◌, length, get_or, set, Some, None, IsSome}
-use Rattle.std.proofs.Common.{inl, inr, refl, sym, ap, subst, ◌∙◌, arith, ℤ, pos, ◌+ℤ◌, ◌<ℤ◌}
-use Rattle.std.specs.Prelude.{◌==◌, ◌||◌, bit_or, int_lt}
-use Rattle.std.specs.List.{AllByRecursion}
-use Rattle.std.specs.Option.{option_or}
+use Rattle.ghcn_series.proofs.Cited.{◌≡◌, ℕ, ◌+◌, ◌-◌, ◌<◌, true, List, [], ◌∷◌, ◌++◌, length, get_or, Some, None}
+use Rattle.ghcn_series.proofs.Cited.{IsSome, inl, inr, refl, sym, ap, subst, ◌∙◌, arith, ℤ, pos, ◌+ℤ◌, ◌<ℤ◌, ◌==◌, ◌||◌}
+use Rattle.ghcn_series.proofs.Cited.{bit_or, int_lt, AllByRecursion, option_or, cases_lt, nat_tests, ints, common_steps}
+use Rattle.ghcn_series.proofs.Cited.{get_or_append_left, get_or_push, DayValue, value_on, Block, block_start, if_so}
+use Rattle.ghcn_series.proofs.Cited.{block_days, days_of_blocks, blocks_of, IsPacked, AreBlocks, Rise, AreNew}
+use Rattle.ghcn_series.proofs.Cited.{AreJoined, JoinsValues}
+use Rattle.std.proofs.Common.{set}
 use Rattle.std.proofs.lemmas.Nat.{or_lt}
-use Rattle.std.proofs.lemmas.Bool.{cases_lt}
-use Rattle.std.proofs.lemmas.Bool.Decides.{nat_tests}
-use Rattle.std.proofs.lemmas.Int.{ints}
-use Rattle.std.proofs.lemmas.Grind.{common_steps}
-use Rattle.std.proofs.lemmas.List.{get_or_append_left, get_or_push}
-use Rattle.ghcn_series.specs.Meaning.Series.{DayValue, value_on}
-use Rattle.ghcn_series.specs.Packed.{Block, block_start, if_so, block_days, days_of_blocks, blocks_of, IsPacked, AreBlocks}
-use Rattle.ghcn_series.specs.Packed.{Rise}
-use Rattle.ghcn_series.specs.Parts.{AreNew, AreJoined, JoinsValues}
 use Rattle.ghcn_series.proofs.ListFacts.{all-at, each-append}
 use Rattle.ghcn_series.proofs.Lookups.{no_block, or_none, block-value, value_on-append, blocks-at, blocks-length}
 use Rattle.ghcn_series.proofs.FirstDays.{block-empty}
@@ -43,8 +36,7 @@ below_last ns n rise i lt after =
 module _ (ns : List ℤ) (ws : List ℕ) (vs : List (List ℤ)) (bs : AreBlocks ns ws vs) where
   -- the block at a place is as it may be
   pub packed-at : (i : ℕ) → i < length ns → IsPacked (get_or ns i (pos 0), (get_or ws i 0, get_or vs i []))
-  packed-at i lt =
-      subst IsPacked (blocks-at ns ws vs i bs.enough_words bs.enough_values lt)
+  packed-at i lt = subst IsPacked (blocks-at ns ws vs i bs.enough_words bs.enough_values lt)
       (all-at IsPacked (blocks_of ns ws vs) i no_block bs.packed
       (omega (arith, blocks-length ns ws vs bs.enough_words bs.enough_values)))
 
@@ -60,10 +52,8 @@ module _ (ns : List ℤ) (ws : List ℕ) (vs : List (List ℤ)) (bs : AreBlocks 
 
   -- a block more adds its days
   pub push-days : (n : ℤ) (w : ℕ) (v : List ℤ) → AreJoined (days_of_blocks (blocks_of ns ws vs))
-      (block_days (n, (w, v)))
-      (days_of_blocks (blocks_of (ns ++ n ∷ []) (ws ++ w ∷ []) (vs ++ v ∷ [])))
-  push-days n w v d =
-      rw (pushed-blocks ns ws vs n w v bs.enough_words bs.enough_values)
+      (block_days (n, (w, v))) (days_of_blocks (blocks_of (ns ++ n ∷ []) (ws ++ w ∷ []) (vs ++ v ∷ [])))
+  push-days n w v d = rw (pushed-blocks ns ws vs n w v bs.enough_words bs.enough_values)
       (days-pushed (blocks_of ns ws vs) (n, (w, v)) d)
 
 -- days of the last part's block that the parts don't have, and their values joined to those of the part
@@ -91,12 +81,10 @@ module _ (ns : List ℤ) (ws : List ℕ) (vs : List (List ℤ)) (i p : ℕ) (u r
         let here : value_on (block_days old) d ≡ Some (get_or (get_or vs i []) j (pos 0)) =
         block-value old j lt ∙ ap (λ (b : ℕ). if_so (b == 1) (get_or (get_or vs i []) j (pos 0))) mine in
         let there : value_on (block_days (get_or ns i (pos 0), (p, u))) d ≡ Some (get_or u j (pos 0)) =
-        block-value (get_or ns i (pos 0), (p, u)) j lt
-        ∙ ap (λ (b : ℕ). if_so (b == 1) (get_or u j (pos 0))) other in
+        block-value (get_or ns i (pos 0), (p, u)) j lt ∙ ap (λ (b : ℕ). if_so (b == 1) (get_or u j (pos 0))) other in
         let none : value_on (block_days old) d ≡ None =
         none-at ns ws vs i d is.blocks.enough_words is.blocks.enough_values (omega (arith, is.last))
-        (is.fresh d (subst IsSome (sym there) refl)) in
-        absurd (cc (here, none));
+        (is.fresh d (subst IsSome (sym there) refl)) in absurd (cc (here, none));
   }
 
   -- the last part, joined with more days of its block
@@ -107,8 +95,7 @@ module _ (ns : List ℤ) (ws : List ℕ) (vs : List (List ℤ)) (i p : ℕ) (u r
   -- all parts, if the last is joined with them
   pub join-days : AreJoined (days_of_blocks (blocks_of ns ws vs)) (block_days (get_or ns i (pos 0), (p, u)))
       (days_of_blocks (blocks_of ns (set ws i (bit_or (get_or ws i 0) p)) (set vs i r)))
-  join-days =
-      last-joined ns ws vs i (bit_or (get_or ws i 0) p) r (block_days (get_or ns i (pos 0), (p, u)))
+  join-days = last-joined ns ws vs i (bit_or (get_or ws i 0) p) r (block_days (get_or ns i (pos 0), (p, u)))
       is.blocks.enough_words is.blocks.enough_values is.last join-last
 
   -- they are as they may be
@@ -130,8 +117,7 @@ push-rise ns n rise after = record {
       let old_i = get_or_append_left ns (n ∷ []) (pos 0) i (omega arith) in
       elim (cases_lt j (length ns)) [
         | inl before ↦ rw (old_i, get_or_append_left ns (n ∷ []) (pos 0) j before) (rise.less i j lt before)
-        | inr end ↦
-            rw (old_i, get_or_push ns n (pos 0) j (omega arith)) (below_last ns n rise i (omega arith) after)
+        | inr end ↦ rw (old_i, get_or_push ns n (pos 0) j (omega arith)) (below_last ns n rise i (omega arith) after)
       ];
 }
 

@@ -1,31 +1,22 @@
 -- Parts added again in the order of their numbers: they have the same days, which then rise.
-use Rattle.std.proofs.Common.{◌≡◌, ℕ, ◌+◌, ◌-◌, ◌<◌, ◌^◌, false, List, [], ◌∷◌, length, get_or, drop, map, Option}
-use Rattle.std.proofs.Common.{Some, None, IsSome, ◌⊎◌, inl, inr, refl, sym, ap, subst, ◌∙◌, arith, ℤ, pos, ◌+ℤ◌, w32}
-use Rattle.std.proofs.Common.{◌≤ℤ◌}
-use Rattle.std.specs.Prelude.{◌==◌}
-use Rattle.std.specs.Int.{trailing_zeros}
-use Rattle.std.specs.List.{sum_by, range_with_len}
-use Rattle.std.specs.List.Sorted.{IsPermutation, IsSorted}
-use Rattle.std.specs.Option.{option_or}
-use Rattle.std.specs.Ordering.{int_cmp, nat_cmp, is_lt, ordering_then}
-use Rattle.std.specs.declared.cmp.Ordering.{Ordering}
-use Rattle.std.specs.declared.cmp.Ordering.TheVariants.{Less, Equal, Greater}
-use Rattle.std.proofs.lemmas.Bool.{false≢true}
-use Rattle.std.proofs.lemmas.Cmp.{int_ranked}
-use Rattle.std.proofs.lemmas.Int.{ints}
-use Rattle.std.proofs.lemmas.List.{get_or-map, length-map, drop_all}
+use Rattle.ghcn_series.proofs.Cited.{◌≡◌, ℕ, ◌+◌, ◌-◌, ◌<◌, ◌^◌, false, List, [], ◌∷◌, length, get_or, drop, map}
+use Rattle.ghcn_series.proofs.Cited.{Option, Some, None, IsSome, ◌⊎◌, inl, inr, refl, sym, ap, subst, ◌∙◌, arith, ℤ}
+use Rattle.ghcn_series.proofs.Cited.{pos, ◌+ℤ◌, w32, ◌≤ℤ◌, ◌==◌, trailing_zeros, range_with_len, IsPermutation}
+use Rattle.ghcn_series.proofs.Cited.{option_or, int_cmp, nat_cmp, is_lt, Ordering, Less, Equal, false≢true, int_ranked}
+use Rattle.ghcn_series.proofs.Cited.{ints, get_or-map, length-map, drop_all, All-permutation, sum_by-cons}
+use Rattle.ghcn_series.proofs.Cited.{bit_at-trailing_zeros, map-map, block_of, value_on, Block, block_start, if_so}
+use Rattle.ghcn_series.proofs.Cited.{block_days, days_of_blocks, blocks_of, IsPacked, AreBlocks, AreRising, AreDisjoint}
+use Rattle.ghcn_series.proofs.Cited.{AreParts, AreEmpty, KeepsOrder, JoinsPart, IsNewPart, days_held}
+use Rattle.std.specs.List.{sum_by}
+use Rattle.std.specs.List.Sorted.{IsSorted}
+use Rattle.std.specs.Ordering.{ordering_then}
+use Rattle.std.specs.declared.cmp.Ordering.TheVariants.{Greater}
 use Rattle.std.proofs.lemmas.List.FromFn.{fill_by_all, length-map-range_with_len, get_or-map-range_with_len}
-use Rattle.std.proofs.lemmas.List.Sorted.{IsPermutation-map, All-permutation, sum_by-IsPermutation}
-use Rattle.std.proofs.lemmas.List.Sums.{sum_by-cons, sum_by-drop_more}
-use Rattle.std.proofs.lemmas.Nat.Bits.{bit_at-trailing_zeros}
-use Rattle.std.proofs.lemmas.Simd.{map-map}
+use Rattle.std.proofs.lemmas.List.Sorted.{IsPermutation-map, sum_by-IsPermutation}
+use Rattle.std.proofs.lemmas.List.Sums.{sum_by-drop_more}
 use borrow.Author.Differences.{up, down}
-use Rattle.ghcn_fields.specs.Days.{block_of}
-use Rattle.ghcn_series.specs.Meaning.Series.{value_on}
-use Rattle.ghcn_series.specs.Packed.{Block, block_start, if_so, block_days, days_of_blocks, blocks_of, IsPacked}
-use Rattle.ghcn_series.specs.Packed.{AreBlocks, AreRising}
-use Rattle.ghcn_series.specs.Parts.{AreDisjoint, AreParts, AreOrdered, AreEmpty, KeepsOrder, JoinsPart}
-use Rattle.ghcn_series.specs.Parts.{IsNewPart, HaveSameDays, AreByNumber, days_held, last_number, with_places}
+use Rattle.ghcn_series.specs.Parts.{AreOrdered}
+use Rattle.ghcn_series.specs.Parts.{HaveSameDays, AreByNumber, last_number, with_places}
 use Rattle.ghcn_series.specs.declared.parts.Parts.{Parts}
 use Rattle.ghcn_series.proofs.Lookups.{no_block, block-value, block-of_place, value_on-append, blocks-at, blocks-length}
 use Rattle.ghcn_series.proofs.JoinedDays.{none-at}
@@ -63,9 +54,8 @@ weight-or g (Some v) (Some w) apart = let none = apart refl in absurd cc
 -- values that weigh the same however they are weighed are the same
 same-from_weights : (a b : Option ℤ) → ((g : ℤ → ℕ) → weight g a ≡ weight g b) → a ≡ b
 same-from_weights None None same = refl
-same-from_weights None (Some w) same = absurd (omega (arith, same each_one))
-same-from_weights (Some v) None same = absurd (omega (arith, same each_one))
 same-from_weights (Some v) (Some w) same = let is : v ≡ w = omega (arith, ints, same up, same down) in cc
+same-from_weights _ _ same = absurd (omega (arith, same each_one))
 
 -- beside a value that is there another one is absent, if both weigh no more than one
 none-from_weights : (a b c : Option ℤ) (rest : ℕ) → weight each_one a + (weight each_one b + rest) ≡ weight each_one c
@@ -83,8 +73,7 @@ weight_on g d bs = sum_by (λ b. weight g (value_on (block_days b) d)) bs
 weight-apart : (g : ℤ → ℕ) (d : ℤ) (bs : List Block) → AreDisjoint bs
     → weight_on g d bs ≡ weight g (value_on (days_of_blocks bs) d)
 weight-apart g d [] apart = refl
-weight-apart g d (b ∷ bs) apart =
-    simp (sum_by-cons, weight-apart g d bs apart.1, value_on-append)
+weight-apart g d (b ∷ bs) apart = simp (sum_by-cons, weight-apart g d bs apart.1, value_on-append)
     (sym (weight-or g (value_on (block_days b) d) (value_on (days_of_blocks bs) d) (apart.0 d)))
 
 -- ---- the parts in the order of their numbers
@@ -108,12 +97,11 @@ pub record StandsAt (numbers : List ℤ) (at : ℤ × ℕ) : Type 0 where
 
 -- of two numbers that are compared first and aren't less, the second is no greater
 not-less : (a b : ℤ) (o : Ordering) → is_lt (ordering_then (int_cmp a b) o) ≡ false → b ≤ℤ a
-not-less a b o e =
-    elim (int_cmp a b) as (λ r. r ≡ int_cmp a b → is_lt (ordering_then r o) ≡ false → b ≤ℤ a) [
-      | Less ↦ λ is no. absurd cc
-      | Equal ↦ λ is no. let same = int_ranked a b Equal is in omega (arith, ints)
-      | Greater ↦ λ is no. let less = int_ranked a b Greater is in omega (arith, ints)
-    ] refl e
+not-less a b o e = elim (int_cmp a b) as (λ r. r ≡ int_cmp a b → is_lt (ordering_then r o) ≡ false → b ≤ℤ a) [
+  | Less ↦ λ is no. absurd cc
+  | Equal ↦ λ is no. let same = int_ranked a b Equal is in omega (arith, ints)
+  | Greater ↦ λ is no. let less = int_ranked a b Greater is in omega (arith, ints)
+] refl e
 
 -- sorted numbers with their places are in order
 pub sorted-by_number : (ns : List ℤ) (items order : List (ℤ × ℕ)) → items ≡ with_places ns → IsPermutation items order
@@ -126,8 +114,7 @@ sorted-by_number ns items order is all sorted = record {
 module _ (ns : List ℤ) (order : List (ℤ × ℕ)) (is : AreByNumber ns order) where
   -- each number of the order is at its place
   pub stands : (k : ℕ) → k < length order → StandsAt ns (get_or order k (pos 0, 0))
-  stands k lt =
-      All-permutation (StandsAt ns) (with_places ns) order is.all (λ i at in_range.
+  stands k lt = All-permutation (StandsAt ns) (with_places ns) order is.all (λ i at in_range.
       let h : ℕ → ℤ × ℕ = λ j. (get_or ns j (pos 0), j) in
       let less : i < length ns = omega (arith, in_range, length-map-range_with_len h 0 (length ns)) in
       subst (StandsAt ns) (sym (get_or-map-range_with_len h 0 (length ns) i i at less (omega arith)))
@@ -156,8 +143,7 @@ pub record AreAdded (old : Parts) (order : List (ℤ × ℕ)) (k : ℕ) (new : P
 some-day : (b : Block) → 0 < b.1.0 → b.1.0 < 2 ^ 32 → (d : ℤ) × (block_of d ≡ b.0) × IsSome (value_on (block_days b) d)
 some-day b some fits =
     let lowest = bit_at-trailing_zeros w32 b.1.0 some fits in
-    let j : ℕ = trailing_zeros w32 b.1.0 in
-    let v : ℤ = get_or b.1.1 j (pos 0) in
+    let j : ℕ = trailing_zeros w32 b.1.0 in let v : ℤ = get_or b.1.1 j (pos 0) in
     let has : value_on (block_days b) (block_start b.0 +ℤ pos j) ≡ Some v = block-value b j lowest.0
     ∙ ap (λ (k : ℕ). if_so (k == 1) v) lowest.1 in
     (block_start b.0 +ℤ pos j, block-of_place b.0 j lowest.0, subst IsSome (sym has) refl)
@@ -166,10 +152,8 @@ some-day b some fits =
 last-le : (p : Parts) (n : ℤ) → AreParts p → ((d : ℤ) → IsSome (value_on (days_held p) d) → block_of d ≤ℤ n)
     → 0 < length p.numbers.items → last_number p ≤ℤ n
 last-le p n is below some =
-    let ns : List ℤ = p.numbers.items in
-    let ws : List ℕ = p.words.items in
-    let vs : List (List ℤ) = p.values.items in
-    let i : ℕ = length ns - 1 in
+    let ns : List ℤ = p.numbers.items in let ws : List ℕ = p.words.items in
+    let vs : List (List ℤ) = p.values.items in let i : ℕ = length ns - 1 in
     let lt : i < length ns = omega arith in
     let packed = packed-at ns ws vs is.blocks i lt in
     let day = some-day (get_or ns i (pos 0), (get_or ws i 0, get_or vs i [])) packed.present packed.fits in
@@ -187,8 +171,7 @@ module _ (old : Parts) (order : List (ℤ × ℕ)) (is : AreParts old) (by : Are
     held = λ g d.
         let all : weight_on g d (parts_in old order) ≡ weight g (value_on (days_held old) d) =
         sum_by-IsPermutation (λ (b : Block). weight g (value_on (block_days b) d)) _ (parts_in old order)
-        (moved old.numbers.items order by old.words.items old.values.items is.blocks)
-        ∙ weight-apart g d _ is.apart in
+        (moved old.numbers.items order by old.words.items old.values.items is.blocks) ∙ weight-apart g d _ is.apart in
         rw none.none (omega (arith, all));
     below = λ lt d some. let no = rw none.none at some in absurd cc;
   }
@@ -202,13 +185,11 @@ module _ (old : Parts) (order : List (ℤ × ℕ)) (is : AreParts old) (by : Are
     next-weight : (g : ℤ → ℕ) (d : ℤ) → weight_on g d (drop k (parts_in old order))
         ≡ weight g (value_on (block_days next) d) + weight_on g d (drop (k + 1) (parts_in old order))
     next-weight g d =
-        let f : Block → ℕ = λ b. weight g (value_on (block_days b) d) in
-        let ps : List Block = parts_in old order in
+        let f : Block → ℕ = λ b. weight g (value_on (block_days b) d) in let ps : List Block = parts_in old order in
         let at : get_or ps k no_block ≡ next =
         get_or-map (part_at old.words.items old.values.items) order k (pos 0, 0) no_block lt in
         let long : length ps ≡ length order = length-map order (part_at old.words.items old.values.items) in
-        sum_by-drop_more f ps k no_block (omega (arith, long))
-        ∙ ap (λ (b : Block). f b + sum_by f (drop (k + 1) ps)) at
+        sum_by-drop_more f ps k no_block (omega (arith, long)) ∙ ap (λ (b : Block). f b + sum_by f (drop (k + 1) ps)) at
 
     -- it is as it may be
     pub next-packed : IsPacked next
@@ -234,8 +215,7 @@ module _ (old : Parts) (order : List (ℤ × ℕ)) (is : AreParts old) (by : Are
       };
       held = λ g d.
           let both : weight g (value_on (days_held more) d)
-          ≡ weight g (value_on (days_held new) d) + weight g (value_on (block_days next) d) =
-          ap (weight g) (joins d)
+          ≡ weight g (value_on (days_held new) d) + weight g (value_on (block_days next) d) = ap (weight g) (joins d)
           ∙ weight-or g (value_on (days_held new) d) (value_on (block_days next) d) (next-new d) in
           omega (arith, both, added.held g d, next-weight g d);
       below = λ less d some.
@@ -248,9 +228,7 @@ module _ (old : Parts) (order : List (ℤ × ℕ)) (is : AreParts old) (by : Are
 
   -- if all are added, the days are the same
   pub added-all : (k : ℕ) (new : Parts) → length order ≡ k → AreAdded old order k new → HaveSameDays old new
-  added-all k new all added d =
-      same-from_weights (value_on (days_held new) d) (value_on (days_held old) d) (λ g.
+  added-all k new all added d = same-from_weights (value_on (days_held new) d) (value_on (days_held old) d) (λ g.
       let long : length (parts_in old order) ≡ length order =
       length-map order (part_at old.words.items old.values.items) in
-      let same = rw (drop_all k (parts_in old order) (omega (arith, long))) at (added.held g d) in
-      omega (arith, same))
+      let same = rw (drop_all k (parts_in old order) (omega (arith, long))) at (added.held g d) in omega (arith, same))

@@ -1,22 +1,11 @@
 -- Stations that are held, by their numbers and their places in the list.
-use Rattle.std.proofs.Common.{◌≡◌, ℕ, zero, suc, ◌+◌, ◌<◌, ◌≤◌, true, cond, not, List, [], ◌∷◌, ◌++◌, length, map}
-use Rattle.std.proofs.Common.{get_or, replicate, inl, inr, refl, sym, ap, ◌∙◌, arith}
-use Rattle.std.specs.Prelude.{◌==◌}
-use Rattle.std.specs.List.{count_by}
-use Rattle.std.proofs.Math.ListN.{set}
-use Rattle.std.proofs.lemmas.List.{length-set, length-append, length-map, map-set, map_push, get_or-map}
-use Rattle.std.proofs.lemmas.List.{get_or-set_same, get_or-set_other, get_or_push, get_or_append_left}
+use Rattle.ghcn_series.proofs.Cited.{◌≡◌, ℕ, zero, suc, ◌+◌, ◌<◌, ◌≤◌, cond, not, List, [], ◌∷◌, ◌++◌, length}
+use Rattle.ghcn_series.proofs.Cited.{map, get_or, replicate, inl, inr, refl, sym, ap, ◌∙◌, arith, ◌==◌, count_by, set}
+use Rattle.ghcn_series.proofs.Cited.{length-set, length-map, map-set, get_or-map, get_or-set_same, get_or-set_other}
+use Rattle.ghcn_series.proofs.Cited.{get_or_push, get_or_append_left, cases_eq, cases_lt, ne_eqb, Station, Gathering}
+use Rattle.ghcn_series.proofs.Cited.{StationGathering, numbered, place_numbered, by_place, ArePlaced}
+use Rattle.std.proofs.lemmas.List.{length-append, map_push}
 use Rattle.std.proofs.lemmas.List.Sums.{sum_by-set}
-use Rattle.std.proofs.lemmas.Bool.{cases_eq, cases_lt}
-use Rattle.std.proofs.lemmas.Bool.Decides.{nat_tests}
-use Rattle.ghcn_files.specs.declared.station.Station.{Station}
-use Rattle.ghcn_series.specs.declared.gathering.Gathering.{Gathering}
-use Rattle.ghcn_series.specs.declared.station.StationGathering.{StationGathering}
-use Rattle.ghcn_series.specs.ByPlace.{numbered, place_numbered, by_place, ArePlaced}
-
--- a number that is greater isn't 0
-pub not_zero : (n : ℕ) → 0 < n → not (n == 0) ≡ true
-not_zero n some = grind (arith, nat_tests)
 
 -- what is gathered at a place belongs to its number
 pub at_place : (held : List StationGathering) (numbers : List ℕ) (k : ℕ)
@@ -61,8 +50,7 @@ at_numbers f R d y held i zero g now same here holds = same y
 at_numbers f R d y [] i (suc n) g now same here holds = same d
 at_numbers f R d y (x ∷ xs) zero (suc zero) g now same here holds = rw here at holds
 at_numbers f R d y (x ∷ xs) zero (suc (suc n)) g now same here holds = same (get_or (map f xs) n d)
-at_numbers f R d y (x ∷ xs) (suc i) (suc n) g now same here holds =
-    at_numbers f R d (f x) xs i n g now same here holds
+at_numbers f R d y (x ∷ xs) (suc i) (suc n) g now same here holds = at_numbers f R d (f x) xs i n g now same here holds
 
 -- the stations stay placed
 pub placed-set : (numbers : List ℕ) (held : List StationGathering) (i : ℕ) (g now : StationGathering)
@@ -86,9 +74,8 @@ placed-set numbers held i g now here place number is =
 pub numbered-other : (held : List StationGathering) (i n : ℕ) (now : StationGathering) → (n ≡ suc i → ⊥)
     → numbered (set held i now) n ≡ numbered held n
 numbered-other held i n now other =
-    let items = map (λ (s : StationGathering). s.by_element.items) held in
-    rw (map-set (λ (s : StationGathering). s.by_element.items) held i now)
-    (get_or-set_other ([] ∷ items) (suc i) n now.by_element.items [] other)
+    let own : StationGathering → List Gathering = λ s. s.by_element.items in
+    rw (map-set own held i now) (get_or-set_other ([] ∷ map own held) (suc i) n (own now) [] other)
 
 -- the gatherings of the station at a place among those that are held
 pub numbered-at : (held : List StationGathering) (i : ℕ) (g : StationGathering) → i < length held
@@ -112,8 +99,7 @@ module _ {A : Type 0} (f : StationGathering → A) (d : A) (g : StationGathering
   -- and the others have theirs
   others_have : (y : A) (held : List StationGathering) (n : ℕ) → n ≤ length held
       → get_or (y ∷ map f (held ++ g ∷ [])) n d ≡ get_or (y ∷ map f held) n d
-  others_have y held n most =
-      rw (map_push f held g)
+  others_have y held n most = rw (map_push f held g)
       (get_or_append_left (y ∷ map f held) (f g ∷ []) d n (omega (arith, most, length-map held f)))
 
 -- one number more isn't 0
@@ -122,14 +108,13 @@ count-more : (numbers : List ℕ) (k n : ℕ) → k < length numbers → get_or 
 count-more numbers k n lt none =
     let test : ℕ → ℕ = λ m. cond (not (m == 0)) 1 0 in
     let none_there : test (get_or numbers k 0) ≡ 0 = ap test none in
-    let one : test (suc n) ≡ 1 = ap (λ b. cond b 1 0) (not_zero (suc n) (omega arith)) in
+    let one : test (suc n) ≡ 1 = ap (λ b. cond (not b) 1 0) (ne_eqb (suc n) 0 (λ e. omega (arith, e))) in
     omega (arith, sum_by-set test numbers k (suc n) 0 lt, none_there, one)
 
 module _ (numbers : List ℕ) (held : List StationGathering) (g : StationGathering) (lt : g.place < length numbers)
     (none : get_or numbers g.place 0 ≡ 0) (five : length g.by_element.items ≡ 5) (is : ArePlaced numbers held) where
   -- the other places have their numbers
-  other_number : (i : ℕ) → (i ≡ g.place → ⊥)
-      → get_or (set numbers g.place (suc (length held))) i 0 ≡ get_or numbers i 0
+  other_number : (i : ℕ) → (i ≡ g.place → ⊥) → get_or (set numbers g.place (suc (length held))) i 0 ≡ get_or numbers i 0
   other_number i other = get_or-set_other numbers g.place i (suc (length held)) 0 other
 
   -- and their gatherings
@@ -170,8 +155,7 @@ module _ (numbers : List ℕ) (held : List StationGathering) (g : StationGatheri
   -- and its gatherings are at its place
   pub by_place-push : by_place (held ++ g ∷ []) (set numbers g.place (suc (length held)))
       ≡ set (by_place held numbers) g.place g.by_element.items
-  by_place-push =
-      rw (map-set (numbered (held ++ g ∷ [])) numbers g.place (suc (length held)))
+  by_place-push = rw (map-set (numbered (held ++ g ∷ [])) numbers g.place (suc (length held)))
       (rw (last_has (λ s. s.by_element.items) [] g held, same numbers (λ k. at_most_all numbers held k is)))
     where
       same : (ns : List ℕ) → ((k : ℕ) → get_or ns k 0 ≤ length held) → by_place (held ++ g ∷ []) ns ≡ by_place held ns

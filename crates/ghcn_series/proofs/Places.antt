@@ -1,22 +1,12 @@
 -- Stations by their places in the list.
-use Rattle.std.proofs.Common.{◌≡◌, ℕ, zero, suc, ◌+◌, ◌<◌, Bool, true, false, cond, not, List, [], ◌∷◌, length, map}
-use Rattle.std.proofs.Common.{Some, None, refl, sym, ap, ◌∙◌, arith}
-use Rattle.std.specs.Prelude.{◌||◌, nat_lt}
-use Rattle.std.specs.List.{slice_get, position_or_len, AllByRecursion, IsDistinct}
-use Rattle.std.proofs.lemmas.Bool.Decides.{nat_tests}
-use Rattle.std.proofs.lemmas.Cmp.{nat_list_eq_equiv}
-use Rattle.std.proofs.lemmas.Bool.{lt-ltb, le-ltb, ltb-true}
+use Rattle.ghcn_series.proofs.Cited.{◌≡◌, ℕ, zero, suc, ◌+◌, ◌<◌, Bool, true, false, cond, not, List, [], ◌∷◌, length}
+use Rattle.ghcn_series.proofs.Cited.{map, Some, None, refl, sym, ap, ◌∙◌, arith, ◌||◌, nat_lt, slice_get}
+use Rattle.ghcn_series.proofs.Cited.{position_or_len, AllByRecursion, IsDistinct, nat_tests, nat_list_eq_equiv, lt-ltb}
+use Rattle.ghcn_series.proofs.Cited.{le-ltb, ltb-true, cond_some, slice_get-map, get_or_from_slice_get, option_map}
+use Rattle.ghcn_series.proofs.Cited.{StationId, Station, same_id, is_station_of, place_of, is_listed, same_id-is}
+use Rattle.ghcn_series.proofs.Cited.{no_place}
 use Rattle.std.proofs.lemmas.List.Quantifiers.{position-Some}
-use Rattle.std.proofs.lemmas.Option.{cond_some, slice_get-map, get_or_from_slice_get}
-use Rattle.std.specs.Option.{option_map}
 use Rattle.ghcn_series.proofs.ListFacts.{from_all}
-use Rattle.ghcn_files.specs.declared.station.StationId.{StationId}
-use Rattle.ghcn_files.specs.declared.station.Station.{Station}
-use Rattle.ghcn_files.specs.Meaning.Ids.{same_id}
-use Rattle.ghcn_files.specs.Meaning.Listed.{is_station_of}
-use Rattle.ghcn_files.specs.Listed.{place_of}
-use Rattle.ghcn_series.specs.DailyFaults.{is_listed}
-use Rattle.ghcn_files.proofs.IdLaws.{same_id-is, no_place}
 
 -- an ID is the same as itself
 pub same_id-refl : (a : StationId) → same_id a a ≡ true
@@ -38,8 +28,7 @@ pub first_place : (ss : List Station) (k : ℕ) (s : Station) → IsDistinct sam
 unfolding IsDistinct
 first_place [] k s apart at = absurd cc
 first_place (x ∷ xs) zero s apart at =
-    let same : x ≡ s = cc in
-    (rw (← same, same_id-refl x.id), omega arith)
+    let same : x ≡ s = cc in (rw (← same, same_id-refl x.id), omega arith)
 first_place (x ∷ xs) (suc k) s apart at =
     let more = first_place xs k s apart.1 at in
     let other : same_id x.id s.id ≡ false = from_ids (λ y. same_id x.id y ≡ false) xs k s apart.0 at in
@@ -49,10 +38,9 @@ first_place (x ∷ xs) (suc k) s apart at =
 pub place_of-at : (ss : List Station) (k : ℕ) (s : Station) (id : StationId) → IsDistinct same_id (ids ss)
     → slice_get ss k ≡ Some s → s.id ≡ id → place_of ss id ≡ Some k
 place_of-at ss k s id apart at of =
-    let first = first_place ss k s apart at in
-    rw (← of, first.0, lt-ltb k (length ss) first.1)
+    let first = first_place ss k s apart at in rw (← of, first.0, lt-ltb k (length ss) first.1)
 
--- what comes first has a place, and anything else has one if it has one among those behind
+-- what comes first has a place, and anything else has one if it has one among those after it
 place_next : (b r : Bool) (n m : ℕ) → nat_lt n m ≡ r → nat_lt (cond (not b) (1 + n) 0) (suc m) ≡ (b || r)
 place_next true r n m is = lt-ltb 0 (suc m) (omega arith)
 place_next false r n m is = rw (← is) (grind (arith, nat_tests))

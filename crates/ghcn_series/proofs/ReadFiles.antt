@@ -1,20 +1,11 @@
 -- The data of files that were read.
-use Rattle.std.proofs.Common.{◌≡◌, ℕ, ◌<◌, ◌≤◌, ◌^◌, List, length, map}
-use Rattle.std.proofs.Common.{take, Option, None, Some, Ok, Err, Bor, refl, sym, ap, ◌∙◌, arith}
-use Rattle.std.specs.Option.{option_map}
-use Rattle.std.proofs.lemmas.List.{take_all, length-map}
-use Rattle.std.proofs.lemmas.Bool.{le-leb}
-use Rattle.ghcn_fields.specs.Faults.{first_fault, HaveNoFault}
+use Rattle.ghcn_series.proofs.Cited.{◌≡◌, ℕ, ◌<◌, ◌≤◌, ◌^◌, List, length, map, take, Option, None, Some, Ok, Err, Bor}
+use Rattle.ghcn_series.proofs.Cited.{refl, sym, ap, ◌∙◌, arith, option_map, take_all, length-map, le-leb, first_fault}
+use Rattle.ghcn_series.proofs.Cited.{HaveNoFault, Station, read_month, DataFault, DailyLine, TooManyFiles, Memory}
+use Rattle.ghcn_series.proofs.Cited.{IsRefusal, FileLine, daily_lines, daily_why, daily_fault, is_memory, contents}
+use Rattle.ghcn_series.proofs.Cited.{contents_unless, data_of, IsLineRefusal}
 use Rattle.ghcn_files.proofs.FaultLaws.{first_fault-none, first_fault-from, first_fault-is}
-use Rattle.ghcn_files.specs.declared.station.Station.{Station}
-use Rattle.ghcn_files.specs.Months.{read_month}
-use Rattle.ghcn_series.specs.declared.fault.DataFault.{DataFault}
-use Rattle.ghcn_series.specs.declared.fault.DataFault.TheVariants.{DailyLine, TooManyFiles, Memory}
-use Rattle.ghcn_fields.specs.Refusals.{IsRefusal}
-use Rattle.ghcn_series.specs.DailyFaults.{FileLine, daily_lines, daily_why, daily_fault, is_memory, HasFirst}
-use Rattle.ghcn_series.specs.DailyFaults.{IsFirstRefusal}
-use Rattle.ghcn_series.specs.Says.{contents, contents_unless, data_of}
-use Rattle.ghcn_series.specs.Gathered.{IsLineRefusal}
+use Rattle.ghcn_series.specs.DailyFaults.{HasFirst, IsFirstRefusal}
 
 -- the texts of files
 abbrev pub texts : List (Bor (List ℕ)) → List (List ℕ)
@@ -38,8 +29,7 @@ pub data_of-refused : (stations : List Station) (files : List (List ℕ)) (f : D
     → IsLineRefusal stations (daily_lines files) f → IsRefusal is_memory f (data_of stations files)
 data_of-refused stations files (Memory m) few is = tt
 data_of-refused stations files TooManyFiles few is = absurd is
-data_of-refused stations files (DailyLine file line why) few is =
-    few_files stations files few
+data_of-refused stations files (DailyLine file line why) few is = few_files stations files few
     ∙ rw (first_fault-from (daily_fault stations) (daily_lines files) is.0 (DailyLine file line why) is.1) refl
 
 -- the error that is found among the lines of files is the first

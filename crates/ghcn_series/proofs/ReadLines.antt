@@ -1,33 +1,14 @@
 -- A reader that has read one line more.
-use Rattle.std.proofs.Common.{◌≡◌, ℕ, true, false, Bool, cond, List, [], ◌∷◌, ◌++◌, length, Option, None}
-use Rattle.std.proofs.Common.{Some, Ok, Err, refl, sym, ap, ◌∙◌, append_assoc}
-use Rattle.std.specs.Prelude.{◌&&◌, nat_lt}
-use Rattle.std.specs.List.{filter_map, cons_option}
-use Rattle.std.specs.Option.{option_to_list, is_some}
-use Rattle.std.proofs.lemmas.List.{append-nil}
-use Rattle.std.proofs.lemmas.List.Elements.{filter_map-append}
-use Rattle.std.proofs.lemmas.Bool.{not-true, not-false}
-use Rattle.ghcn_fields.specs.Meaning.Lines.{columns}
-use Rattle.ghcn_files.proofs.FaultLaws.{no_fault-more}
-use Rattle.ghcn_files.specs.declared.station.Station.{Station}
-use Rattle.ghcn_files.specs.declared.month.Month.{Month}
-use Rattle.ghcn_files.specs.declared.element.Element.{Element}
-use Rattle.ghcn_files.specs.declared.element.Keep.{Keep}
-use Rattle.ghcn_files.specs.declared.fault.LineWhy.{LineWhy}
-use Rattle.ghcn_files.specs.declared.fault.LineWhy.TheVariants.{Short}
-use Rattle.ghcn_files.specs.Elements.{element_of}
-use Rattle.ghcn_files.specs.Months.{read_month, month_if, month_why, month_of, unless}
+use Rattle.ghcn_series.proofs.Cited.{◌≡◌, ℕ, true, false, Bool, cond, List, [], ◌∷◌, ◌++◌, length, Option, None, Some}
+use Rattle.ghcn_series.proofs.Cited.{Ok, Err, refl, sym, ap, ◌∙◌, append_assoc, ◌&&◌, nat_lt, filter_map, cons_option}
+use Rattle.ghcn_series.proofs.Cited.{is_some, append-nil, filter_map-append, not-true, not-false, columns}
+use Rattle.ghcn_series.proofs.Cited.{no_fault-more, Station, Month, Element, Keep, LineWhy, Short, element_of}
+use Rattle.ghcn_series.proofs.Cited.{read_month, month_if, month_why, month_of, unless, Line, DuplicateMonth, DataFault}
+use Rattle.ghcn_series.proofs.Cited.{DailyLine, TooManyFiles, Memory, Reader, FileLine, month_on, month_if_ok, repeats}
+use Rattle.ghcn_series.proofs.Cited.{is_listed, daily_fault, HasReadFor, IsLineRefusal, has_element, line_texts}
+use Rattle.ghcn_series.proofs.Cited.{ReadsMonth}
+use Rattle.std.specs.Option.{option_to_list}
 use Rattle.ghcn_series.specs.declared.fault.DailyWhy.{DailyWhy}
-use Rattle.ghcn_series.specs.declared.fault.DailyWhy.TheVariants.{Line, DuplicateMonth}
-use Rattle.ghcn_series.specs.declared.fault.DataFault.{DataFault}
-use Rattle.ghcn_series.specs.declared.fault.DataFault.TheVariants.{DailyLine, TooManyFiles, Memory}
-use Rattle.ghcn_series.specs.declared.reader.Reader.{Reader}
-use Rattle.ghcn_series.specs.DailyFaults.{FileLine, month_on, month_if_ok, repeats, is_listed}
-use Rattle.ghcn_series.specs.DailyFaults.{daily_fault}
-use Rattle.ghcn_series.specs.Gathered.{HasReadFor, IsLineRefusal}
-use Rattle.ghcn_series.specs.LineKinds.{has_element}
-use Rattle.ghcn_series.specs.LinesRead.{line_texts}
-use Rattle.ghcn_series.specs.Steps.{ReadsMonth}
 
 -- one line more adds the month that it is
 months-more : (before : List FileLine) (l : FileLine) (o : Option Month) → month_on l ≡ o
@@ -54,17 +35,15 @@ months-texts ls others same = months_in ls ∙ ap (filter_map month_in) same ∙
 -- a line of none of the elements is skipped
 pub read-passed : (r : Reader) (l : FileLine) → read_month l.bytes ≡ Ok None → (stations : List Station) (keep : Keep)
     (before : List FileLine) → HasReadFor r stations keep before → HasReadFor r stations keep (before ++ l ∷ [])
-read-passed r l is stations keep before for =
-    let read = for.read in
-    record {
-      listed = for.listed;
-      kept = for.kept;
-      read = record {
-        months = rw (months-more before l None (ap month_if_ok is), append-nil (filter_map month_on before))
-            read.months;
-        right = no_fault-more (daily_fault r.stations) before l read.right (rw is refl);
-      };
-    }
+read-passed r l is stations keep before for = record {
+  listed = for.listed;
+  kept = for.kept;
+  read = record {
+    months = rw (months-more before l None (ap month_if_ok is), append-nil (filter_map month_on before))
+        for.read.months;
+    right = no_fault-more (daily_fault r.stations) before l for.read.right (rw is refl);
+  };
+}
 
 -- a line that is a new month is read
 pub read-month : (old new : Reader) (l : FileLine) (m : Month) → read_month l.bytes ≡ Ok (Some m)
@@ -72,16 +51,14 @@ pub read-month : (old new : Reader) (l : FileLine) (m : Month) → read_month l.
     (keep : Keep) (before : List FileLine) → HasReadFor old stations keep before
     → HasReadFor new stations keep (before ++ l ∷ [])
 read-month old new l m is same kept adds stations keep before for =
-    let read = for.read in
-    let months = filter_map month_on before in
     let none : daily_fault old.stations before l ≡ None =
-    rw (is, not-true (is_listed old.stations m.id && repeats before m) (sym (adds.is_new months read.months))) refl in
+    rw (is, not-true (is_listed old.stations m.id && repeats before m) (sym (adds.is_new _ for.read.months))) refl in
     record {
       listed = same ∙ for.listed;
       kept = kept ∙ for.kept;
       read = record {
-        months = rw (months-more before l (Some m) (ap month_if_ok is)) (adds.holds months read.months);
-        right = rw same (no_fault-more (daily_fault old.stations) before l read.right none);
+        months = rw (months-more before l (Some m) (ap month_if_ok is)) (adds.holds _ for.read.months);
+        right = rw same (no_fault-more (daily_fault old.stations) before l for.read.right none);
       };
     }
 
@@ -89,27 +66,22 @@ read-month old new l m is same kept adds stations keep before for =
 refused : (r : Reader) (l : FileLine) (why : DailyWhy) (stations : List Station) (keep : Keep) (before : List FileLine)
     → HasReadFor r stations keep before → daily_fault r.stations before l ≡ Some (DailyLine l.file l.line why)
     → IsLineRefusal stations (before ++ l ∷ []) (DailyLine l.file l.line why)
-refused r l why stations keep before for is = rw (← for.listed) (
-  l,
-  record { before = before; behind = []; place = refl; here = is; none_before = for.read.right },
-)
+refused r l why stations keep before for is = rw (← for.listed)
+    (l, record { before = before; behind = []; place = refl; here = is; none_before = for.read.right })
 
 -- a line that fails a test is refused
 pub refused-line : (r : Reader) (l : FileLine) (why : LineWhy) → read_month l.bytes ≡ Err why
     → (stations : List Station) (keep : Keep) (before : List FileLine) → HasReadFor r stations keep before
     → IsLineRefusal stations (before ++ l ∷ []) (DailyLine l.file l.line (Line why))
-refused-line r l why is stations keep before for =
-    refused r l (Line why) stations keep before for (rw is refl)
+refused-line r l why is stations keep before for = refused r l (Line why) stations keep before for (rw is refl)
 
 -- so is a line that is a month of an earlier line
 pub refused-month : (old new : Reader) (l : FileLine) (m : Month) → read_month l.bytes ≡ Ok (Some m)
     → ReadsMonth old new m false → (stations : List Station) (keep : Keep) (before : List FileLine)
     → HasReadFor old stations keep before
     → IsLineRefusal stations (before ++ l ∷ []) (DailyLine l.file l.line DuplicateMonth)
-refused-month old new l m is adds stations keep before for =
-    let again = sym (adds.is_new (filter_map month_on before) for.read.months) in
-    refused old l DuplicateMonth stations keep before for
-    (rw (is, not-false (is_listed old.stations m.id && repeats before m) again) refl)
+refused-month old new l m is adds stations keep before for = refused old l DuplicateMonth stations keep before for
+    (rw (is, not-false (is_listed old.stations m.id && repeats before m) (sym (adds.is_new _ for.read.months))) refl)
 
 -- ---- what is on a line
 

@@ -1,32 +1,15 @@
 -- A reader that has read one month more.
-use Rattle.std.proofs.Common.{◌≡◌, ℕ, zero, suc, ◌+◌, ◌<◌, Bool, true, false, cond, not, List, [], ◌∷◌, ◌++◌, length}
-use Rattle.std.proofs.Common.{map, get_or, Some, refl, sym, ap, ◌∙◌, arith, add-zero}
-use Rattle.std.specs.List.{list_any, slice_get, count_by, AllZip, AllByRecursion, IsDistinct}
-use Rattle.std.proofs.lemmas.List.Folds.{list_any-append}
-use Rattle.std.proofs.lemmas.List.Sums.{sum_by_push}
-use Rattle.std.proofs.lemmas.Bool.{or_parts, OnTrue_from, OnTrue_at, and_left}
-use Rattle.std.proofs.lemmas.Slice.Zip.{AllZip-long}
-use Rattle.ghcn_files.specs.declared.element.Element.TheVariants.{Prcp, Snow, Snwd, Tmax, Tmin}
+use Rattle.ghcn_series.proofs.Cited.{◌≡◌, ℕ, zero, suc, ◌+◌, ◌<◌, Bool, true, false, cond, not, List, [], ◌∷◌, ◌++◌}
+use Rattle.ghcn_series.proofs.Cited.{length, map, get_or, Some, refl, sym, ap, ◌∙◌, arith, add-zero, list_any}
+use Rattle.ghcn_series.proofs.Cited.{slice_get, count_by, AllZip, AllByRecursion, IsDistinct, list_any-append}
+use Rattle.ghcn_series.proofs.Cited.{sum_by_push, or_parts, OnTrue_from, OnTrue_at, and_left, AllZip-long, Prcp, Snow}
+use Rattle.ghcn_series.proofs.Cited.{Snwd, Tmax, Tmin, StationId, Station, Element, Keep, Month, same_id, elements}
+use Rattle.ghcn_series.proofs.Cited.{same_element, place_of, IsMonth, Gathering, Reader, is_listed, in_64_bits}
+use Rattle.ghcn_series.proofs.Cited.{AreByElement, IsStationOf, HasRead, KeepsStation, AddsAt, ReadsMonth}
+use Rattle.ghcn_series.proofs.Cited.{same_id-turned}
 use Rattle.ghcn_series.proofs.ListFacts.{each-append}
-use Rattle.ghcn_files.specs.declared.station.StationId.{StationId}
-use Rattle.ghcn_files.specs.declared.station.Station.{Station}
-use Rattle.ghcn_files.specs.declared.element.Element.{Element}
-use Rattle.ghcn_files.specs.declared.element.Keep.{Keep}
-use Rattle.ghcn_files.specs.declared.month.Month.{Month}
-use Rattle.ghcn_files.specs.Meaning.Ids.{same_id}
-use Rattle.ghcn_files.specs.Meaning.Elements.{elements}
-use Rattle.ghcn_files.specs.Elements.{same_element}
-use Rattle.ghcn_files.specs.Listed.{place_of}
-use Rattle.ghcn_files.specs.Months.{IsMonth}
-use Rattle.ghcn_series.specs.declared.gathering.Gathering.{Gathering}
-use Rattle.ghcn_series.specs.declared.reader.Reader.{Reader}
-use Rattle.ghcn_series.specs.DailyFaults.{is_listed}
-use Rattle.ghcn_series.specs.Says.{in_64_bits}
-use Rattle.ghcn_series.specs.Gathered.{AreByElement, IsStationOf, HasRead}
-use Rattle.ghcn_series.specs.Steps.{KeepsStation, AddsAt, ReadsMonth}
 use Rattle.ghcn_series.proofs.StationMonths.{other_elements, has_month-more}
 use Rattle.ghcn_series.proofs.Places.{ids, from_ids, listed-is}
-use Rattle.ghcn_files.proofs.IdLaws.{same_id-turned}
 
 -- a month of another station changes nothing of a station
 station-other : (asked : Keep) (before : List Month) (m : Month) (id : StationId) (gs : List Gathering)
@@ -66,8 +49,7 @@ put_station asked before m [] olds news k s apart at of keeps same more is = abs
 put_station asked before m (x ∷ xs) [] news k s apart at of keeps same more is = absurd is
 put_station asked before m (x ∷ xs) (o ∷ os) [] k s apart at of keeps same more is = absurd (omega (arith, same))
 put_station asked before m (x ∷ xs) (o ∷ os) (n ∷ ns) zero s apart at of keeps same more is =
-    let this : x ≡ s = cc in
-    let own : x.id ≡ m.id = ap (λ (z : Station). z.id) this ∙ of in (
+    let this : x ≡ s = cc in let own : x.id ≡ m.id = ap (λ (z : Station). z.id) this ∙ of in (
       rw own more,
       stations-other asked before m xs os ns (rw own at apart.0) (λ i. keeps (suc i) (λ e. absurd (omega (arith, e))))
           (omega (arith, same)) is.1,
@@ -88,8 +70,7 @@ unlisted_months stations months = count_by (λ m. not (is_listed stations m.id))
 -- one month more is counted if its station isn't listed
 count_more : (stations : List Station) (before : List Month) (m : Month) (b : Bool) → is_listed stations m.id ≡ b
     → unlisted_months stations (before ++ m ∷ []) ≡ unlisted_months stations before + cond (not b) 1 0
-count_more stations before m b is =
-    sum_by_push (λ x. cond (not (is_listed stations x.id)) 1 0) before m
+count_more stations before m b is = sum_by_push (λ x. cond (not (is_listed stations x.id)) 1 0) before m
     ∙ ap (λ (c : Bool). unlisted_months stations before + cond (not c) 1 0) is
 
 -- one more, if the number was capped before
@@ -118,8 +99,7 @@ pub read-listed : (old new : Reader) (m : Month) (k : ℕ) (added : Bool) → pl
     → new.keep ≡ old.keep → new.stations ≡ old.stations → new.unlisted ≡ old.unlisted → IsMonth m
     → ReadsMonth old new m added
 read-listed old new m k added place adds element stations unlisted right =
-    let at = listed-is old.stations m.id k place in
-    record {
+    let at = listed-is old.stations m.id k place in record {
       is_new = λ before is. rw at.1 (adds.own.is_new before (own_months before old m.id k is place));
       holds = λ before is. OnTrue_from added _ (λ yes. record {
         listed = rw stations is.listed;
@@ -140,8 +120,7 @@ read-unlisted old new m none element stations gathered unlisted right = record {
   holds = λ before is. record {
     listed = rw stations is.listed;
     right = each-append IsMonth before (m ∷ []) is.right (right, tt);
-    unlisted =
-        rw (stations, count_more old.stations before m false none, unlisted, is.unlisted)
+    unlisted = rw (stations, count_more old.stations before m false none, unlisted, is.unlisted)
         (capped (unlisted_months old.stations before));
     gathered = rw (element, stations, gathered) (stations-other old.keep before m old.stations old.gathered.stations
         old.gathered.stations (apart old.stations none) (λ i. record { holds = λ asked ms id of. of }) refl

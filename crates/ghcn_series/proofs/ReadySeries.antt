@@ -1,32 +1,15 @@
 -- A gathering becomes a series.
-use Rattle.std.proofs.Common.{◌≡◌, ℕ, ◌+◌, Bool, true, false, List, [], ◌∷◌, length, None}
-use Rattle.std.proofs.Common.{Some, refl, ap, ◌∙◌, arith, ℤ}
-use Rattle.std.specs.Prelude.{◌==◌, ◌&&◌}
-use Rattle.std.specs.declared.cmp.Ordering.TheVariants.{Less}
-use Rattle.std.specs.Ordering.{int_cmp, int_eq}
-use Rattle.std.specs.List.{filter_map, flat_map, enumerate_from, cons_option, list_all, IsDistinct, AllByRecursion}
-use Rattle.std.specs.List.Sorted.{IsStrictlySortedBy}
-use Rattle.std.specs.Map.{keys_of}
-use Rattle.std.proofs.lemmas.Int.{ints}
-use Rattle.std.proofs.lemmas.List.Folds.{list_all-append}
-use Rattle.std.proofs.lemmas.Bool.{and_from, and_parts, eqb-false}
-use Rattle.std.proofs.lemmas.List.Sorted.{All-permutation, length_permutation}
+use Rattle.ghcn_series.proofs.Cited.{◌≡◌, ℕ, ◌+◌, Bool, true, false, List, [], ◌∷◌, length, None, Some, refl, ap, ◌∙◌}
+use Rattle.ghcn_series.proofs.Cited.{arith, ℤ, ◌==◌, ◌&&◌, Less, int_cmp, int_eq, filter_map, flat_map, enumerate_from}
+use Rattle.ghcn_series.proofs.Cited.{cons_option, list_all, IsDistinct, AllByRecursion, IsStrictlySortedBy, keys_of}
+use Rattle.ghcn_series.proofs.Cited.{ints, list_all-append, and_from, and_parts, eqb-false, All-permutation}
+use Rattle.ghcn_series.proofs.Cited.{sorted-permutation, is_day, day_number, sorted_by, is_day-from_civil, StationId}
+use Rattle.ghcn_series.proofs.Cited.{Element, Month, Reading, IsMonth, Gathering, DayValue, IsSeries, by_day, is_by_day}
+use Rattle.ghcn_series.proofs.Cited.{usable_day, usable_days, kept_days, same_time, gathered_days, IsGathering, IsReady}
+use Rattle.std.proofs.lemmas.List.Sorted.{length_permutation}
 use Rattle.std.proofs.lemmas.List.Sums.{list_all-from_AllPass, AllPass-from_list_all}
-use Rattle.ghcn_files.proofs.Ordered.{sorted-permutation}
-use Rattle.ghcn_fields.specs.Meaning.Days.{is_day}
-use Rattle.ghcn_fields.specs.Days.{day_number}
-use Rattle.ghcn_fields.specs.Sorting.{sorted_by}
-use Rattle.ghcn_fields.proofs.DayNumbers.{is_day-from_civil}
-use Rattle.ghcn_files.specs.declared.station.StationId.{StationId}
-use Rattle.ghcn_files.specs.declared.element.Element.{Element}
-use Rattle.ghcn_files.specs.declared.month.Month.{Month}
-use Rattle.ghcn_files.specs.declared.month.Reading.{Reading}
-use Rattle.ghcn_files.specs.Months.{is_reading, IsMonth}
-use Rattle.ghcn_series.specs.declared.gathering.Gathering.{Gathering}
-use Rattle.ghcn_series.specs.Meaning.Series.{DayValue}
-use Rattle.ghcn_series.specs.Series.{IsSeries, by_day, is_by_day, is_value}
-use Rattle.ghcn_series.specs.Gathered.{usable_day, usable_days, kept_days, same_time, gathered_days}
-use Rattle.ghcn_series.specs.Gathered.{IsGathering, IsReady}
+use Rattle.ghcn_files.specs.Months.{is_reading}
+use Rattle.ghcn_series.specs.Series.{is_value}
 use Rattle.ghcn_series.proofs.MonthDays.{has_number, civil_of}
 use Rattle.ghcn_series.proofs.ApartParts.{apart-distinct}
 use Rattle.ghcn_series.proofs.DistinctDays.{distinct_days, parts_of}
@@ -39,16 +22,14 @@ IsDayOf e x = is_day x.0 && is_value e x.1
 -- a day that has a number is a day
 pub is_day-numbered : (y m d : ℕ) (n : ℤ) → day_number y m d ≡ Some n → is_day n ≡ true
 is_day-numbered y m d n e =
-    let has = has_number y m d n e in
-    ap is_day has.1 ∙ is_day-from_civil y m d (civil_of y m d has.0) has.0.year.0
+    let has = has_number y m d n e in ap is_day has.1 ∙ is_day-from_civil y m d (civil_of y m d has.0) has.0.year.0
 
 -- a usable day is right
 right_day : (m : Month) (j : ℕ) (r : Reading) (d : DayValue) → is_reading r ≡ true → usable_day m (j, r) ≡ Some d
     → IsDayOf m.element d ≡ true
 right_day m j r d reads is =
     let parts = parts_of m r.flagged (day_number m.year m.month j) r.value d is in
-    and_from _ _ (is_day-numbered m.year m.month j d.0 parts.0)
-    (and_from _ _ (rw parts.1 at reads) parts.2)
+    and_from _ _ (is_day-numbered m.year m.month j d.0 parts.0) (and_from _ _ (rw parts.1 at reads) parts.2)
 
 -- so are those of all readings
 right_days : (m : Month) (j : ℕ) (rs : List Reading) → list_all is_reading rs ≡ true
@@ -113,12 +94,11 @@ gathered-sorted kept g months is =
 pub is_series : (id : StationId) (g : Gathering) (days : List DayValue) → IsReady g → (length (gathered_days g) == 0)
     ≡ false → days ≡ sorted_by by_day (gathered_days g)
     → IsSeries (record { id = id; element = g.element; days = days })
-is_series id g days ready some sorted =
-    rw sorted (record {
-      nonempty = omega (arith, length-sorted (gathered_days g), eqb-false (length (gathered_days g)) 0 some);
-      by_day = rises (sorted_by by_day (gathered_days g))
-          (sorted_by-rises (gathered_days g) (apart-distinct _ ready.holds.parts.apart));
-      values = rw (gathered-sorted ready.kept g ready.months ready.holds)
-          (sorted_right (IsDayOf g.element) (kept_days ready.kept ready.months)
-          (kept_right ready.kept g.element ready.months ready.right));
-    })
+is_series id g days ready some sorted = rw sorted (record {
+  nonempty = omega (arith, length-sorted (gathered_days g), eqb-false (length (gathered_days g)) 0 some);
+  by_day = rises (sorted_by by_day (gathered_days g))
+      (sorted_by-rises (gathered_days g) (apart-distinct _ ready.holds.parts.apart));
+  values = rw (gathered-sorted ready.kept g ready.months ready.holds)
+      (sorted_right (IsDayOf g.element) (kept_days ready.kept ready.months)
+      (kept_right ready.kept g.element ready.months ready.right));
+})

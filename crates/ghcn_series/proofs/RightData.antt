@@ -1,33 +1,16 @@
 -- What is listed without an error is right, and so is what daily files without an error hold.
-use Rattle.std.proofs.Common.{◌≡◌, ℕ, ◌<◌, Bool, true, not, List, [], ◌∷◌, ◌++◌, length, map, None, Ok}
-use Rattle.std.proofs.Common.{refl, sym, ap, ◌∙◌, subst, arith}
-use Rattle.std.specs.Prelude.{◌^◌, ◌==◌, ◌||◌}
-use Rattle.std.specs.List.{flat_map, list_all, list_any, AllByRecursion, IsDistinct}
-use Rattle.std.proofs.lemmas.Bool.{eqb-false, ltb-true, not-true}
-use Rattle.std.proofs.lemmas.List.{length-map, map-append}
-use Rattle.ghcn_fields.specs.Faults.{first_fault}
-use Rattle.ghcn_fields.specs.Sorting.{sorted_by}
-use Rattle.ghcn_files.specs.declared.element.Element.{Element}
-use Rattle.ghcn_files.specs.declared.station.Station.{Station}
-use Rattle.ghcn_files.specs.declared.station.StationId.{StationId}
-use Rattle.ghcn_files.specs.Meaning.Elements.{elements}
-use Rattle.ghcn_files.specs.Meaning.Ids.{same_id}
-use Rattle.ghcn_files.specs.Meaning.Listed.{is_station_of}
-use Rattle.ghcn_files.specs.Listed.{Numbered, AreListed, is_repeated, place_of, station_fault}
-use Rattle.ghcn_files.specs.Listed.{station_lines, stations_of}
-use Rattle.ghcn_files.specs.Months.{IsMonth}
-use Rattle.ghcn_files.specs.StationLines.{id_of, station_of}
+use Rattle.ghcn_series.proofs.Cited.{◌≡◌, ℕ, ◌<◌, Bool, true, not, List, [], ◌∷◌, ◌++◌, length, map, None, Ok, refl}
+use Rattle.ghcn_series.proofs.Cited.{sym, ap, ◌∙◌, subst, arith, ◌^◌, ◌==◌, ◌||◌, flat_map, list_all, list_any}
+use Rattle.ghcn_series.proofs.Cited.{AllByRecursion, IsDistinct, eqb-false, ltb-true, not-true, length-map, map-append}
+use Rattle.ghcn_series.proofs.Cited.{first_fault, sorted_by, Element, Station, StationId, elements, same_id}
+use Rattle.ghcn_series.proofs.Cited.{is_station_of, Numbered, AreListed, is_repeated, place_of, station_fault}
+use Rattle.ghcn_series.proofs.Cited.{station_lines, stations_of, IsMonth, id_of, station_of, is_listed, months_of}
+use Rattle.ghcn_series.proofs.Cited.{IsContents, same_series, facts_said, months_said, all_series, data_of, usable_of}
+use Rattle.ghcn_series.proofs.Cited.{DayValue, Series, Data, IsSeries, by_day}
 use Rattle.ghcn_files.proofs.Adding.{listed_more, station_of-right}
 use Rattle.ghcn_files.proofs.ById.{has_place, not_found}
 use Rattle.ghcn_files.proofs.Ranges.{month_of-right}
-use Rattle.ghcn_series.specs.DailyFaults.{is_listed}
-use Rattle.ghcn_series.specs.Gathered.{months_of}
-use Rattle.ghcn_series.specs.Held.{IsContents, same_series}
 use Rattle.ghcn_series.specs.Laws.{DataAreRight, ListsAreRight}
-use Rattle.ghcn_series.specs.SaidLists.{facts_said, months_said}
-use Rattle.ghcn_series.specs.Says.{all_series, data_of, usable_of}
-use Rattle.ghcn_series.specs.Meaning.Series.{DayValue, Series}
-use Rattle.ghcn_series.specs.Series.{Data, IsSeries, by_day}
 use Rattle.ghcn_series.proofs.AllSeries.{right_of}
 use Rattle.ghcn_series.proofs.DistinctSeries.{stations_apart}
 use Rattle.ghcn_series.proofs.FactsOfMonths.{selected-months}
@@ -56,10 +39,9 @@ one_more earlier l none listed =
     let new : place_of (stations_of earlier) (id_of l.1) ≡ None =
     not_found _ (has_place (stations_of earlier) (id_of l.1) ∙ of_lines earlier (id_of l.1) ∙ tests.1) in
     let few : length earlier < 2 ^ 20 = ltb-true (length earlier) (2 ^ 20) tests.2 in
-    let long = length-map earlier (λ x. station_of x.1) in
     subst AreListed (sym (map-append (λ x. station_of x.1) earlier (l ∷ [])))
-    (listed_more (stations_of earlier) (station_of l.1) listed new (omega (arith, long, few))
-    (station_of-right l.1 tests.0))
+    (listed_more (stations_of earlier) (station_of l.1) listed new
+    (omega (arith, length-map earlier (λ x. station_of x.1), few)) (station_of-right l.1 tests.0))
 
 -- of no lines nothing is listed
 none_listed : AreListed []
@@ -84,8 +66,7 @@ module _ (stations : List Station) (files : List (List ℕ)) (held : Data)
   -- each month that the files say is right
   said_right : AllByRecursion IsMonth (months_said files)
   said_right = for_each IsMonth (months_said files) (λ m has.
-      let at = month_line stations files held is m has in
-      subst IsMonth at.4 (month_of-right at.1 at.0 at.5))
+      let at = month_line stations files held is m has in subst IsMonth at.4 (month_of-right at.1 at.0 at.5))
 
   -- a series of a listed station that has a day is right
   one_right : (s : Station) (e : Element) → is_listed stations s.id ≡ true
@@ -116,17 +97,16 @@ module _ (stations : List Station) (files : List (List ℕ)) (held : Data)
 
   -- so what is held is right
   pub held-right : IsContents held
-  held-right =
-      subst IsContents (sym (held-said stations files held is)) (record {
-        listed = listed;
-        series = record {
-          distinct = distinct_filter same_series (λ s. not (length s.days == 0))
-              (flat_map (λ s. map (usable_of (facts_said stations files) s) elements) stations)
-              (stations_apart (facts_said stations files) stations listed.distinct);
-          listed = for_each (λ u. is_listed stations u.id ≡ true) said (λ u has. (each_right u has).0);
-          right = for_each IsSeries said (λ u has. (each_right u has).1);
-        };
-      })
+  held-right = subst IsContents (sym (held-said stations files held is)) (record {
+    listed = listed;
+    series = record {
+      distinct = distinct_filter same_series (λ s. not (length s.days == 0))
+          (flat_map (λ s. map (usable_of (facts_said stations files) s) elements) stations)
+          (stations_apart (facts_said stations files) stations listed.distinct);
+      listed = for_each (λ u. is_listed stations u.id ≡ true) said (λ u has. (each_right u has).0);
+      right = for_each IsSeries said (λ u has. (each_right u has).1);
+    };
+  })
 
 -- of a list and files without an error all data are right
 pub data-are-right : DataAreRight

@@ -1,22 +1,12 @@
 -- Days of blocks in order rise, and rising days are determined by their values alone.
-use Rattle.std.proofs.Common.{◌≡◌, ℕ, zero, suc, ◌+◌, ◌<◌, Bool, true, false, List, [], ◌∷◌, ◌++◌, length, get_or, Some}
-use Rattle.std.proofs.Common.{None, refl, sym, ap, subst, ◌∙◌, arith, ℤ, pos, ◌+ℤ◌, ◌<ℤ◌, ◌≤ℤ◌, inl, inr}
-use Rattle.std.specs.Prelude.{◌==◌}
-use Rattle.std.specs.Int.{bit_at}
-use Rattle.std.specs.List.{cons_option, filter_map, range_with_len, AllByRecursion}
-use Rattle.std.specs.List.Sorted.{IsStrictlySortedBy}
-use Rattle.std.specs.Map.{keys_of}
-use Rattle.std.specs.declared.cmp.Ordering.TheVariants.{Less}
-use Rattle.std.specs.Ordering.{int_cmp}
-use Rattle.std.proofs.lemmas.Cmp.{int_ranked}
-use Rattle.std.proofs.lemmas.Int.{ints, by_lt_z}
-use Rattle.std.proofs.lemmas.Option.{none-some, same_Some}
+use Rattle.ghcn_series.proofs.Cited.{◌≡◌, ℕ, zero, suc, ◌+◌, ◌<◌, Bool, true, false, List, [], ◌∷◌, ◌++◌, length}
+use Rattle.ghcn_series.proofs.Cited.{get_or, Some, None, refl, sym, ap, subst, ◌∙◌, arith, ℤ, pos, ◌+ℤ◌, ◌<ℤ◌, ◌≤ℤ◌}
+use Rattle.ghcn_series.proofs.Cited.{inl, inr, ◌==◌, bit_at, cons_option, filter_map, range_with_len, AllByRecursion}
+use Rattle.ghcn_series.proofs.Cited.{IsStrictlySortedBy, keys_of, Less, int_cmp, int_ranked, ints, by_lt_z, none-some}
+use Rattle.ghcn_series.proofs.Cited.{same_Some, block_of, DayValue, value_on, Block, block_start, if_so, day_at}
+use Rattle.ghcn_series.proofs.Cited.{block_days, days_from, days_of_blocks, blocks_of, AreRising, AreColumns}
 use Rattle.ghcn_series.proofs.ListFacts.{each-weaker, each-append}
 use Rattle.ghcn_series.proofs.JoinedDays.{same_block}
-use Rattle.ghcn_fields.specs.Days.{block_of}
-use Rattle.ghcn_series.specs.Meaning.Series.{DayValue, value_on}
-use Rattle.ghcn_series.specs.Packed.{Block, block_start, if_so, day_at, block_days, days_from, days_of_blocks, blocks_of}
-use Rattle.ghcn_series.specs.Packed.{AreRising, AreColumns}
 use Rattle.ghcn_series.proofs.Lookups.{no_block, int_eq-no, int_eq-yes, block-holds, blocks-at, blocks-length}
 use Rattle.ghcn_series.proofs.PartDays.{each-place}
 use Rattle.ghcn_series.proofs.Nexts.{AreOf, block-own}
@@ -30,12 +20,10 @@ cons-rising false x xs all rise = rise
 -- the days at a block's places rise
 places-rise : (b : Block) (s n : ℕ) → AreRising (filter_map (day_at b) (range_with_len s n))
 places-rise b s zero = tt
-places-rise b s (suc n) =
-    cons-rising (bit_at b.1.0 s == 1) (block_start b.0 +ℤ pos s, get_or b.1.1 s (pos 0))
+places-rise b s (suc n) = cons-rising (bit_at b.1.0 s == 1) (block_start b.0 +ℤ pos s, get_or b.1.1 s (pos 0))
     (filter_map (day_at b) (range_with_len (s + 1) n))
     (each-place (λ (d : ℤ). (block_start b.0 +ℤ pos s) <ℤ d) b.0 b.1.1 b.1.0 (s + 1) n
-    (λ j more lt set. omega (arith, ints, more)))
-    (places-rise b (s + 1) n)
+    (λ j more lt set. omega (arith, ints, more))) (places-rise b (s + 1) n)
 
 -- the days of a block rise
 pub block-rises : (b : Block) → AreRising (block_days b)
@@ -57,19 +45,16 @@ rising-append n (x ∷ xs) ys own later a b = (
 all_later : (n : ℤ) (bs : List Block) → ((k : ℕ) → k < length bs → n <ℤ (get_or bs k no_block).0)
     → AllByRecursion (λ y. n <ℤ block_of y.0) (days_of_blocks bs)
 all_later n [] h = tt
-all_later n (b ∷ bs) h =
-    let first : n <ℤ b.0 = h 0 (omega arith) in
-    each-append (λ (y : DayValue). n <ℤ block_of y.0) (block_days b) (days_of_blocks bs)
+all_later n (b ∷ bs) h = each-append (λ (y : DayValue). n <ℤ block_of y.0) (block_days b) (days_of_blocks bs)
     (each-weaker (λ (x : DayValue). block_of x.0 ≡ b.0) (λ (y : DayValue). n <ℤ block_of y.0) (block_days b)
-    (λ x e. subst (λ (z : ℤ). n <ℤ z) (sym e) first) (block-own b))
+    (λ x e. subst (λ (z : ℤ). n <ℤ z) (sym e) (h 0 (omega arith))) (block-own b))
     (all_later n bs (λ k lt. h (suc k) (omega arith)))
 
 -- the days of rising blocks rise
 blocks-rise : (bs : List Block) → ((i j : ℕ) → i < j → j < length bs
     → (get_or bs i no_block).0 <ℤ (get_or bs j no_block).0) → AreRising (days_of_blocks bs)
 blocks-rise [] h = tt
-blocks-rise (b ∷ bs) h =
-    rising-append b.0 (block_days b) (days_of_blocks bs) (block-own b)
+blocks-rise (b ∷ bs) h = rising-append b.0 (block_days b) (days_of_blocks bs) (block-own b)
     (all_later b.0 bs (λ k lt. h 0 (suc k) (omega arith) (omega arith)))
     (block-rises b) (blocks-rise bs (λ i j lt in_range. h (suc i) (suc j) (omega arith) (omega arith)))
 
@@ -124,12 +109,10 @@ rest_same x y xs ys day a b same d = elim (same_block x.0 d) [
 -- of two lists with the same values, of which one rises, the other doesn't begin before it
 first_same : (x y : DayValue) (xs ys : List DayValue) → AllByRecursion (λ z. y.0 <ℤ z.0) ys
     → value_on (x ∷ xs) x.0 ≡ value_on (y ∷ ys) x.0 → y.0 ≤ℤ x.0
-first_same x y xs ys later same = by_lt_z x.0 y.0
-    (λ (lt : x.0 <ℤ y.0).
+first_same x y xs ys later same = by_lt_z x.0 y.0 (λ (lt : x.0 <ℤ y.0).
     let all = each-weaker (λ (z : DayValue). y.0 <ℤ z.0) (λ (z : DayValue). x.0 <ℤ z.0) ys
     (λ z more. omega (arith, ints, lt, more)) later in
-    absurd (none-some x.1 (sym (before_all (y ∷ ys) x.0 (lt, all)) ∙ sym same ∙ front x xs)))
-    (λ (ge : y.0 ≤ℤ x.0). ge)
+    absurd (none-some x.1 (sym (before_all (y ∷ ys) x.0 (lt, all)) ∙ sym same ∙ front x xs))) (λ (ge : y.0 ≤ℤ x.0). ge)
 
 -- two lists of rising days with the same values are one
 pub same-from_values : (xs ys : List DayValue) → AreRising xs → AreRising ys → ((d : ℤ) → value_on xs d ≡ value_on ys d)
@@ -138,9 +121,7 @@ same-from_values [] [] a b same = refl
 same-from_values [] (y ∷ ys) a b same = absurd (none-some y.1 (same y.0 ∙ front y ys))
 same-from_values (x ∷ xs) [] a b same = absurd (none-some x.1 (sym (same x.0) ∙ front x xs))
 same-from_values (x ∷ xs) (y ∷ ys) a b same =
-    let ge = first_same x y xs ys b.0 (same x.0) in
-    let le = first_same y x ys xs a.0 (sym (same y.0)) in
+    let ge = first_same x y xs ys b.0 (same x.0) in let le = first_same y x ys xs a.0 (sym (same y.0)) in
     let day : x.0 ≡ y.0 = omega (arith, ints, ge, le) in
     let value : x.1 ≡ y.1 = same_Some x.1 y.1 (sym (front x xs) ∙ same x.0 ∙ ap (value_on (y ∷ ys)) day ∙ front y ys) in
-    let rest : xs ≡ ys = same-from_values xs ys a.1 b.1 (rest_same x y xs ys day a.0 b.0 same) in
-    ap (λ (d : ℤ). (d, x.1) ∷ xs) day ∙ ap (λ (v : ℤ). (y.0, v) ∷ xs) value ∙ ap (λ (l : List DayValue). y ∷ l) rest
+    let rest = same-from_values xs ys a.1 b.1 (rest_same x y xs ys day a.0 b.0 same) in λ i. (day i, value i) ∷ rest i

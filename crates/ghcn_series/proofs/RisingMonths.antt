@@ -1,12 +1,8 @@
 -- A month that comes after all that were seen is new.
-use Rattle.std.proofs.Common.{◌≡◌, ℕ, suc, ◌-◌, ◌<◌, Bool, true, false, List, [], ◌∷◌, length, get_or, inl, inr, refl}
-use Rattle.std.proofs.Common.{ap, ◌∙◌, arith}
-use Rattle.std.specs.Prelude.{◌==◌, ◌||◌, nat_lt, slice_index}
-use Rattle.std.specs.Ordering.{nat_cmp}
+use Rattle.ghcn_series.proofs.Cited.{◌≡◌, ℕ, suc, ◌-◌, ◌<◌, Bool, true, false, List, [], ◌∷◌, length, get_or, inl, inr}
+use Rattle.ghcn_series.proofs.Cited.{refl, ap, ◌∙◌, arith, ◌==◌, ◌||◌, nat_lt, nat_cmp, cases_lt, nat_tests, has_month}
+use Rattle.std.specs.Prelude.{slice_index}
 use Rattle.std.specs.BTreeMap.{is_at}
-use Rattle.std.proofs.lemmas.Bool.{cases_lt}
-use Rattle.std.proofs.lemmas.Bool.Decides.{nat_tests}
-use Rattle.ghcn_series.specs.SeenMonths.{has_month}
 
 -- a lesser month is another one
 other_month : (m x : ℕ) → x < m → is_at (nat_cmp m) x ≡ false
@@ -16,8 +12,7 @@ other_month m x lt = grind (arith, nat_tests)
 no_month : (months : List ℕ) (m : ℕ) → ((k : ℕ) → k < length months → get_or months k 0 < m)
     → has_month months m ≡ false
 no_month [] m less = refl
-no_month (x ∷ xs) m less =
-    ap (λ (b : Bool). b || has_month xs m) (other_month m x (less 0 (omega arith)))
+no_month (x ∷ xs) m less = ap (λ (b : Bool). b || has_month xs m) (other_month m x (less 0 (omega arith)))
     ∙ no_month xs m (λ k lt. less (suc k) (omega arith))
 
 -- a month after the last one is greater than it

@@ -1,20 +1,14 @@
 -- A row in two parts of blocks.
-use Rattle.std.proofs.Common.{◌≡◌, ℕ, zero, suc, ◌+◌, ◌-◌, ◌*◌, ◌/◌, ◌%◌, ◌<◌, ◌≤◌, ◌^◌, List, ◌++◌, length, take}
-use Rattle.std.proofs.Common.{drop, get_or, add-zero, replicate, Option, Some, None, IsSome, inl, inr, refl, sym, ap}
-use Rattle.std.proofs.Common.{subst, ◌∙◌, arith, true, ℤ, pos, ◌+ℤ◌}
-use Rattle.std.specs.Int.{bit_at}
-use Rattle.std.specs.Option.{option_or}
-use Rattle.std.proofs.lemmas.Bool.{cases_lt, false≢true}
-use Rattle.std.proofs.lemmas.Grind.{common_steps}
-use Rattle.std.proofs.lemmas.Int.{ints}
-use Rattle.std.proofs.lemmas.List.{get_or-take, get_or-drop, get_or_append_left, get_or-append_right}
+use Rattle.ghcn_series.proofs.Cited.{◌≡◌, ℕ, zero, suc, ◌+◌, ◌-◌, ◌*◌, ◌/◌, ◌%◌, ◌<◌, ◌≤◌, ◌^◌, List, ◌++◌, length}
+use Rattle.ghcn_series.proofs.Cited.{take, drop, get_or, add-zero, replicate, Option, Some, None, IsSome, inl, inr}
+use Rattle.ghcn_series.proofs.Cited.{refl, sym, ap, subst, ◌∙◌, arith, true, ℤ, pos, ◌+ℤ◌, bit_at, option_or, cases_lt}
+use Rattle.ghcn_series.proofs.Cited.{false≢true, common_steps, ints, get_or-take, get_or-drop, get_or_append_left}
+use Rattle.ghcn_series.proofs.Cited.{get_or-append_right, bit_at-zero, bit_at_above, is_day, block_of, DayValue}
+use Rattle.ghcn_series.proofs.Cited.{value_on, Block, block_start, value_at, days_from, block_days, IsPacked, AreNew}
+use Rattle.ghcn_series.proofs.Cited.{AreJoined, IsRow, IsValueFrom}
 use Rattle.std.proofs.lemmas.Nat.{shl-shr, shr_split}
-use Rattle.std.proofs.lemmas.Nat.Bits.{bit_at_cat_low, bit_at-zero, bit_at_above}
-use Rattle.ghcn_fields.specs.Meaning.Days.{is_day}
-use Rattle.ghcn_fields.specs.Days.{block_of}
-use Rattle.ghcn_series.specs.Meaning.Series.{DayValue, value_on}
-use Rattle.ghcn_series.specs.Packed.{Block, block_start, value_at, days_from, block_days, IsPacked}
-use Rattle.ghcn_series.specs.Parts.{AreNew, AreJoined, IsRow, IsValueFrom, HasBitsOf}
+use Rattle.std.proofs.lemmas.Nat.Bits.{bit_at_cat_low}
+use Rattle.ghcn_series.specs.Parts.{HasBitsOf}
 use Rattle.ghcn_series.proofs.Lookups.{from-value, from-other, block-value, block-other, block-holds, or_none, at_day}
 use Rattle.ghcn_series.proofs.JoinedDays.{same_block, or_assoc}
 use Rattle.ghcn_series.proofs.FirstDays.{shifted-bit}
@@ -58,14 +52,12 @@ module _ (first : ℤ) (place w : ℕ) (vs : List ℤ) (offset : ℕ) (b : Block
   -- the block has the values of the row's days
   pub part-value : (j : ℕ) → j < 32 → value_on (days_from first w vs) (block_start b.0 +ℤ pos j)
       ≡ value_at b.1.0 b.1.1 j
-  part-value j lt =
-      at_part (λ j. value_on (days_from first w vs) (block_start b.0 +ℤ pos j) ≡ value_at b.1.0 b.1.1 j) j
+  part-value j lt = at_part (λ j. value_on (days_from first w vs) (block_start b.0 +ℤ pos j) ≡ value_at b.1.0 b.1.1 j) j
       (λ less. rw ((p.bits j lt).before less)
       (from-other first w vs (block_start b.0 +ℤ pos j) (λ k _ e. omega (arith, ints, p.starts, e))))
       (λ more. rw ((p.bits j lt).behind more)
       (from-other first w vs (block_start b.0 +ℤ pos j) (λ k less e. omega (arith, ints, p.starts, e))))
-      (λ k less is.
-      let day : block_start b.0 +ℤ pos j ≡ first +ℤ pos k = omega (arith, ints, p.starts) in
+      (λ k less is. let day : block_start b.0 +ℤ pos j ≡ first +ℤ pos k = omega (arith, ints, p.starts) in
       rw (day, (p.bits j lt).within k less is, (p.values j lt).within k less is) (from-value first w vs k less))
 
   -- and is as it may be
@@ -80,8 +72,7 @@ module _ (first : ℤ) (place w : ℕ) (vs : List ℤ) (offset : ℕ) (b : Block
         at_part (λ j. is_day (block_start b.0 +ℤ pos j) ≡ true) j
         (λ less. let none = (p.bits j lt).before less in absurd (omega arith))
         (λ more. let none = (p.bits j lt).behind more in absurd (omega arith))
-        (λ k less is.
-        let day : first +ℤ pos k ≡ block_start b.0 +ℤ pos j = omega (arith, ints, p.starts) in
+        (λ k less is. let day : first +ℤ pos k ≡ block_start b.0 +ℤ pos j = omega (arith, ints, p.starts) in
         subst (λ (d : ℤ). is_day d ≡ true) day (p.row.days k less (sym ((p.bits j lt).within k less is) ∙ set)));
   }
 
@@ -112,8 +103,7 @@ module _ (first : ℤ) (place w : ℕ) (vs : List ℤ) (one two : Block) (p : Is
   -- the two parts have the row's days
   row-split : (d : ℤ) → value_on days d ≡ option_or (value_on (block_days one) d) (value_on (block_days two) d)
   row-split d = elim (same_block one.0 (block_of d)) [
-    | inl here ↦
-        rw (block-other two d (differ d here), or_none (value_on (block_days one) d))
+    | inl here ↦ rw (block-other two d (differ d here), or_none (value_on (block_days one) d))
         (in_part first place w vs 0 one p d here)
     | inr other ↦ rw (block-other one d other) (elim (same_block two.0 (block_of d)) [
       | inl there ↦ in_part first place w vs 32 two q d there
@@ -124,31 +114,27 @@ module _ (first : ℤ) (place w : ℕ) (vs : List ℤ) (one two : Block) (p : Is
   module _ (old : List DayValue) (fresh : AreNew old days) where
     -- if the row is new, its first part is
     pub new-one : AreNew old (block_days one)
-    new-one d some =
-        fresh d (subst IsSome (sym (row-split d))
+    new-one d some = fresh d (subst IsSome (sym (row-split d))
         (some_either (value_on (block_days one) d) (value_on (block_days two) d) some))
 
     -- and its second part is, after the first
     pub new-two : (mid : List DayValue) → AreJoined old (block_days one) mid → AreNew mid (block_days two)
     new-two mid joined d some =
         let there = own-block two d some in
-        let in_row : IsSome (value_on days d) = subst IsSome (sym (in_part first place w vs 32 two q d there)) some in
-        rw (joined d, fresh d in_row) (block-other one d (λ here. differ d here there))
+        rw (joined d, fresh d (subst IsSome (sym (in_part first place w vs 32 two q d there)) some))
+        (block-other one d (λ here. differ d here there))
 
     -- both parts joined one after the other are the row joined
     pub joined-both : (mid new : List DayValue) → AreJoined old (block_days one) mid
-        → AreJoined mid (block_days two) new
-        → AreJoined old days new
-    joined-both mid new a b d =
-        rw (b d, a d, row-split d)
+        → AreJoined mid (block_days two) new → AreJoined old days new
+    joined-both mid new a b d = rw (b d, a d, row-split d)
         (sym (or_assoc (value_on old d) (value_on (block_days one) d) (value_on (block_days two) d)))
 
 -- ---- the bits of both parts
 
 -- bits below a place are those of the whole
 bit-low : (x j : ℕ) → j < 32 → bit_at (x % 2 ^ 32) j ≡ bit_at x j
-bit-low x j lt =
-    sym (bit_at_cat_low (x / 2 ^ 32) 32 (x % 2 ^ 32) j lt) ∙ ap (λ (n : ℕ). bit_at n j) (shr_split x 32)
+bit-low x j lt = sym (bit_at_cat_low (x / 2 ^ 32) 32 (x % 2 ^ 32) j lt) ∙ ap (λ (n : ℕ). bit_at n j) (shr_split x 32)
 
 -- a word that is moved up has no bits below the place
 bit-below : (w k i : ℕ) → i < k → bit_at (w * 2 ^ k) i ≡ 0
@@ -163,17 +149,14 @@ pub low-bits : (w place : ℕ) → place < 32 → HasBitsOf w place 0 (w * 2 ^ p
 low-bits w place below j lt = record {
   before = λ h. bit-low (w * 2 ^ place) j lt ∙ bit-below w place j (omega arith);
   behind = λ h. absurd (omega arith);
-  within = λ k less is.
-      let here : j ≡ place + k = omega arith in
+  within = λ k less is. let here : j ≡ place + k = omega arith in
       bit-low (w * 2 ^ place) j lt ∙ ap (bit_at (w * 2 ^ place)) here ∙ bit-moved_up w place k;
 }
 
 -- a word shifted down has those of the next one
 pub high-bits : (w place : ℕ) → w < 2 ^ 32 → place < 32 → HasBitsOf w place 32 (w / 2 ^ 1 / 2 ^ (31 - place))
 high-bits w place fits below j lt =
-    let at : bit_at (w / 2 ^ 1 / 2 ^ (31 - place)) j ≡ bit_at w (1 + (31 - place + j)) =
-    shifted-bit (w / 2 ^ 1) (31 - place) j ∙ shifted-bit w 1 (31 - place + j) in
-    record {
+    let at = shifted-bit (w / 2 ^ 1) (31 - place) j ∙ shifted-bit w 1 (31 - place + j) in record {
       before = λ h. absurd (omega arith);
       behind = λ h. at ∙ bit_at_above w 32 (1 + (31 - place + j)) fits (omega arith);
       within = λ k less is. at ∙ ap (bit_at w) (omega arith);
@@ -193,22 +176,15 @@ pub placed-row : (vs zs ys rest : List ℤ) (place : ℕ) → place < 32 → len
     → IsValueFrom vs place at (get_or (take place zs ++ (ys ++ rest)) at (pos 0))
 placed-row vs zs ys rest place below whole long is none more-none at =
     let before : length (take place zs) ≡ place = grind (arith, common_steps, long) in
-    let own : length ys ≡ 32 = ap (λ (l : List ℤ). length l) is ∙ whole in
-    record {
-      before = λ less.
-          get_or_append_left (take place zs) (ys ++ rest) (pos 0) at (omega (arith, before))
-          ∙ get_or-take place zs at (pos 0) less
-          ∙ none at;
-      behind = λ more.
-          get_or-append_right (take place zs) (ys ++ rest) place at (pos 0) before (omega arith)
-          ∙ get_or-append_right ys rest 32 (at - place) (pos 0) own (omega arith)
-          ∙ more-none (at - place - 32);
-      within = λ k less at_is.
-          let here : at - place ≡ k = omega arith in
+    let own : length ys ≡ 32 = ap (λ (l : List ℤ). length l) is ∙ whole in record {
+      before = λ less. get_or_append_left (take place zs) (ys ++ rest) (pos 0) at (omega (arith, before))
+          ∙ get_or-take place zs at (pos 0) less ∙ none at;
+      behind = λ more. get_or-append_right (take place zs) (ys ++ rest) place at (pos 0) before (omega arith)
+          ∙ get_or-append_right ys rest 32 (at - place) (pos 0) own (omega arith) ∙ more-none (at - place - 32);
+      within = λ k less at_is. let here : at - place ≡ k = omega arith in
           get_or-append_right (take place zs) (ys ++ rest) place at (pos 0) before (omega arith)
           ∙ get_or_append_left ys rest (pos 0) (at - place) (omega (arith, own))
-          ∙ ap (λ (l : List ℤ). get_or l (at - place) (pos 0)) is
-          ∙ ap (λ (i : ℕ). get_or vs i (pos 0)) here;
+          ∙ ap (λ (l : List ℤ). get_or l (at - place) (pos 0)) is ∙ ap (λ (i : ℕ). get_or vs i (pos 0)) here;
     }
 
 -- the first block of two has its part of a row

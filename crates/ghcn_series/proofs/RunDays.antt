@@ -1,22 +1,18 @@
 -- Days of a block in a row, and those whose values pass a test.
-use Rattle.std.proofs.Common.{◌≡◌, ◌≢◌, ℕ, zero, suc, ◌+◌, ◌-◌, ◌*◌, ◌/◌, ◌%◌, ◌<◌, ◌≤◌, ◌^◌, Bool, true, false, List, []}
-use Rattle.std.proofs.Common.{◌∷◌, length, get_or, inl, inr, refl, sym, ap, ◌∙◌, arith, ℤ, pos, ◌+ℤ◌, ◌<ℤ◌, w32}
-use Rattle.std.proofs.Common.{min, max, below_more, add-zero, zero-add, ap₂}
-use Rattle.std.specs.Prelude.{◌==◌, ◌&&◌, bit_and, bit_or, filter, int_le, int_lt}
-use Rattle.std.specs.Int.{bit_at, from_bool, trailing_zeros, trailing_ones}
-use Rattle.std.specs.List.{filter_map, range_with_len, cons_option}
-use Rattle.std.proofs.lemmas.Bool.{cases_lt, cases_Bool}
-use Rattle.std.proofs.lemmas.Bool.Decides.{nat_tests}
-use Rattle.std.proofs.lemmas.Int.{ints}
-use Rattle.std.proofs.Math.Nat.{pow-succ', div-le_self}
-use Rattle.std.proofs.lemmas.Nat.Bits.{bit_at_and, bit_at-lt, bit_at_not, bit_at_above, bit_at-trailing_zeros}
-use Rattle.std.proofs.lemmas.Nat.Bits.{bit_at-trailing_ones, bit_at_ones, bit_at_or, bit_at-zero, bit_at_lowest}
-use Rattle.std.proofs.lemmas.Nat.Bits.{bit_at-suc, bit_at_set_same, bit_at_set_other}
-use Rattle.std.specs.Int.RustNames.{count_ones}
+use Rattle.ghcn_series.proofs.Cited.{◌≡◌, ◌≢◌, ℕ, zero, suc, ◌+◌, ◌-◌, ◌*◌, ◌/◌, ◌%◌, ◌<◌, ◌≤◌, ◌^◌, Bool, true, false}
+use Rattle.ghcn_series.proofs.Cited.{List, [], ◌∷◌, length, get_or, inl, inr, refl, sym, ap, ◌∙◌, arith, ℤ, pos, ◌+ℤ◌}
+use Rattle.ghcn_series.proofs.Cited.{◌<ℤ◌, w32, min, add-zero, zero-add, ap₂, ◌==◌, ◌&&◌, bit_and, bit_or, filter}
+use Rattle.ghcn_series.proofs.Cited.{int_le, int_lt, bit_at, trailing_zeros, filter_map, range_with_len, cons_option}
+use Rattle.ghcn_series.proofs.Cited.{cases_lt, cases_Bool, nat_tests, ints, pow-succ', bit_at_and, bit_at-lt}
+use Rattle.ghcn_series.proofs.Cited.{bit_at_not, bit_at_above, bit_at-trailing_zeros, bit_at_ones, bit_at_or}
+use Rattle.ghcn_series.proofs.Cited.{bit_at-zero, bit_at_lowest, bit_at-suc, count_ones, DayValue, block_start, day_at}
+use Rattle.ghcn_series.proofs.Cited.{if_so, block_days, days_from, AreInARow}
+use Rattle.std.proofs.Common.{max, below_more}
+use Rattle.std.specs.Int.{from_bool, trailing_ones}
+use Rattle.std.proofs.Math.Nat.{div-le_self}
+use Rattle.std.proofs.lemmas.Nat.Bits.{bit_at-trailing_ones, bit_at_set_same, bit_at_set_other}
 use lib.Count.{ones_step}
-use Rattle.ghcn_series.specs.Meaning.Series.{DayValue}
-use Rattle.ghcn_series.specs.Packed.{block_start, day_at, if_so, block_days, days_from, ArePlacesOf, EndsRun, AreInARow}
-use Rattle.ghcn_series.specs.Packed.{TakesRun}
+use Rattle.ghcn_series.specs.Packed.{ArePlacesOf, EndsRun, TakesRun}
 use Rattle.ghcn_series.proofs.FirstDays.{none-set, shifted-bit}
 use Rattle.ghcn_series.proofs.PartDays.{both-parts, each-day, first-in, first-out, later-bit}
 
@@ -108,11 +104,9 @@ counted-from f b end none more v s zero at same fits =
 counted-from f b end none more v s (suc m) at same fits =
     let first : b s ≡ v % 2 = (rw (add-zero s) at (same 0 (omega arith))) ∙ bit_at_lowest v in
     let half : v / 2 < 2 ^ m = let twice = pow-succ' 2 m in omega (arith, fits, twice) in
-    more s m at
-    ∙ ap₂ (λ (x y : ℕ). x + y) first (counted-from f b end none more (v / 2) (s + 1) m (omega (arith, at))
+    more s m at ∙ ap₂ (λ (x y : ℕ). x + y) first (counted-from f b end none more (v / 2) (s + 1) m (omega (arith, at))
     (λ i lt. let next : s + 1 + i ≡ s + suc i = omega arith in
-    ap b next ∙ same (suc i) (omega (arith, lt)) ∙ bit_at-suc v i) half)
-    ∙ sym (ones_step v)
+    ap b next ∙ same (suc i) (omega (arith, lt)) ∙ bit_at-suc v i) half) ∙ sym (ones_step v)
 
 -- a block has a day for each bit of its word
 pub long-days : (n : ℤ) (vs : List ℤ) (w : ℕ) → w < 2 ^ 32 → length (block_days (n, (w, vs))) ≡ count_ones w
@@ -131,25 +125,23 @@ row-among : (n : ℤ) (vs : List ℤ) (w t k s m : ℕ) (f : ℤ) → f ≡ bloc
     → ((j : ℕ) → k ≤ j → bit_at w j ≡ 0)
     → AreInARow f (block_start n +ℤ pos (k - 1)) (filter_map (day_at (n, (w, vs))) (range_with_len s m))
 row-among n vs w t k s zero f is lt le more before set unset =
-    let same : s ≡ k = omega arith in
-    omega (arith, ints, same, lt, is)
-row-among n vs w t k s (suc m) f is lt le more before set unset =
-    elim (cases_lt s t) [
-      | inl under ↦ rw (before s under)
-          (row-among n vs w t k (s + 1) m f (omega (arith, ints, is)) lt (omega arith) (omega arith) before set unset)
-      | inr ge ↦ elim (cases_lt s k) [
-        | inl inside ↦ rw (set s ge inside) (
-          omega (arith, ints, is),
-          row-among n vs w t k (s + 1) m (f +ℤ pos 1) (omega (arith, ints, is)) lt (omega arith) (omega arith)
-              before set unset,
-        )
-        | inr end ↦
-            let same : s ≡ k = omega arith in
-            let none : filter_map (day_at (n, (w, vs))) (range_with_len s (suc m)) ≡ [] =
-            none-set n vs w s (suc m) (λ j at un. unset j (omega arith)) in
-            rw none (omega (arith, ints, same, lt, is))
-      ]
-    ]
+    let same : s ≡ k = omega arith in omega (arith, ints, same, lt, is)
+row-among n vs w t k s (suc m) f is lt le more before set unset = elim (cases_lt s t) [
+  | inl under ↦ rw (before s under)
+      (row-among n vs w t k (s + 1) m f (omega (arith, ints, is)) lt (omega arith) (omega arith) before set unset)
+  | inr ge ↦ elim (cases_lt s k) [
+    | inl inside ↦ rw (set s ge inside) (
+      omega (arith, ints, is),
+      row-among n vs w t k (s + 1) m (f +ℤ pos 1) (omega (arith, ints, is)) lt (omega arith) (omega arith)
+          before set unset,
+    )
+    | inr end ↦
+        let same : s ≡ k = omega arith in
+        let none : filter_map (day_at (n, (w, vs))) (range_with_len s (suc m)) ≡ [] =
+        none-set n vs w s (suc m) (λ j at un. unset j (omega arith)) in
+        rw none (omega (arith, ints, same, lt, is))
+  ]
+]
 
 -- so are those of a block
 pub row-behind : (n : ℤ) (vs : List ℤ) (w t k : ℕ) → t < k → k ≤ 32 → ((j : ℕ) → j < t → bit_at w j ≡ 0)
@@ -173,35 +165,29 @@ all-ones = refl
 -- the lowest bits of a word are ones up to the first that isn't
 lowest-ones : (v : ℕ) → v < 2 ^ 32
     → ((i : ℕ) → i < trailing_ones w32 v → bit_at v i ≡ 1) × (bit_at v (trailing_ones w32 v) ≡ 0)
-lowest-ones v fits =
-    elim (cases_lt (v + 1) (2 ^ 32)) [
-      | inl other ↦ let first = bit_at-trailing_ones w32 v other in (first.2, first.1)
-      | inr le ↦
-          let full : v ≡ 2 ^ 32 - 1 = omega arith in
-          let many : trailing_ones w32 v ≡ 32 = ap (trailing_ones w32) full ∙ all-ones in (
-            λ i lt. ap (λ (u : ℕ). bit_at u i) full ∙ bit_at_ones 32 i (omega (arith, lt, many)),
-            bit_at_above v 32 (trailing_ones w32 v) fits (omega (arith, many)),
-          )
-    ]
+lowest-ones v fits = elim (cases_lt (v + 1) (2 ^ 32)) [
+  | inl other ↦ let first = bit_at-trailing_ones w32 v other in (first.2, first.1)
+  | inr le ↦
+      let full : v ≡ 2 ^ 32 - 1 = omega arith in
+      let many : trailing_ones w32 v ≡ 32 = ap (trailing_ones w32) full ∙ all-ones in (
+        λ i lt. ap (λ (u : ℕ). bit_at u i) full ∙ bit_at_ones 32 i (omega (arith, lt, many)),
+        bit_at_above v 32 (trailing_ones w32 v) fits (omega (arith, many)),
+      )
+]
 
 -- the lowest bits of a word end at the place at which the shifted word's ones end
 pub run-ends : (w : ℕ) → 0 < w → w < 2 ^ 32
     → EndsRun w (trailing_zeros w32 w + trailing_ones w32 (w / 2 ^ trailing_zeros w32 w))
 run-ends w some fits =
     let t : ℕ = trailing_zeros w32 w in
-    let v : ℕ = w / 2 ^ t in
-    let o : ℕ = trailing_ones w32 v in
+    let v : ℕ = w / 2 ^ t in let o : ℕ = trailing_ones w32 v in
     let lowest = bit_at-trailing_zeros w32 w some fits in
-    let less : v < 2 ^ 32 = omega (arith, div-le_self w (2 ^ t), fits) in
-    let ones = lowest-ones v less in
+    let ones = lowest-ones v (omega (arith, div-le_self w (2 ^ t), fits)) in
     let first : bit_at v 0 ≡ 1 = (rw (add-zero t) at (shifted-bit w t 0)) ∙ lowest.1 in
-    let one : o ≡ 0 → ⊥ = λ none.
-    let unset : bit_at v 0 ≡ 0 = ap (bit_at v) (sym none) ∙ ones.1 in
-    omega (arith, first, unset) in
+    let one : o ≡ 0 → ⊥ = λ none. omega (arith, first, ap (bit_at v) (sym none) ∙ ones.1) in
     let row : (j : ℕ) → t ≤ j → j < t + o → bit_at w j ≡ 1 = λ j le lt.
     let here : j ≡ t + (j - t) = omega (arith, le) in
-    ap (bit_at w) here ∙ sym (shifted-bit w t (j - t)) ∙ ones.0 (j - t) (omega (arith, le, lt)) in
-    record {
+    ap (bit_at w) here ∙ sym (shifted-bit w t (j - t)) ∙ ones.0 (j - t) (omega (arith, le, lt)) in record {
       some = omega (arith, one);
       few =
           let above : bit_at w 32 ≡ 0 = bit_at_above w 32 32 fits (omega arith) in
@@ -226,10 +212,9 @@ module _ (n : ℤ) (vs : List ℤ) (w k : ℕ) (fits : w < 2 ^ 32) (some : 0 < w
 
   -- its days are in a row
   in_a_row : AreInARow (block_start n +ℤ pos t) last (block_days (n, (run, vs)))
-  in_a_row =
-      let lowest = bit_at-trailing_zeros w32 w some fits in
-      row-behind n vs run t k ends.some ends.few
-      (λ j lt. first-in n vs w k ends.few j (omega (arith, lt, ends.some)) ∙ lowest.2 j lt)
+  in_a_row = row-behind n vs run t k ends.some ends.few
+      (λ j lt. first-in n vs w k ends.few j (omega (arith, lt, ends.some))
+      ∙ (bit_at-trailing_zeros w32 w some fits).2 j lt)
       (λ j at under. first-in n vs w k ends.few j under ∙ ends.row j at under)
       (λ j more. first-out n vs w k ends.few j more)
 
@@ -242,10 +227,8 @@ module _ (n : ℤ) (vs : List ℤ) (w k : ℕ) (fits : w < 2 ^ 32) (some : 0 < w
     row = in_a_row;
     parts = both-parts n vs w k ends.few;
     apart = each-day (λ (d : ℤ). (last +ℤ pos 1) <ℤ d) n vs (bit_and w (2 ^ 32 - 2 ^ k)) (λ j lt set.
-        let more = later-bit w k j set in
-        let other : j ≢ k = λ same.
-        let none : bit_at w j ≡ 0 = ap (bit_at w) same ∙ ends.ends in
-        omega (arith, bit_at_and w (2 ^ 32 - 2 ^ k) j, none, set) in
+        let other : j ≢ k =
+        λ same. omega (arith, bit_at_and w (2 ^ 32 - 2 ^ k) j, ap (bit_at w) same ∙ ends.ends, set) in
         let under = ends.some in
-        omega (arith, ints, more, other, under));
+        omega (arith, ints, later-bit w k j set, other, under));
   }

@@ -1,8 +1,6 @@
 -- Worked examples of runs of days, by computation.
-use Rattle.std.proofs.Common.{◌≡◌, List, [], ◌∷◌, map, refl, arith, pos}
-use Rattle.std.proofs.lemmas.Int.{ints}
-use Rattle.ghcn_series.specs.Meaning.Series.{DayValue}
-use Rattle.ghcn_series.specs.Packed.{run_count, TakesToLastRun}
+use Rattle.ghcn_series.proofs.Cited.{◌≡◌, List, [], ◌∷◌, map, refl, arith, pos, ints, DayValue, run_count}
+use Rattle.ghcn_series.proofs.Cited.{TakesToLastRun}
 
 -- a run of two days, one of a single day, and one of three
 abbrev first_days : List DayValue

@@ -1,42 +1,23 @@
 -- If no line has an error, the facts of listed stations that daily files say are those of the months that are read.
-use Rattle.std.proofs.Common.{◌≡◌, ◌↔◌, ◌⊎◌, inl, inr, ℕ, ◌+◌, ◌*◌, Bool, true, false, true≢false, not, List, [], ◌++◌}
-use Rattle.std.proofs.Common.{map, Option, None, Some, Ok, refl, sym, ap, ap₂, ◌∙◌, subst, arith, ℤ, pos, ◌≤ℤ◌, ◌≤◌}
-use Rattle.std.specs.Prelude.{◌||◌, ◌-◌, get_or, int_le, unsigned_abs}
-use Rattle.std.specs.List.{AllByRecursion, Contains, enumerate_from, flat_map, range_with_len}
-use Rattle.std.specs.Option.{is_some, option_map}
-use Rattle.std.proofs.lemmas.Bool.{and_from, and_parts, cases_Bool, not-false, not-true}
+use Rattle.ghcn_series.proofs.Cited.{◌≡◌, ◌↔◌, ◌⊎◌, inl, inr, ℕ, ◌+◌, ◌*◌, Bool, true, false, not, List, [], ◌++◌, map}
+use Rattle.ghcn_series.proofs.Cited.{Option, None, Some, Ok, refl, sym, ap, ap₂, ◌∙◌, subst, arith, ℤ, pos, ◌≤ℤ◌, ◌≤◌}
+use Rattle.ghcn_series.proofs.Cited.{◌||◌, ◌-◌, get_or, int_le, unsigned_abs, AllByRecursion, Contains, enumerate_from}
+use Rattle.ghcn_series.proofs.Cited.{flat_map, range_with_len, is_some, option_map, and_from, and_parts, cases_Bool}
+use Rattle.ghcn_series.proofs.Cited.{not-false, not-true, ints, same_Some, days_in_month_bounds, Field, Number}
+use Rattle.ghcn_series.proofs.Cited.{is_blank, same_bytes, day_number, columns, lines, is_bad, Element, LineWhy, Month}
+use Rattle.ghcn_series.proofs.Cited.{Reading, Station, StationId, code_of, may_be_negative, elements, element_of}
+use Rattle.ghcn_series.proofs.Cited.{days_of_group, month_of, month_why, reading, number_of, unless_missing, FileLine}
+use Rattle.ghcn_series.proofs.Cited.{daily_fault, daily_lines, is_listed, IsSaid, facts_said, month_said, months_said}
+use Rattle.ghcn_series.proofs.Cited.{Fact, data_of, fact_of, facts_of, is_usable, Data}
+use Rattle.std.proofs.Common.{true≢false}
 use Rattle.std.proofs.lemmas.Bool.Decides.{Decides-or, Decides-eqb}
-use Rattle.std.proofs.lemmas.Int.{ints}
 use Rattle.std.proofs.lemmas.List.Elements.{Contains-get_or}
 use Rattle.std.proofs.lemmas.List.FromFn.{get_or-range_with_len, length-range_with_len}
-use Rattle.std.proofs.lemmas.Option.{same_Some}
 use Rattle.std.proofs.lemmas.Slice.Eq.{slice_eq-Decides}
-use Rattle.jiff_core.proofs.CalendarLemmas.{days_in_month_bounds}
-use Rattle.ghcn_fields.specs.declared.field.Field.{Field}
-use Rattle.ghcn_fields.specs.declared.field.Field.TheVariants.{Number}
-use Rattle.ghcn_fields.specs.Meaning.Bytes.{is_blank, same_bytes}
-use Rattle.ghcn_fields.specs.Days.{day_number}
-use Rattle.ghcn_fields.specs.Meaning.Lines.{columns, lines}
-use Rattle.ghcn_fields.specs.Numbers.{is_bad}
 use Rattle.ghcn_fields.proofs.FieldNumbers.{int_field-number}
 use Rattle.ghcn_fields.proofs.WholeDays.{day_number-law}
-use Rattle.ghcn_files.specs.declared.element.Element.{Element}
-use Rattle.ghcn_files.specs.declared.fault.LineWhy.{LineWhy}
-use Rattle.ghcn_files.specs.declared.month.Month.{Month}
-use Rattle.ghcn_files.specs.declared.month.Reading.{Reading}
-use Rattle.ghcn_files.specs.declared.station.Station.{Station}
-use Rattle.ghcn_files.specs.declared.station.StationId.{StationId}
-use Rattle.ghcn_files.specs.Meaning.Elements.{code_of, may_be_negative, elements}
-use Rattle.ghcn_files.specs.Elements.{element_of}
-use Rattle.ghcn_files.specs.Months.{days_of_group, is_flagged, month_field, month_head_tests, month_of, month_why}
-use Rattle.ghcn_files.specs.Months.{reading, value_field, value_test, year_field}
-use Rattle.ghcn_files.specs.StationLines.{number_of, unless_missing}
-use Rattle.ghcn_series.specs.DailyFaults.{FileLine, daily_fault, daily_lines, is_listed}
-use Rattle.ghcn_series.specs.Meaning.Said.{IsSaid, SaysFact}
-use Rattle.ghcn_series.specs.SaidLists.{facts_said, month_said, months_said}
-use Rattle.ghcn_series.specs.Meaning.Says.{Fact}
-use Rattle.ghcn_series.specs.Says.{data_of, fact_of, facts_of, is_usable}
-use Rattle.ghcn_series.specs.Series.{Data}
+use Rattle.ghcn_files.specs.Months.{is_flagged, month_field, month_head_tests, value_field, value_test, year_field}
+use Rattle.ghcn_series.specs.Meaning.Said.{SaysFact}
 use Rattle.ghcn_series.proofs.CountedLines.{blank_line}
 use Rattle.ghcn_series.proofs.FactsOfMonths.{fact_parts}
 use Rattle.ghcn_series.proofs.Members.{In, all_in, contains-in, in-contains, in_all, in_kept, in_made, in_map, kept_in}
@@ -49,8 +30,7 @@ use Rattle.ghcn_series.proofs.SaidNumbers.{int-value, int_field-has, positive-is
 
 -- the element of a code has it
 code-of : (bytes : List ℕ) (e : Element) → element_of bytes ≡ Some e → code_of e ≡ bytes
-code-of bytes e found =
-    (slice_eq-Decides Decides-eqb (code_of e) bytes (same_bytes (code_of e) bytes) refl).0
+code-of bytes e found = (slice_eq-Decides Decides-eqb (code_of e) bytes (same_bytes (code_of e) bytes) refl).0
     (found_in (λ e. same_bytes (code_of e) bytes) elements e found).1
 
 -- an element is found by its code
@@ -60,8 +40,7 @@ of-code e = grind arith
 -- ---- the days of a month
 
 -- what is made of the days of a line is numbered by them
-numbered_days : {X : Type 0} (f : ℕ → X)
-    → enumerate_from 1 (map f days_of_group) ≡ map (λ j. (j, f j)) days_of_group
+numbered_days : {X : Type 0} (f : ℕ → X) → enumerate_from 1 (map f days_of_group) ≡ map (λ j. (j, f j)) days_of_group
 unfolding days_of_group
 numbered_days f = refl
 
@@ -88,8 +67,7 @@ module _ (e : Element) (line : List ℕ) (code : code_of e ≡ columns 18 21 lin
 
   -- so no value of its days is bad
   good : (j : ℕ) → In days_of_group j → is_bad (value_field line j) ≡ false
-  good j h =
-      not-true (is_bad (value_field line j))
+  good j h = not-true (is_bad (value_field line j))
       (of_one (λ (t : Bool × LineWhy). t.0 ≡ true) (map (value_test line) days_of_group) (value_test line j)
       fine.1.1.1.1.1 (in_map (value_test line) days_of_group j h))
 
@@ -114,8 +92,7 @@ module _ (e : Element) (line : List ℕ) (code : code_of e ≡ columns 18 21 lin
       let parts = fact_parts m (is_flagged line j) (day_number m.year m.month j) (unless_missing (value_field line j)) f
       (ap (fact_of m) at.2 ∙ found.2) in
       let day = (day_number-law m.year m.month j f.day).0 parts.1 in
-      let value = (int-value (columns (14 + 8 * j) (18 + 8 * j) line) f.value (good j at.1)).0 parts.2 in
-      record {
+      let value = (int-value (columns (14 + 8 * j) (18 + 8 * j) line) f.value (good j at.1)).0 parts.2 in record {
         id = ap (λ (i : StationId). i.0) parts.3;
         element = ap code_of parts.4 ∙ code;
         in_calendar = day.0;
@@ -131,8 +108,7 @@ module _ (e : Element) (line : List ℕ) (code : code_of e ≡ columns 18 21 lin
   -- a fact that is said is read
   says_fact : (f : Fact) → f.element ≡ e → SaysFact line f → In (facts_of m) f
   says_fact f of_element says =
-      let date : ℕ × ℕ × ℕ = says.date in
-      let j : ℕ = date.2 in
+      let date : ℕ × ℕ × ℕ = says.date in let j : ℕ = date.2 in
       let year : m.year ≡ date.0 = ap (λ (x : Field). unsigned_abs (number_of x))
       (int_field-has (columns 12 15 line) (pos date.0) says.year (ap is_bad year_is)) in
       let month : m.month ≡ date.1 = ap (λ (x : Field). unsigned_abs (number_of x))
@@ -159,10 +135,8 @@ module _ (e : Element) (line : List ℕ) (code : code_of e ≡ columns 18 21 lin
 -- ---- the facts of files
 
 -- a value that its element can have
-counts-is : (negative : Bool) (v : ℤ)
-    → ((negative || int_le (pos 0) v) ≡ true) ↔ ((negative ≡ true) ⊎ (pos 0 ≤ℤ v))
-counts-is negative v =
-    Decides-or {P = negative ≡ true} {Q = pos 0 ≤ℤ v} negative (int_le (pos 0) v) (λ e. e, λ e. e)
+counts-is : (negative : Bool) (v : ℤ) → ((negative || int_le (pos 0) v) ≡ true) ↔ ((negative ≡ true) ⊎ (pos 0 ≤ℤ v))
+counts-is negative v = Decides-or {P = negative ≡ true} {Q = pos 0 ≤ℤ v} negative (int_le (pos 0) v) (λ e. e, λ e. e)
     (λ e. grind (arith, ints), λ le. grind (arith, ints))
 
 -- the element and the month of a line that says one
@@ -182,8 +156,7 @@ module _ (stations : List Station) (files : List (List ℕ)) (held : Data)
       (no_fault stations files held is)) in
       elim (cases_Bool (is_blank line)) [
         | inl blank ↦ λ e named. absurd (true≢false (sym (ap is_some named) ∙ blank_line line blank))
-        | inr some ↦
-            of_one IsFineLine (shown (flat_map lines files)) line all
+        | inr some ↦ of_one IsFineLine (shown (flat_map lines files)) line all
             (in_kept (λ (l : List ℕ). not (is_blank l)) (flat_map lines files) line h (ap not some))
       ]
 
@@ -197,14 +170,10 @@ module _ (stations : List Station) (files : List (List ℕ)) (held : Data)
       (line.0, parts.0, line.1, parts.1, parts.2, line_fine line.0 line.1 parts.0 parts.1)
 
   -- the facts of listed stations that count are those that the files say: one that is read is said, and back
-  pub facts-said : (f : Fact) → is_listed stations f.id ≡ true
-      → Contains (facts_said stations files) f ↔ IsSaid files f
+  pub facts-said : (f : Fact) → is_listed stations f.id ≡ true → Contains (facts_said stations files) f ↔ IsSaid files f
   facts-said f listed = (
-    λ h.
-        let kept = kept_in (is_usable stations) (flat_map facts_of (months_said files)) f (contains-in _ f h) in
-        let month = all_in facts_of (months_said files) f kept.0 in
-        let at = month_line month.0 month.1 in
-        record {
+    λ h. let kept = kept_in (is_usable stations) (flat_map facts_of (months_said files)) f (contains-in _ f h) in
+        let month = all_in facts_of (months_said files) f kept.0 in let at = month_line month.0 month.1 in record {
           line = at.0;
           among = in-contains (flat_map lines files) at.0 at.2;
           says = fact_says at.1 at.0 (code-of (columns 18 21 at.0) at.1 at.3) at.5 f
@@ -212,9 +181,7 @@ module _ (stations : List Station) (files : List (List ℕ)) (held : Data)
           counts = (counts-is (may_be_negative f.element) f.value).0
               (and_parts (is_listed stations f.id) (may_be_negative f.element || int_le (pos 0) f.value) kept.1).1;
         },
-    λ said.
-        let line : List ℕ = said.line in
-        let e : Element = f.element in
+    λ said. let line : List ℕ = said.line in let e : Element = f.element in
         let there = contains-in (flat_map lines files) line said.among in
         let named : element_of (columns 18 21 line) ≡ Some e = ap element_of (sym said.says.element) ∙ of-code e in
         let read = says_fact e line said.says.element (line_fine line there e named) f refl said.says in

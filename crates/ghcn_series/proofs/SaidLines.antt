@@ -1,36 +1,22 @@
 -- If no line has an error, a station list and daily files hold what their lines say.
-use Rattle.std.proofs.Common.{◌≡◌, ℕ, ◌+◌, Bool, true, false, cond, not, List, [], ◌∷◌, ◌++◌, map, filter, length}
-use Rattle.std.proofs.Common.{Option, None, Some, Ok, Err, refl, sym, ap, ap₂, ◌∙◌, subst, arith, append_assoc}
-use Rattle.std.specs.Prelude.{nat_lt, nat_le, ◌^◌}
-use Rattle.std.specs.List.{AllByRecursion, filter_map, flat_map, cons_option, enumerate_from}
-use Rattle.std.specs.Option.{option_or, option_map, is_some}
-use Rattle.std.proofs.lemmas.List.{append-nil, map-append}
-use Rattle.std.proofs.lemmas.List.Elements.{filter-append}
-use Rattle.std.proofs.lemmas.Simd.{map-map}
-use Rattle.ghcn_fields.specs.Faults.{first_failing, first_fault, first_fault_after}
-use Rattle.ghcn_fields.specs.Meaning.Bytes.{is_blank}
-use Rattle.ghcn_fields.specs.Meaning.Lines.{columns, lines}
-use Rattle.ghcn_files.specs.declared.element.Element.{Element}
-use Rattle.ghcn_files.specs.declared.fault.LineWhy.TheVariants.{Short}
+use Rattle.ghcn_series.proofs.Cited.{◌≡◌, ℕ, ◌+◌, Bool, true, false, cond, not, List, [], ◌∷◌, ◌++◌, map, filter}
+use Rattle.ghcn_series.proofs.Cited.{length, Option, None, Some, Ok, Err, refl, sym, ap, ap₂, ◌∙◌, subst, arith}
+use Rattle.ghcn_series.proofs.Cited.{append_assoc, nat_lt, nat_le, ◌^◌, AllByRecursion, filter_map, flat_map}
+use Rattle.ghcn_series.proofs.Cited.{cons_option, enumerate_from, option_or, option_map, is_some, append-nil}
+use Rattle.ghcn_series.proofs.Cited.{map-append, filter-append, map-map, first_fault, is_blank, columns, lines, Element}
+use Rattle.ghcn_series.proofs.Cited.{Short, Month, Station, element_of, Numbered, is_repeated, listed, station_fault}
+use Rattle.ghcn_series.proofs.Cited.{station_lines, stations_of, read_month, month_if, month_of, month_why, id_of}
+use Rattle.ghcn_series.proofs.Cited.{line_why, station_of, DataFault, DailyLine, TooManyFiles, FileLine, file_line}
+use Rattle.ghcn_series.proofs.Cited.{file_lines, daily_lines, month_on, month_if_ok, daily_fault, daily_why, line_texts}
+use Rattle.ghcn_series.proofs.Cited.{stations_said, month_said, months_said, contents, contents_unless, data_of}
+use Rattle.ghcn_series.proofs.Cited.{Data}
+use Rattle.ghcn_fields.specs.Faults.{first_failing, first_fault_after}
 use Rattle.ghcn_files.specs.declared.fault.StationWhy.TheVariants.{Duplicate}
 use Rattle.ghcn_files.specs.declared.fault.StationsFault.{StationsFault}
 use Rattle.ghcn_files.specs.declared.fault.StationsFault.TheVariants.{StationLine, TooManyStations}
-use Rattle.ghcn_files.specs.declared.month.Month.{Month}
-use Rattle.ghcn_files.specs.declared.station.Station.{Station}
-use Rattle.ghcn_files.specs.Elements.{element_of}
-use Rattle.ghcn_files.specs.Listed.{Numbered, is_repeated, listed, listed_unless, station_fault, station_lines}
-use Rattle.ghcn_files.specs.Listed.{stations_of}
-use Rattle.ghcn_files.specs.Months.{read_month, month_if, month_of, month_why}
-use Rattle.ghcn_files.specs.StationLines.{id_of, line_why, station_of}
+use Rattle.ghcn_files.specs.Listed.{listed_unless}
 use Rattle.ghcn_files.proofs.Months.{unless_ok}
-use Rattle.ghcn_series.specs.declared.fault.DataFault.{DataFault}
-use Rattle.ghcn_series.specs.declared.fault.DataFault.TheVariants.{DailyLine, TooManyFiles}
-use Rattle.ghcn_series.specs.DailyFaults.{FileLine, file_line, file_lines, daily_lines, month_on, month_if_ok}
-use Rattle.ghcn_series.specs.DailyFaults.{daily_fault, daily_why}
-use Rattle.ghcn_series.specs.LinesRead.{line_texts}
-use Rattle.ghcn_series.specs.SaidLists.{stations_said, month_said, months_said, said_by}
-use Rattle.ghcn_series.specs.Says.{contents, contents_unless, data_of}
-use Rattle.ghcn_series.specs.Series.{Data}
+use Rattle.ghcn_series.specs.SaidLists.{said_by}
 use Rattle.ghcn_series.proofs.CountedLines.{blank_line}
 use Rattle.ghcn_series.proofs.JoinedFiles.{data-held}
 
@@ -52,8 +38,7 @@ said_of false (Some x) line m is =
 -- a line without an error is read as what it says, and fails no test if it is of an element
 pub on_said : (stations : List Station) (earlier : List FileLine) (l : FileLine)
     → daily_fault stations earlier l ≡ None → (month_on l ≡ month_said l.bytes) × IsFineLine l.bytes
-on_said stations earlier l none =
-    elim (read_month l.bytes) as (λ r. read_month l.bytes ≡ r
+on_said stations earlier l none = elim (read_month l.bytes) as (λ r. read_month l.bytes ≡ r
     → option_map (λ why. DailyLine l.file l.line why) (daily_why stations earlier r) ≡ None
     → (month_if_ok r ≡ month_said l.bytes) × IsFineLine l.bytes) [
       | Ok m ↦ λ is e. said_of (nat_lt (length l.bytes) 21) (element_of (columns 18 21 l.bytes)) l.bytes m is
@@ -66,8 +51,7 @@ no_month e f none = grind arith
 
 -- a blank line says nothing
 blank_said : (line : List ℕ) → is_blank line ≡ true → month_said line ≡ None
-blank_said line blank =
-    no_month (element_of (columns 18 21 line)) (λ x. month_of x line) (blank_line line blank)
+blank_said line blank = no_month (element_of (columns 18 21 line)) (λ x. month_of x line) (blank_line line blank)
 
 -- ---- lines in turn
 
@@ -129,8 +113,7 @@ files-shown n (file ∷ files) =
     map-append (λ (l : FileLine). l.bytes) (file_lines (n, file)) (flat_map file_lines (enumerate_from (n + 1) files))
     ∙ ap₂ (λ (xs ys : List (List ℕ)). xs ++ ys)
     (map-map (λ (l : FileLine). l.bytes) (file_line n) (numbered 1 (lines file))
-    ∙ numbered-kept (λ (l : List ℕ). not (is_blank l)) 1 (lines file))
-    (files-shown (n + 1) files)
+    ∙ numbered-kept (λ (l : List ℕ). not (is_blank l)) 1 (lines file)) (files-shown (n + 1) files)
     ∙ sym (filter-append (λ (l : List ℕ). not (is_blank l)) (lines file) (flat_map lines files))
 
 -- of what nothing is made it makes no difference whether it is there
@@ -157,8 +140,7 @@ no_fault stations files held is =
 pub months-are : (stations : List Station) (files : List (List ℕ))
     → first_fault (daily_fault stations) (daily_lines files) ≡ None
     → filter_map month_on (daily_lines files) ≡ months_said files
-months-are stations files none =
-    lines_said stations [] (daily_lines files) none
+months-are stations files none = lines_said stations [] (daily_lines files) none
     ∙ ap (filter_map month_said) (files-shown 1 files) ∙ left_out month_said is_blank blank_said (flat_map lines files)
 
 -- files without an error hold what they say
@@ -190,8 +172,7 @@ met_tests o f a b again room e = grind arith
 
 -- a line of a station that isn't refused has no error by itself, repeats none, and there is room for it
 pub own_tests : (earlier : List Numbered) (l : Numbered) → station_fault earlier l ≡ None
-    → (line_why l.1 ≡ None) × (is_repeated earlier (id_of l.1) ≡ false)
-    × (nat_lt (length earlier) (2 ^ 20) ≡ true)
+    → (line_why l.1 ≡ None) × (is_repeated earlier (id_of l.1) ≡ false) × (nat_lt (length earlier) (2 ^ 20) ≡ true)
 own_tests earlier l none =
     met_tests (line_why l.1) (λ why. StationLine l.0 why) Duplicate TooManyStations (is_repeated earlier (id_of l.1))
     (nat_lt (length earlier) (2 ^ 20)) none

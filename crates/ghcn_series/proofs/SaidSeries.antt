@@ -1,38 +1,14 @@
 -- The series of a listed station and an element in what files hold is the one that the facts of the files make.
-use Rattle.std.proofs.Common.{◌≡◌, ℕ, Bool, true, false, List, length, filter, Some, Ok, refl, sym, ap, ◌∙◌, subst}
-use Rattle.std.proofs.Common.{arith, ℤ, cond, [], ◌∷◌, ◌++◌, Option, None, Result, Err, inl, inr, ap₂}
-use Rattle.std.specs.Prelude.{◌↔◌, ◌==◌, ◌&&◌}
-use Rattle.std.specs.List.{Contains, IsDistinct, filter_map, list_any, cons_option}
-use Rattle.std.specs.Map.{keys_of}
-use Rattle.std.specs.Ordering.{int_eq}
-use Rattle.std.specs.Option.{option_map}
-use Rattle.std.proofs.lemmas.Bool.{and_parts, and_from, eq-eqb, eqb-false, ne_eqb, cases_Bool}
-use Rattle.std.proofs.lemmas.List.Sorted.{Contains-permutation, IsPermutation-sym}
-use Rattle.std.proofs.lemmas.List.{append-nil}
-use Rattle.std.proofs.lemmas.List.Elements.{filter_map-append}
-use Rattle.ghcn_fields.specs.Sorting.{sorted_by}
-use Rattle.ghcn_files.specs.declared.station.StationId.{StationId}
-use Rattle.ghcn_files.specs.declared.station.Station.{Station}
-use Rattle.ghcn_files.specs.declared.element.Element.{Element}
-use Rattle.ghcn_files.specs.Meaning.Ids.{same_id}
-use Rattle.ghcn_files.specs.Elements.{same_element, element_index}
-use Rattle.ghcn_files.specs.declared.fault.LineWhy.{LineWhy}
-use Rattle.ghcn_files.specs.declared.month.Month.{Month}
-use Rattle.ghcn_files.specs.Months.{read_month}
-use Rattle.ghcn_files.proofs.Ordered.{sorted-permutation}
-use Rattle.ghcn_files.proofs.IdLaws.{same_id-is}
-use Rattle.ghcn_series.specs.DailyFaults.{is_listed, FileLine, daily_lines, month_on, month_if_ok, daily_fault, repeats}
-use Rattle.ghcn_series.specs.DailyFaults.{same_month}
-use Rattle.ghcn_series.specs.Meaning.Said.{IsMadeOf, IsSaid}
-use Rattle.ghcn_series.specs.SaidLists.{facts_said, months_said}
-use Rattle.ghcn_series.specs.Meaning.Says.{Fact}
-use Rattle.ghcn_series.specs.Says.{data_of}
-use Rattle.ghcn_series.specs.Meaning.Series.{DayValue, Series}
-use Rattle.ghcn_series.specs.Series.{Data, by_day, series_of}
-use Rattle.ghcn_series.specs.declared.fault.DailyWhy.TheVariants.{DuplicateMonth}
-use Rattle.ghcn_series.specs.declared.fault.DataFault.TheVariants.{DailyLine}
-use Rattle.ghcn_series.specs.Gathered.{same_time, months_of}
-use Rattle.ghcn_series.specs.JoinedFiles.{HaveData}
+use Rattle.ghcn_series.proofs.Cited.{◌≡◌, ℕ, Bool, true, false, List, length, filter, Some, Ok, refl, sym, ap, ◌∙◌}
+use Rattle.ghcn_series.proofs.Cited.{subst, arith, ℤ, cond, [], ◌∷◌, ◌++◌, Option, None, Result, Err, inl, inr, ap₂}
+use Rattle.ghcn_series.proofs.Cited.{◌↔◌, ◌==◌, ◌&&◌, Contains, IsDistinct, filter_map, list_any, cons_option, keys_of}
+use Rattle.ghcn_series.proofs.Cited.{int_eq, option_map, and_parts, and_from, eq-eqb, eqb-false, ne_eqb, cases_Bool}
+use Rattle.ghcn_series.proofs.Cited.{Contains-permutation, IsPermutation-sym, append-nil, filter_map-append, sorted_by}
+use Rattle.ghcn_series.proofs.Cited.{StationId, Station, Element, same_id, same_element, element_index, LineWhy, Month}
+use Rattle.ghcn_series.proofs.Cited.{read_month, sorted-permutation, same_id-is, is_listed, FileLine, daily_lines}
+use Rattle.ghcn_series.proofs.Cited.{month_on, month_if_ok, daily_fault, repeats, same_month, IsMadeOf, IsSaid}
+use Rattle.ghcn_series.proofs.Cited.{facts_said, months_said, Fact, data_of, DayValue, Series, Data, by_day}
+use Rattle.ghcn_series.proofs.Cited.{series_of, DuplicateMonth, DailyLine, same_time, months_of, HaveData}
 use Rattle.ghcn_series.proofs.RisingDays.{keys-rise}
 use Rattle.ghcn_series.proofs.AllSeries.{same_element-is}
 use Rattle.ghcn_series.proofs.ApartParts.{rising-distinct}
@@ -77,20 +53,18 @@ module _ (stations : List Station) where
     -- months of different times and one more that repeats none, if it belongs to a listed station
     apart_with : (before : List Month) (m : Month) → AreApart before
         → (is_listed stations m.id ≡ true → list_any (same_month m) before ≡ false) → AreApart (before ++ m ∷ [])
-    apart_with before m apart fresh =
-        elim (cases_Bool (same_id m.id id && same_element m.element e)) [
-          | inl this ↦
-              let both = and_parts (same_id m.id id) (same_element m.element e) this in
-              let of_station : m.id ≡ id = same_id-is m.id id both.0 in
-              let of_element : m.element ≡ e = same_element-is m.element e both.1 in
-              let none : list_any (same_time m) (months_of before id e) ≡ false =
-              ap₂ (λ (i : StationId) (f : Element). list_any (same_time m) (months_of before i f)) (sym of_station)
-              (sym of_element)
-              ∙ sym (repeats-is before m) ∙ fresh (ap (is_listed stations) of_station ∙ listed) in
-              subst (IsDistinct same_time) (sym (months_of-this before m id e this))
-              (distinct-more m (months_of before id e) apart none)
-          | inr other ↦ subst (IsDistinct same_time) (sym (months_of-other before m id e other)) apart
-        ]
+    apart_with before m apart fresh = elim (cases_Bool (same_id m.id id && same_element m.element e)) [
+      | inl this ↦
+          let both = and_parts (same_id m.id id) (same_element m.element e) this in
+          let of_station : m.id ≡ id = same_id-is m.id id both.0 in
+          let of_element : m.element ≡ e = same_element-is m.element e both.1 in
+          let none : list_any (same_time m) (months_of before id e) ≡ false =
+          ap₂ (λ (i : StationId) (f : Element). list_any (same_time m) (months_of before i f)) (sym of_station)
+          (sym of_element) ∙ sym (repeats-is before m) ∙ fresh (ap (is_listed stations) of_station ∙ listed) in
+          subst (IsDistinct same_time) (sym (months_of-this before m id e this))
+          (distinct-more m (months_of before id e) apart none)
+      | inr other ↦ subst (IsDistinct same_time) (sym (months_of-other before m id e other)) apart
+    ]
 
     -- months of different times and what one more line without an error says
     apart_more : (earlier : List FileLine) (l : FileLine) → daily_fault stations earlier l ≡ None
@@ -137,16 +111,14 @@ module _ (id : StationId) (e : Element) where
       → ◌≡◌ {A = DayValue} (f.day, f.value) (day, value) → f ≡ fact_on day value
   fact-is f day value of is =
       let both = and_parts (same_id f.id id) (same_element f.element e) of in
-      let of_station : f.id ≡ id = same_id-is f.id id both.0 in
       let of_element : f.element ≡ e = same_element-is f.element e both.1 in
-      λ i. record { id = of_station i; element = of_element i; day = (is i).0; value = (is i).1 }
+      λ i. record { id = same_id-is f.id id both.0 i; element = of_element i; day = (is i).0; value = (is i).1 }
 
   -- a day is said by a fact
   day-said : (facts : List Fact) (day value : ℤ)
       → Contains (days_said facts id e) (day, value) ↔ Contains facts (fact_on day value)
   day-said facts day value = (
-    λ h.
-        let made = map_in (λ f. (f.day, f.value)) (filter is_theirs facts) (day, value)
+    λ h. let made = map_in (λ f. (f.day, f.value)) (filter is_theirs facts) (day, value)
         (contains-in _ (day, value) h) in
         let kept = kept_in is_theirs facts made.0 made.1 in
         in-contains facts (fact_on day value) (subst (In facts) (fact-is made.0 day value kept.1 made.2) kept.0),
@@ -182,8 +154,7 @@ module _ (facts : List Fact) (IsFact : Fact → Type 0) (id : StationId) (e : El
   -- a series that has a day is made of the facts of its station and element
   made-from : (s : Series) → if_it_has_days (series_made facts id e) ≡ Some s → IsMadeOf IsFact s
   made-from s is =
-      let made : Series = series_made facts id e in
-      let found = unless_so (length made.days == 0) made s is in
+      let made : Series = series_made facts id e in let found = unless_so (length made.days == 0) made s is in
       subst (IsMadeOf IsFact) found.1 (record {
         some = omega (arith, eqb-false (length made.days) 0 found.0);
         are = made-are;
@@ -196,8 +167,7 @@ module _ (facts : List Fact) (IsFact : Fact → Type 0) (id : StationId) (e : El
   made-found days made =
       let rise = keys-rise days made.by_day in
       let same : days ≡ sorted_by by_day xs =
-      sorted-are xs days distinct rise
-      (same-values days xs (rising-distinct days rise) distinct
+      sorted-are xs days distinct rise (same-values days xs (rising-distinct days rise) distinct
       (λ day value. let of = said-are day value in through (made.are day value) (of.1, of.0))) in
       let some : (length days == 0) ≡ false = ne_eqb (length days) 0 (λ z. let more = made.some in omega arith) in
       ap (λ (l : List DayValue). if_it_has_days (record { id = id; element = e; days = l })) (sym same) ∙ rw some refl

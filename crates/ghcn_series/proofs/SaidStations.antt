@@ -1,25 +1,14 @@
 -- A station list without an error says the stations that are read of it, and no others.
-use Rattle.std.proofs.Common.{◌≡◌, ◌↔◌, ℕ, Bool, true, false, not, List, [], ◌∷◌, length, map, None, Ok}
-use Rattle.std.proofs.Common.{refl, sym, ap, ap₂, ◌∙◌, subst, pos}
-use Rattle.std.specs.Prelude.{nat_le, neg_ℤ}
-use Rattle.std.specs.List.{AllByRecursion, AllZip}
-use Rattle.std.proofs.lemmas.Bool.{not-true}
-use Rattle.ghcn_fields.specs.declared.field.Field.TheVariants.{Number}
-use Rattle.ghcn_fields.specs.Meaning.Bytes.{is_blank}
-use Rattle.ghcn_fields.specs.Faults.{first_fault}
-use Rattle.ghcn_fields.specs.Meaning.Lines.{columns, lines}
-use Rattle.ghcn_fields.specs.Numbers.{is_bad}
-use Rattle.ghcn_fields.proofs.FieldNumbers.{scaled_field-number}
+use Rattle.ghcn_series.proofs.Cited.{◌≡◌, ◌↔◌, ℕ, Bool, true, false, not, List, [], ◌∷◌, length, map, None, Ok, refl}
+use Rattle.ghcn_series.proofs.Cited.{sym, ap, ap₂, ◌∙◌, subst, pos, nat_le, neg_ℤ, AllByRecursion, AllZip, not-true}
+use Rattle.ghcn_series.proofs.Cited.{Number, is_blank, first_fault, columns, lines, is_bad, scaled_field-number}
+use Rattle.ghcn_series.proofs.Cited.{Station, is_id, Numbered, listed, station_fault, station_lines, line_why}
+use Rattle.ghcn_series.proofs.Cited.{number_of, station_of, unless_missing, SaysStations, stations_said}
 use Rattle.ghcn_files.specs.declared.fault.StationWhy.{StationWhy}
 use Rattle.ghcn_files.specs.declared.fault.StationWhy.TheVariants.{Short, BadId, BadLatitude, BadLongitude}
 use Rattle.ghcn_files.specs.declared.fault.StationWhy.TheVariants.{BadElevation}
-use Rattle.ghcn_files.specs.declared.station.Station.{Station}
-use Rattle.ghcn_files.specs.Ids.{is_id}
-use Rattle.ghcn_files.specs.Listed.{Numbered, listed, station_fault, station_lines}
-use Rattle.ghcn_files.specs.StationLines.{elevation, is_latitude, is_longitude, latitude, line_why}
-use Rattle.ghcn_files.specs.StationLines.{longitude, number_of, station_of, unless_missing}
-use Rattle.ghcn_series.specs.Meaning.Said.{SaysStation, SaysStations}
-use Rattle.ghcn_series.specs.SaidLists.{stations_said}
+use Rattle.ghcn_files.specs.StationLines.{elevation, is_latitude, is_longitude, latitude, longitude}
+use Rattle.ghcn_series.specs.Meaning.Said.{SaysStation}
 use Rattle.ghcn_series.proofs.SaidLines.{all_met, are_listed, each_after, listed-said, numbered-kept, own_tests, shown}
 use Rattle.ghcn_series.proofs.SaidNumbers.{same_option, scaled_field-has, scaled-value, within-is}
 
@@ -65,8 +54,7 @@ module _ (line : List ℕ) (none : line_why line ≡ None) where
       let high : s.elevation ≡ unless_missing (elevation line) =
       same_option s.elevation (unless_missing (elevation line))
       (λ v e. (said-of.elevation v).1 ((says.elevation v).0 e))
-      (λ v e. (says.elevation v).1 ((said-of.elevation v).0 e)) in
-      λ i. record {
+      (λ v e. (says.elevation v).1 ((said-of.elevation v).0 e)) in λ i. record {
         id = record { 0 = says.id i };
         latitude = sym (ap number_of north) i;
         longitude = sym (ap number_of east) i;

@@ -1,21 +1,18 @@
 -- What searches find in numbers that rise, and what it says of the blocks.
-use Rattle.std.proofs.Common.{◌≡◌, ℕ, ◌+◌, ◌<◌, ◌≤◌, true, false, List, [], length, get_or, Option, Some, None, Result}
-use Rattle.std.proofs.Common.{Ok, Err, IfNone, sym, ap, ◌∙◌, arith, ℤ, pos, ◌<ℤ◌, ◌+ℤ◌, Bor, inl, inr}
-use Rattle.std.specs.Prelude.{int_lt, int_le, slice_get, MatchOption}
-use Rattle.std.specs.Option.{option_copied}
-use Rattle.std.specs.List.{HoldsAt, find, zip}
-use Rattle.std.proofs.lemmas.Option.{slice_get_past, slice_get-get_or}
+use Rattle.ghcn_series.proofs.Cited.{◌≡◌, ℕ, ◌+◌, ◌<◌, ◌≤◌, true, false, List, [], length, get_or, Option, Some, None}
+use Rattle.ghcn_series.proofs.Cited.{Result, Ok, Err, sym, ap, ◌∙◌, arith, ℤ, pos, ◌<ℤ◌, ◌+ℤ◌, Bor, inl, inr, int_lt}
+use Rattle.ghcn_series.proofs.Cited.{int_le, option_copied, find, zip, slice_get_past, slice_get-get_or, int_cmp, is_lt}
+use Rattle.ghcn_series.proofs.Cited.{cases_lt, int_cmp_total, int_ranked, get_or_default, ints, Block, value_at}
+use Rattle.ghcn_series.proofs.Cited.{block_start, days_of_blocks, blocks_of, Rise, AreColumns, next_block, length-zip}
+use Rattle.std.proofs.Common.{IfNone}
+use Rattle.std.specs.Prelude.{slice_get, MatchOption}
+use Rattle.std.specs.List.{HoldsAt}
 use Rattle.std.specs.List.Sorted.{IsBinarySearchResult, IsNonDecreasingBy, IsPartitionedBy}
-use Rattle.std.specs.Ordering.{int_cmp, ordering_index, is_lt}
+use Rattle.std.specs.Ordering.{ordering_index}
 use Rattle.std.specs.Result.{result_ok}
-use Rattle.std.proofs.lemmas.Bool.{cases_lt}
-use Rattle.std.proofs.lemmas.Cmp.{int_cmp_total, int_ranked}
-use Rattle.std.proofs.lemmas.List.{get_or_default}
 use Rattle.std.proofs.lemmas.List.Sorted.{searchable_from_sorted}
-use Rattle.std.proofs.lemmas.Int.{ints}
-use Rattle.ghcn_series.specs.Packed.{Block, value_at, block_start, days_of_blocks, blocks_of, Rise, AreColumns}
-use Rattle.ghcn_series.specs.Packed.{next_block, IsAt, IsNowhere, IsBlockOf, HasNone}
-use Rattle.std.proofs.lemmas.Slice.Zip.{firsts-zip, length-zip}
+use Rattle.ghcn_series.specs.Packed.{IsAt, IsNowhere, IsBlockOf, HasNone}
+use Rattle.std.proofs.lemmas.Slice.Zip.{firsts-zip}
 use Rattle.ghcn_series.proofs.PartsAdded.{packed-at}
 use Rattle.ghcn_series.proofs.Nexts.{next-of_numbers}
 use Rattle.ghcn_series.proofs.Lookups.{no_block, block-of_place, days-without, days-at, blocks-at, blocks-length}
@@ -42,12 +39,10 @@ absent-from_search ns rise b (Err i) parted =
     λ k at. elim (cases_lt k i) [
       | inl before ↦
           let less : get_or ns k (pos 0) <ℤ b = int_ranked _ _ _
-          (sym ((parted sorted).0 k (pos 0) (omega arith) before)) in
-          omega (arith, ints, at.is)
+          (sym ((parted sorted).0 k (pos 0) (omega arith) before)) in omega (arith, ints, at.is)
       | inr behind ↦
           let more : b <ℤ get_or ns k (pos 0) = int_ranked _ _ _
-          (sym ((parted sorted).1 k (pos 0) behind at.in_range)) in
-          omega (arith, ints, at.is)
+          (sym ((parted sorted).1 k (pos 0) behind at.in_range)) in omega (arith, ints, at.is)
     ]
 
 -- what is less than a number is less than greater ones
@@ -85,8 +80,7 @@ module _ (ns : List ℤ) (ws : List ℕ) (vs : List (List ℤ)) (cols : AreColum
 
   -- a block whose number is nowhere has no day
   pub block-absent : (n : ℤ) → IsNowhere ns n → HasNone (days_of_blocks (blocks_of ns ws vs)) n
-  block-absent n nowhere j lt =
-      days-without (blocks_of ns ws vs) (block_start n +ℤ pos j)
+  block-absent n nowhere j lt = days-without (blocks_of ns ws vs) (block_start n +ℤ pos j)
       (λ k less e. nowhere k (at-number k n less (e ∙ block-of_place n j lt)))
 
   -- the block at the place of a number
@@ -97,11 +91,9 @@ module _ (ns : List ℤ) (ws : List ℕ) (vs : List (List ℤ)) (cols : AreColum
       let long = blocks-length ns ws vs cols.blocks.enough_words cols.blocks.enough_values in
       let less : i < length bs = omega (arith, long, at.in_range) in
       let is : get_or bs i no_block ≡ (get_or ns i (pos 0), (get_or ws i 0, get_or vs i [])) = here i less in
-      let packed = packed-at ns ws vs cols.blocks i at.in_range in
-      record {
+      let packed = packed-at ns ws vs cols.blocks i at.in_range in record {
         present = packed.present;
-        holds = λ j lt.
-            sym (days-at bs i n j lt less (ap (λ (b : Block). b.0) is ∙ at.is)
+        holds = λ j lt. sym (days-at bs i n j lt less (ap (λ (b : Block). b.0) is ∙ at.is)
             (λ k below e. same_place ns cols.rise i k n at (at-number k n below e))
             ∙ ap (λ (b : Block). value_at b.1.0 b.1.1 j) is);
         zeros = packed.zeros;
@@ -110,8 +102,7 @@ module _ (ns : List ℤ) (ws : List ℕ) (vs : List (List ℤ)) (cols : AreColum
 -- the next block of the columns' days
 pub next-of_columns : (ns : List ℤ) (ws : List ℕ) (vs : List (List ℤ)) → AreColumns ns ws vs → (b : ℤ)
     → next_block (days_of_blocks (blocks_of ns ws vs)) b ≡ find (int_le b) ns
-next-of_columns ns ws vs cols b =
-    next-of_numbers b (blocks_of ns ws vs) cols.blocks.packed
+next-of_columns ns ws vs cols b = next-of_numbers b (blocks_of ns ws vs) cols.blocks.packed
     ∙ ap (find (int_le b)) (firsts-zip ns (zip ws vs)
     (omega (arith, length-zip ws vs, cols.blocks.enough_words, cols.blocks.enough_values)))
 

@@ -1,30 +1,19 @@
 -- The months that were seen, and one more.
-use Rattle.std.proofs.Common.{◌≡◌, ℕ, ◌+◌, ◌*◌, ◌≤◌, Bool, true, false, not, List, [], ◌∷◌, ◌++◌, refl, sym, ap}
-use Rattle.std.proofs.Common.{◌∙◌, arith, ℤ, Result, Ok, Err, inl, inr}
-use Rattle.std.specs.Prelude.{◌==◌, ◌&&◌, IfOk, OnOk}
-use Rattle.std.specs.List.{list_any, flat_map, IsDistinct, AllByRecursion}
-use Rattle.std.proofs.lemmas.List.{append-nil}
+use Rattle.ghcn_series.proofs.Cited.{◌≡◌, ℕ, ◌+◌, ◌*◌, ◌≤◌, Bool, true, false, not, List, [], ◌∷◌, ◌++◌, refl, sym, ap}
+use Rattle.ghcn_series.proofs.Cited.{◌∙◌, arith, ℤ, Result, Ok, Err, inl, inr, ◌==◌, ◌&&◌, OnOk, list_any, flat_map}
+use Rattle.ghcn_series.proofs.Cited.{IsDistinct, AllByRecursion, append-nil, nat_tests, list_any-append, nat_eq_equiv}
+use Rattle.ghcn_series.proofs.Cited.{not-true, OnTrue_from, or-false, Month, MonthRow, IsMonth, IsRowOf, Gathering}
+use Rattle.ghcn_series.proofs.Cited.{value_on, IsRowFor, Gathers, AreParts, AreNew, AreJoined, month_count, same_time}
+use Rattle.ghcn_series.proofs.Cited.{usable_days, gathered_days, kept_days, IsGathering, has_month, NotesMonth}
+use Rattle.std.specs.Prelude.{IfOk}
 use Rattle.std.proofs.lemmas.List.Concat.{flat_map-append}
-use Rattle.std.proofs.lemmas.Bool.Decides.{nat_tests}
-use Rattle.std.proofs.lemmas.List.Folds.{list_any-append}
-use Rattle.std.proofs.lemmas.Cmp.{and_equiv, on_equiv, nat_eq_equiv}
+use Rattle.std.proofs.lemmas.Cmp.{and_equiv, on_equiv}
 use Rattle.std.specs.Cmp.{IsEquivalence}
 use Rattle.std.proofs.lemmas.Map.Keys.{IsDistinct-push}
-use Rattle.std.proofs.lemmas.Bool.{not-true, OnTrue_from}
-use Rattle.std.proofs.Math.Bool.{or-false}
 use Rattle.ghcn_series.proofs.ListFacts.{each-append}
 use Rattle.ghcn_fields.specs.declared.memory.Memory.{Memory}
-use Rattle.ghcn_files.specs.declared.month.Month.{Month}
-use Rattle.ghcn_files.specs.declared.row.MonthRow.{MonthRow}
-use Rattle.ghcn_files.specs.Months.{IsMonth}
-use Rattle.ghcn_files.specs.Rows.{IsRowOf}
-use Rattle.ghcn_series.specs.declared.gathering.Gathering.{Gathering}
-use Rattle.ghcn_series.specs.Meaning.Series.{value_on}
-use Rattle.ghcn_series.specs.Steps.{ForMonth, IsRowFor, Gathers}
-use Rattle.ghcn_series.specs.Parts.{AreParts, AreNew, AreJoined}
-use Rattle.ghcn_series.specs.Gathered.{month_count, has_number, same_time, usable_days, gathered_days, kept_days}
-use Rattle.ghcn_series.specs.Gathered.{IsGathering}
-use Rattle.ghcn_series.specs.SeenMonths.{has_month, NotesMonth}
+use Rattle.ghcn_series.specs.Steps.{ForMonth}
+use Rattle.ghcn_series.specs.Gathered.{has_number}
 use Rattle.ghcn_series.proofs.Lookups.{value_on-append}
 use Rattle.ghcn_series.proofs.ApartParts.{new-behind}
 use Rattle.ghcn_series.proofs.DistinctDays.{distinct_days}
@@ -62,8 +51,7 @@ days-more before m = simp (flat_map-append, append-nil)
 
 -- a month whose time wasn't seen has no day that was gathered
 pub month-new : (g : Gathering) (m : Month) (before : List Month) → IsMonth m → IsGathering true g before
-    → has_month g.seen (month_count m) ≡ false
-    → AreNew (gathered_days g) (usable_days m)
+    → has_month g.seen (month_count m) ≡ false → AreNew (gathered_days g) (usable_days m)
 month-new g m before right is fresh d some =
     let apart = distinct-more m before is.distinct (sym (seen-is true g m before right is) ∙ fresh) in
     let distinct = rw (days-more before m) at (distinct_days (before ++ m ∷ []) apart) in
@@ -72,8 +60,7 @@ month-new g m before right is fresh d some =
 -- one month more is gathered, with its days if they are kept
 gathered_with : (kept : Bool) (old new : Gathering) (m : Month) (before : List Month) → IsMonth m
     → IsGathering kept old before → has_month old.seen (month_count m) ≡ false → NotesMonth old.seen new.seen (month_count m)
-    → AreParts new.parts
-    → ((d : ℤ) → value_on (gathered_days new) d ≡ value_on (kept_days kept (before ++ m ∷ [])) d)
+    → AreParts new.parts → ((d : ℤ) → value_on (gathered_days new) d ≡ value_on (kept_days kept (before ++ m ∷ [])) d)
     → IsGathering kept new (before ++ m ∷ [])
 gathered_with kept old new m before right is fresh adds parts values = record {
   right = each-append IsMonth before (m ∷ []) is.right (right, tt);
@@ -85,13 +72,11 @@ gathered_with kept old new m before right is fresh adds parts values = record {
 
 -- one month more is gathered with its days
 pub gathering-more : (old new : Gathering) (m : Month) (before : List Month) → IsMonth m → IsGathering true old before
-    → has_month old.seen (month_count m) ≡ false
-    → NotesMonth old.seen new.seen (month_count m)
+    → has_month old.seen (month_count m) ≡ false → NotesMonth old.seen new.seen (month_count m)
     → AreParts new.parts → AreJoined (gathered_days old) (usable_days m) (gathered_days new)
     → IsGathering true new (before ++ m ∷ [])
 gathering-more old new m before right is fresh adds parts joined =
-    gathered_with true old new m before right is fresh adds parts (λ d.
-    joined d
+    gathered_with true old new m before right is fresh adds parts (λ d. joined d
     ∙ rw (is.values d, days-more before m, value_on-append (flat_map usable_days before) (usable_days m) d) refl)
 
 -- a month's number is that of its row
@@ -112,8 +97,7 @@ pub noted : (row : MonthRow) (old new : Gathering) (result : Result Bool Memory)
 noted row old new (Err memory) told adds same = tt
 noted row old new (Ok added) told adds same = λ m right of.
     let number : 12 * row.year + row.month ≡ month_count m = number_for m row of in
-    let is_new = told ∙ ap (λ (n : ℕ). not (has_month old.seen n)) number in
-    record {
+    let is_new = told ∙ ap (λ (n : ℕ). not (has_month old.seen n)) number in record {
       is_new = λ before is. is_new ∙ ap not (seen-is false old m before right is);
       holds = λ before is. OnTrue_from added _ (λ yes.
           gathered_with false old new m before right is (not-true _ (sym (sym yes ∙ is_new))) (rw (← number) adds)

@@ -1,28 +1,13 @@
 -- The series of a station and an element, in the list at its place.
-use Rattle.std.proofs.Common.{◌≡◌, ℕ, zero, suc, ◌+◌, ◌≤◌, get_or, true, false, cond, not, List, [], ◌∷◌}
-use Rattle.std.proofs.Common.{length, map, Option, None, Some, refl, sym, ap, ◌∙◌, arith}
-use Rattle.std.specs.Prelude.{nat_lt}
-use Rattle.std.specs.List.{find, slice_get, position_or_len, IsDistinct, AllByRecursion, AllZip}
-use Rattle.std.specs.Option.{option_or, option_and_then}
-use Rattle.std.proofs.lemmas.Bool.{ltb-true}
-use Rattle.std.proofs.lemmas.Bool.Decides.{nat_tests}
-use Rattle.std.proofs.lemmas.List.{length-map}
-use Rattle.std.proofs.lemmas.List.Folds.{find-append}
-use Rattle.std.proofs.lemmas.Option.{slice_get_past, slice_get-get_or, slice_get-map}
-use Rattle.std.proofs.lemmas.Slice.Zip.{AllZip-long}
+use Rattle.ghcn_series.proofs.Cited.{◌≡◌, ℕ, zero, suc, ◌+◌, ◌≤◌, get_or, true, false, cond, not, List, [], ◌∷◌, length}
+use Rattle.ghcn_series.proofs.Cited.{map, Option, None, Some, refl, sym, ap, ◌∙◌, arith, nat_lt, find, slice_get}
+use Rattle.ghcn_series.proofs.Cited.{position_or_len, IsDistinct, AllByRecursion, AllZip, option_or, option_and_then}
+use Rattle.ghcn_series.proofs.Cited.{ltb-true, nat_tests, length-map, find-append, slice_get_past, slice_get-get_or}
+use Rattle.ghcn_series.proofs.Cited.{slice_get-map, AllZip-long, StationId, Station, Element, same_id, is_station_of}
+use Rattle.ghcn_series.proofs.Cited.{place_of, Series, Data, is_series_of, series_of, all_of, is_of_element}
+use Rattle.ghcn_series.proofs.Cited.{same_id-is, same_id-turned, no_place, each-mapped}
 use Rattle.ghcn_series.proofs.Lookups.{or_none}
-use Rattle.ghcn_files.specs.declared.station.StationId.{StationId}
-use Rattle.ghcn_files.specs.declared.station.Station.{Station}
-use Rattle.ghcn_files.specs.declared.element.Element.{Element}
-use Rattle.ghcn_files.specs.Meaning.Ids.{same_id}
-use Rattle.ghcn_files.specs.Meaning.Listed.{is_station_of}
-use Rattle.ghcn_files.specs.Listed.{place_of}
-use Rattle.ghcn_series.specs.Meaning.Series.{Series}
-use Rattle.ghcn_series.specs.Series.{Data, is_series_of, series_of}
-use Rattle.ghcn_series.specs.Held.{all_of, is_of_element}
 use Rattle.ghcn_series.proofs.Places.{ids, first_place, listed-is}
-use Rattle.ghcn_files.proofs.IdLaws.{same_id-is, same_id-turned, no_place}
-use Rattle.ghcn_files.proofs.Ordered.{each-mapped}
 use Rattle.ghcn_series.proofs.ListFacts.{each-append, each-weaker}
 
 -- of the series of one station, an element's is the station's and the element's
@@ -72,8 +57,7 @@ found_by_place id e (s ∷ ss) (us ∷ lists) apart own =
     (elim (same_id s.id id) as (λ b. same_id s.id id ≡ b
     → option_and_then (find (is_of_element e)) (slice_get (us ∷ lists) (cond (not b) (1 + place) 0))
     ≡ option_or (find (is_series_of id e) us) (find (is_series_of id e) (all_of lists))) [
-      | true ↦ λ is.
-          let others = all_other id ss lists (rw (same_id-is s.id id is) at apart.0) own.1 in
+      | true ↦ λ is. let others = all_other id ss lists (rw (same_id-is s.id id is) at apart.0) own.1 in
           rw (find_none id e (all_of lists) others, find_own id s.id e us is own.0)
           (sym (or_none (find (is_of_element e) us)))
       | false ↦ λ is.
@@ -81,8 +65,7 @@ found_by_place id e (s ∷ ss) (us ∷ lists) apart own =
           (λ u of. rw of is) own.0 in
           let next : 1 + place ≡ suc place = omega arith in
           rw (next, find_none id e us others) (found_by_place id e ss lists apart.1 own.1)
-    ] refl)
-    ∙ sym (find-append (is_series_of id e) us (all_of lists))
+    ] refl) ∙ sym (find-append (is_series_of id e) us (all_of lists))
 found_by_place id e _ _ apart own = absurd own
 
 -- ---- as a list at a place is looked up
@@ -111,12 +94,9 @@ pub found-at : (e : Element) (ss : List Station) (lists : List (List Series)) (k
 found-at e ss lists k us apart own is =
     elim (slice_get ss k) as (λ o. slice_get ss k ≡ o → option_and_then (find (is_of_element e)) us
     ≡ option_and_then (λ (s : Station). find (is_series_of s.id e) (all_of lists)) o) [
-      | None ↦ λ none.
-          rw (is, slice_get_past lists k (omega (arith, AllZip-long _ ss lists own, none_past ss k none)))
-      | Some s ↦ λ at.
-          ap (option_and_then (find (is_of_element e)))
-          (is ∙ ap (slice_get lists) (sym (first_place ss k s apart at).0))
-          ∙ found_by_place s.id e ss lists apart own
+      | None ↦ λ none. rw (is, slice_get_past lists k (omega (arith, AllZip-long _ ss lists own, none_past ss k none)))
+      | Some s ↦ λ at. ap (option_and_then (find (is_of_element e)))
+          (is ∙ ap (slice_get lists) (sym (first_place ss k s apart at).0)) ∙ found_by_place s.id e ss lists apart own
     ] refl
 
 -- the series of the station at a place
@@ -127,14 +107,12 @@ at_place all e k = option_and_then (λ (s : Station). series_of all s.id e) (sli
 pub listed-at : (all : Data) (id : StationId) (e : Element) (k : ℕ) → place_of all.stations id ≡ Some k
     → at_place all e k ≡ series_of all id e
 listed-at all id e k place =
-    let at = listed-is all.stations id k place in
-    rw at.0.1 (ap (λ (i : StationId). series_of all i e) at.0.2)
+    let at = listed-is all.stations id k place in rw at.0.1 (ap (λ (i : StationId). series_of all i e) at.0.2)
 
 -- what is found at a place of a list of lists
 pub list-there : {V : Type 0} (items : V → List Series) (vs : List V) (k : ℕ) (v : V) → nat_lt k (length vs) ≡ true
     → v ≡ get_or vs k v → Some (items v) ≡ slice_get (map items vs) k
-list-there items vs k v lt is =
-    rw (slice_get-map items vs k, slice_get-get_or vs k v (ltb-true k (length vs) lt), ← is)
+list-there items vs k v lt is = rw (slice_get-map items vs k, slice_get-get_or vs k v (ltb-true k (length vs) lt), ← is)
 
 -- no list is past the last
 pub list-missing : {V : Type 0} (items : V → List Series) (vs : List V) (k : ℕ) → nat_lt k (length vs) ≡ false

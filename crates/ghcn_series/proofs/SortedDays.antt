@@ -1,24 +1,12 @@
 -- Days in their order.
-use Rattle.std.proofs.Common.{◌≡◌, true, List, [], ◌∷◌, sym, ◌∙◌}
-use Rattle.std.proofs.Common.{arith, ℤ}
-use Rattle.std.specs.Prelude.{◌↔◌, int_le}
-use Rattle.std.specs.declared.cmp.Ordering.{Ordering}
-use Rattle.std.specs.declared.cmp.Ordering.TheVariants.{Less, Equal}
-use Rattle.std.specs.Ordering.{int_cmp, int_eq, is_le, is_lt}
-use Rattle.std.specs.Cmp.{IsTotalOrder}
-use Rattle.std.specs.List.{Contains, IsDistinct}
-use Rattle.std.specs.List.Sorted.{IsStrictlySortedBy}
-use Rattle.std.specs.Map.{keys_of, lookup}
-use Rattle.std.proofs.lemmas.Bool.Decides.{Decides-int_eq}
-use Rattle.std.proofs.lemmas.Cmp.{int_cmp_total, int_eq_equiv, int_ranked, on_total}
-use Rattle.std.proofs.lemmas.Int.{ints}
-use Rattle.std.proofs.lemmas.List.Sorted.{Contains-permutation, IsPermutation-sym}
+use Rattle.ghcn_series.proofs.Cited.{◌≡◌, true, List, [], ◌∷◌, sym, ◌∙◌, arith, ℤ, ◌↔◌, int_le, Ordering, Less, Equal}
+use Rattle.ghcn_series.proofs.Cited.{int_cmp, int_eq, is_le, is_lt, IsTotalOrder, Contains, IsDistinct}
+use Rattle.ghcn_series.proofs.Cited.{IsStrictlySortedBy, keys_of, lookup, Decides-int_eq, int_cmp_total, int_eq_equiv}
+use Rattle.ghcn_series.proofs.Cited.{int_ranked, ints, Contains-permutation, IsPermutation-sym, sorted_by, DayValue}
+use Rattle.ghcn_series.proofs.Cited.{value_on, by_day, AreRising}
+use Rattle.std.proofs.lemmas.Cmp.{on_total}
 use Rattle.std.proofs.lemmas.Map.Views.{Contains-from_lookup, lookup-from_Contains}
-use Rattle.ghcn_fields.specs.Sorting.{sorted_by}
 use Rattle.ghcn_files.proofs.Ordered as ordered
-use Rattle.ghcn_series.specs.Meaning.Series.{DayValue, value_on}
-use Rattle.ghcn_series.specs.Series.{by_day}
-use Rattle.ghcn_series.specs.Packed.{AreRising}
 use Rattle.ghcn_series.proofs.Lookups.{int_eq-yes}
 use Rattle.ghcn_series.proofs.RisingDays.{keys-rise, same-from_values}
 use Rattle.ghcn_series.proofs.ApartParts.{rising-distinct}
@@ -70,9 +58,7 @@ exact x y = (Decides-int_eq x y).0
 -- in two lists of the same days and values, in which no day occurs twice, a day has the same value
 pub same-values : (xs ys : List DayValue) → IsDistinct int_eq (keys_of xs) → IsDistinct int_eq (keys_of ys)
     → ((day value : ℤ) → Contains xs (day, value) ↔ Contains ys (day, value)) → (d : ℤ) → value_on xs d ≡ value_on ys d
-same-values xs ys one other same d =
-    sym (lookup-is d xs)
-    ∙ same_option (lookup (int_eq d) xs) (lookup (int_eq d) ys)
+same-values xs ys one other same d = sym (lookup-is d xs) ∙ same_option (lookup (int_eq d) xs) (lookup (int_eq d) ys)
     (λ v at. lookup-from_Contains int_eq_equiv d v ys other ((same d v).0 (Contains-from_lookup exact d v xs at)))
     (λ v at. lookup-from_Contains int_eq_equiv d v xs one ((same d v).1 (Contains-from_lookup exact d v ys at)))
     ∙ lookup-is d ys
@@ -85,8 +71,7 @@ sorted-rise xs distinct = keys-rise (sorted_by by_day xs) (sorted_by-rises xs di
 value-sorted : (xs : List DayValue) → IsDistinct int_eq (keys_of xs) → (q : ℤ)
     → value_on (sorted_by by_day xs) q ≡ value_on xs q
 value-sorted xs distinct =
-    let days : List DayValue = sorted_by by_day xs in
-    let moved = ordered.sorted-permutation by_day xs in
+    let days : List DayValue = sorted_by by_day xs in let moved = ordered.sorted-permutation by_day xs in
     same-values days xs (rising-distinct days (sorted-rise xs distinct)) distinct (λ day value. (
       Contains-permutation days xs (day, value) (IsPermutation-sym xs days moved),
       Contains-permutation xs days (day, value) moved,
@@ -94,15 +79,12 @@ value-sorted xs distinct =
 
 -- rising days with the values of distinct days are these in their order
 pub sorted-are : (xs days : List DayValue) → IsDistinct int_eq (keys_of xs) → AreRising days
-    → ((d : ℤ) → value_on days d ≡ value_on xs d)
-    → days ≡ sorted_by by_day xs
-sorted-are xs days distinct rise same =
-    same-from_values days (sorted_by by_day xs) rise (sorted-rise xs distinct)
+    → ((d : ℤ) → value_on days d ≡ value_on xs d) → days ≡ sorted_by by_day xs
+sorted-are xs days distinct rise same = same-from_values days (sorted_by by_day xs) rise (sorted-rise xs distinct)
     (λ d. same d ∙ sym (value-sorted xs distinct d))
 
 -- distinct days with the same values have one order
 pub sorted-same : (xs ys : List DayValue) → IsDistinct int_eq (keys_of xs) → IsDistinct int_eq (keys_of ys)
-    → ((d : ℤ) → value_on xs d ≡ value_on ys d)
-    → sorted_by by_day xs ≡ sorted_by by_day ys
+    → ((d : ℤ) → value_on xs d ≡ value_on ys d) → sorted_by by_day xs ≡ sorted_by by_day ys
 sorted-same xs ys one other same =
     sorted-are ys (sorted_by by_day xs) other (sorted-rise xs one) (λ d. value-sorted xs one d ∙ same d)

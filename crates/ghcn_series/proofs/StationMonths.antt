@@ -1,30 +1,16 @@
 -- The months of one station, by element.
-use Rattle.std.proofs.Common.{◌≡◌, ℕ, zero, suc, Bool, true, false, cond, not, List, [], ◌∷◌, ◌++◌, length, map, get_or}
-use Rattle.std.proofs.Common.{◌<◌, Some, refl, sym, ap, ◌∙◌, arith, subst}
-use Rattle.std.specs.Prelude.{◌==◌, ◌&&◌, ◌||◌}
-use Rattle.std.specs.List.{list_any, slice_get, AllZip, AllByRecursion, IsDistinct}
+use Rattle.ghcn_series.proofs.Cited.{◌≡◌, ℕ, zero, suc, Bool, true, false, cond, not, List, [], ◌∷◌, ◌++◌, length, map}
+use Rattle.ghcn_series.proofs.Cited.{get_or, ◌<◌, Some, refl, sym, ap, ◌∙◌, arith, subst, ◌==◌, ◌&&◌, ◌||◌, list_any}
+use Rattle.ghcn_series.proofs.Cited.{slice_get, AllZip, AllByRecursion, IsDistinct, set, nat_list_eq_equiv, append-nil}
+use Rattle.ghcn_series.proofs.Cited.{filter-append, list_any-append, and_right, or_parts, or_right, OnTrue_from}
+use Rattle.ghcn_series.proofs.Cited.{OnTrue_at, StationId, Element, Keep, Month, same_id, elements, same_element}
+use Rattle.ghcn_series.proofs.Cited.{element_index, is_kept, Gathering, same_month, same_time, has_month_of, months_of}
+use Rattle.ghcn_series.proofs.Cited.{IsGathering, IsGatheringOf, AreFiveOf, AreByElement, same_id-turned, Gathers}
+use Rattle.ghcn_series.proofs.Cited.{GathersNothing, FiveGather, FiveOfNothing}
 use Rattle.std.specs.Cmp.{nat_eq_equiv}
-use Rattle.std.proofs.Math.ListN.{set}
-use Rattle.std.proofs.lemmas.Cmp.{nat_list_eq_equiv}
-use Rattle.std.proofs.lemmas.List.{append-nil}
-use Rattle.std.proofs.lemmas.List.Elements.{filter-append}
-use Rattle.std.proofs.lemmas.List.Folds.{list_any-append}
-use Rattle.std.proofs.lemmas.Bool.{and_right, or_parts, or_right, OnTrue_from, OnTrue_at}
 use Rattle.std.proofs.Math.Bool.{and_assoc}
 use Rattle.ghcn_series.proofs.ListFacts.{from_all, each-weaker, set_first}
-use Rattle.ghcn_files.specs.declared.station.StationId.{StationId}
-use Rattle.ghcn_files.specs.declared.element.Element.{Element}
-use Rattle.ghcn_files.specs.declared.element.Keep.{Keep}
-use Rattle.ghcn_files.specs.declared.month.Month.{Month}
-use Rattle.ghcn_files.specs.Meaning.Ids.{same_id}
-use Rattle.ghcn_files.specs.Meaning.Elements.{elements}
-use Rattle.ghcn_files.specs.Elements.{same_element, element_index, is_kept}
-use Rattle.ghcn_series.specs.declared.gathering.Gathering.{Gathering}
-use Rattle.ghcn_series.specs.DailyFaults.{same_month}
-use Rattle.ghcn_series.specs.Gathered.{same_time, has_month_of, months_of, IsGathering, IsGatheringOf}
-use Rattle.ghcn_series.specs.Gathered.{AreFiveOf, AreByElement}
-use Rattle.ghcn_files.proofs.IdLaws.{same_id-turned}
-use Rattle.ghcn_series.specs.Steps.{Gathers, GathersSome, GathersNothing, KeepsMonths, Opens, FiveGather, FiveOfNothing}
+use Rattle.ghcn_series.specs.Steps.{GathersSome, KeepsMonths, Opens}
 
 -- a station without a month has none of any element
 pub months_of-none : (months : List Month) (id : StationId) (e : Element) → list_any (λ m. same_id m.id id) months
@@ -78,8 +64,7 @@ months_of-this before m id e this =
 -- a month of this station and element passes the test
 same_here : (m : Month) (id : StationId) (e : Element) → m.id ≡ id → e ≡ m.element
     → (same_id m.id id && same_element m.element e) ≡ true
-same_here m id e of at =
-    rw (← of, at, nat_list_eq_equiv.refl m.id.0) (nat_eq_equiv.refl (element_index m.element))
+same_here m id e of at = rw (← of, at, nat_list_eq_equiv.refl m.id.0) (nat_eq_equiv.refl (element_index m.element))
 
 module _ (asked : Keep) (before : List Month) (m : Month) (id : StationId) where
   -- a month of another station or element changes no gathering
@@ -93,8 +78,7 @@ module _ (asked : Keep) (before : List Month) (m : Month) (id : StationId) where
       → AllByRecursion (λ e. (same_id m.id id && same_element m.element e) ≡ false) es
       → AllZip (IsGatheringOf asked before id) gs es → AllZip (IsGatheringOf asked (before ++ m ∷ []) id) gs es
   other_elements [] [] other is = tt
-  other_elements (g ∷ gs) (e ∷ es) other is =
-      (gathering-other g e other.0 is.0, other_elements gs es other.1 is.1)
+  other_elements (g ∷ gs) (e ∷ es) other is = (gathering-other g e other.0 is.0, other_elements gs es other.1 is.1)
   other_elements _ _ other is = absurd is
 
   -- a gathering with one month more, among those of other elements
@@ -141,8 +125,7 @@ pub found_at : (asked : Keep) (gs : List Gathering) (es : List Element) (months 
     (id : StationId) (k : ℕ) (e : Element) (g : Gathering) → AllZip (IsGatheringOf asked months id) gs es
     → slice_get es k ≡ Some e → g ≡ get_or gs k g → IsGathering (is_kept asked e) g (months_of months id e)
 found_at asked [] [] months id k e g is at here = absurd cc
-found_at asked (x ∷ xs) (d ∷ ds) months id zero e g is at here =
-    let this : d ≡ e = cc in rw (here, ← this) is.0.holds
+found_at asked (x ∷ xs) (d ∷ ds) months id zero e g is at here = let this : d ≡ e = cc in rw (here, ← this) is.0.holds
 found_at asked (x ∷ xs) (d ∷ ds) months id (suc k) e g is at here = found_at asked xs ds months id k e g is.1 at here
 found_at asked _ _ months id k e g is at here = absurd is
 
@@ -213,8 +196,7 @@ station-more asked m five k g now added kept e place of kept_is here same gather
     let adds : Gathers (is_kept asked m.element) g now m added =
     subst (λ (b : Bool). Gathers b g now m added) (sym kept_is ∙ ap (is_kept asked) of) gathers in
     let own = λ (before : List Month) (all : AreFiveOf asked before m.id five).
-    found_at asked five elements before m.id k m.element g all at here in
-    record {
+    found_at asked five elements before m.id k m.element g all at here in record {
       is_new = λ before all.
           adds.is_new (months_of before m.id m.element) (own before all) ∙ ap not (sym (repeats-is before m));
       holds = λ before all. OnTrue_from added _ (λ yes. kept_by_element asked (before ++ m ∷ []) m.id (set five k now)

@@ -1,27 +1,13 @@
 -- The lines of unlisted stations in files are those in their parts, and those that name an element and no listed station.
-use Rattle.std.proofs.Common.{◌≡◌, ℕ, ◌+◌, Bool, false, cond, List, [], ◌∷◌, ◌++◌, map, Option, None, Some, refl}
-use Rattle.std.proofs.Common.{ap, arith}
-use Rattle.std.specs.Prelude.{◌&&◌, ◌-◌, ◌^◌, min, not}
-use Rattle.std.specs.List.{cons_option, count_by, filter_map, find, flat_map, list_any}
-use Rattle.std.specs.Option.{option_map, option_map_or}
-use Rattle.std.proofs.lemmas.Grind.{flat_map-append}
-use Rattle.std.proofs.lemmas.List.Elements.{filter_map-append}
+use Rattle.ghcn_series.proofs.Cited.{◌≡◌, ℕ, ◌+◌, Bool, false, cond, List, [], ◌∷◌, ◌++◌, map, Option, None, Some, refl}
+use Rattle.ghcn_series.proofs.Cited.{ap, arith, ◌&&◌, ◌-◌, ◌^◌, min, not, cons_option, count_by, filter_map, find}
+use Rattle.ghcn_series.proofs.Cited.{flat_map, list_any, option_map, flat_map-append, filter_map-append, sum_by-append}
+use Rattle.ghcn_series.proofs.Cited.{sum_by-cons, same_bytes, columns, lines, Element, Month, Station, code_of}
+use Rattle.ghcn_series.proofs.Cited.{elements, month_of, id_of, is_listed, files_together, is_unlisted, month_said}
+use Rattle.ghcn_series.proofs.Cited.{months_said, unlisted_said, in_64_bits}
+use Rattle.std.specs.Option.{option_map_or}
 use Rattle.std.proofs.lemmas.List.Recursion.{is_count_by}
-use Rattle.std.proofs.lemmas.List.Sums.{sum_by-append, sum_by-cons}
-use Rattle.ghcn_fields.specs.Meaning.Bytes.{same_bytes}
-use Rattle.ghcn_fields.specs.Meaning.Lines.{columns, lines}
-use Rattle.ghcn_files.specs.declared.element.Element.{Element}
-use Rattle.ghcn_files.specs.declared.month.Month.{Month}
-use Rattle.ghcn_files.specs.declared.station.Station.{Station}
-use Rattle.ghcn_files.specs.Meaning.Elements.{code_of, elements}
-use Rattle.ghcn_files.specs.Months.{month_of}
-use Rattle.ghcn_files.specs.StationLines.{id_of}
-use Rattle.ghcn_series.specs.DailyFaults.{is_listed}
-use Rattle.ghcn_series.specs.JoinedFiles.{files_together}
 use Rattle.ghcn_series.specs.Laws.{UnlistedAddUp}
-use Rattle.ghcn_series.specs.Meaning.Said.{is_unlisted}
-use Rattle.ghcn_series.specs.SaidLists.{month_said, months_said, unlisted_said}
-use Rattle.ghcn_series.specs.Says.{in_64_bits}
 
 module _ (stations : List Station) where
   -- how many lines of files belong to stations that aren't listed
@@ -31,19 +17,15 @@ module _ (stations : List Station) where
   -- those of files, and of others after them
   unlisted-append : (files others : List (List ℕ))
       → unlisted_in (files ++ others) ≡ unlisted_in files + unlisted_in others
-  unlisted-append files others =
-      rw (flat_map-append, filter_map-append)
+  unlisted-append files others = rw (flat_map-append, filter_map-append)
       (sum_by-append (λ (m : Month). cond (not (is_listed stations m.id)) 1 0) (months_said files) (months_said others))
 
 -- so the numbers of the parts add up
 pub unlisted-add-up : UnlistedAddUp
 unlisted-add-up stations [] = refl
-unlisted-add-up stations (p ∷ ps) = omega (
-  arith,
-  unlisted-append stations p (files_together ps),
-  unlisted-add-up stations ps,
-  sum_by-cons (λ (n : ℕ). n) (unlisted_said stations p) (map (unlisted_said stations) ps),
-)
+unlisted-add-up stations (p ∷ ps) =
+    let added = sum_by-cons (λ (n : ℕ). n) (unlisted_said stations p) (map (unlisted_said stations) ps) in
+    omega (arith, unlisted-append stations p (files_together ps), unlisted-add-up stations ps, added)
 
 -- ---- by their columns
 
@@ -73,7 +55,7 @@ unlisted_line stations line =
     found_any (λ (e : Element). same_bytes (code_of e) (columns 18 21 line)) (λ (e : Element). month_of e line)
     (λ (m : Month). not (is_listed stations m.id)) (not (is_listed stations (id_of line))) (λ e. refl) elements
 
--- so many lines are of unlisted stations
+-- that many lines belong to unlisted stations
 pub unlisted-said : (stations : List Station) (files : List (List ℕ))
     → unlisted_said stations files ≡ min (count_by (is_unlisted stations) (flat_map lines files)) (2 ^ 64 - 1)
 unlisted-said stations files =

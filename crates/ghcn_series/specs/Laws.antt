@@ -33,7 +33,7 @@ SeriesAreSaid = (stations : List Station) (files : List (List ℕ)) (held : Data
     → (s : Series) → is_listed stations s.id ≡ true
     → (series_of held s.id s.element ≡ Some s) ↔ IsMadeOf (IsSaid files) s
 
--- so many of their lines are of unlisted stations, up to 2^64 - 1
+-- that many of their lines belong to unlisted stations, up to 2^64 - 1
 abbrev pub UnlistedAreSaid : Type 0
 UnlistedAreSaid = (stations : List Station) (files : List (List ℕ)) (held : Data) → data_of stations files ≡ Ok held
     → held.unlisted ≡ min (count_by (is_unlisted stations) (flat_map lines files)) (2 ^ 64 - 1)

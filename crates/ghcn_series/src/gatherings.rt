@@ -205,7 +205,7 @@ impl Gatherings {
     }
 }
 
-/// No series of so many stations.
+/// No series, for that many stations.
 fn none_of_each(alloc: Global, number: usize) -> Result<Vec<Vec<Series>>, Memory>
     ensures number { IfOk result (λ all. length all.items ≡ number) }
     ensures none { IfOk result (λ all. AllByRecursion (λ s. s.items ≡ []) all.items) }

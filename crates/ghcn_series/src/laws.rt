@@ -14,7 +14,7 @@ pub fn data_are_right()
 
 /// If a station list has no error, its lines say the stations that are read of it, and no others. If
 /// the daily files have none either, the series of these stations are made of the facts that the lines
-/// of the files say, and so many of these are of other stations.
+/// of the files say, and that many of these belong to other stations.
 pub fn data_are_said()
     ensures stations { laws.StationsAreSaid }
     ensures series { laws.SeriesAreSaid }

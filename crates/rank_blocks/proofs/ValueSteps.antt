@@ -1,10 +1,9 @@
 -- What is made of the values of a block, step by step.
-use Rattle.rank_blocks.proofs.Cited.{◌≡◌, ℕ, ◌+◌, ◌-◌, ◌<◌, ◌^◌, Bool, ◌⊎◌, inl, inr}
-use Rattle.rank_blocks.proofs.Cited.{List, length, get_or, set, ap, ◌∙◌, arith, ℤ, pos, below_more, w32, bit_and}
-use Rattle.rank_blocks.proofs.Cited.{not, rules, bit_at, bit_not, int_max, int_min, get_or-set_other}
-use Rattle.rank_blocks.proofs.Cited.{bit_at-lt, bit_at_and, bit_at_not}
-use Rattle.rank_blocks.proofs.Cited.{bit_at_ones, IsGreatest, HasZeros, IsScoreAmong, IsUsableScore}
-use Rattle.rank_blocks.proofs.Cited.{StandsFor, HasUsableAlone, IsPlacesOf, IsWordOf, ints}
+use Rattle.rank_blocks.proofs.Cited.{◌≡◌, ℕ, ◌+◌, ◌-◌, ◌<◌, ◌^◌, Bool, ◌⊎◌, inl, inr, List, length, get_or, set, ap}
+use Rattle.rank_blocks.proofs.Cited.{◌∙◌, arith, ℤ, pos, below_more, w32, bit_and, not, rules, bit_at, bit_not, int_max}
+use Rattle.rank_blocks.proofs.Cited.{int_min, get_or-set_other, bit_at-lt, bit_at_and, bit_at_not, bit_at_ones}
+use Rattle.rank_blocks.proofs.Cited.{IsGreatest, HasZeros, IsScoreAmong, IsUsableScore, StandsFor, HasUsableAlone}
+use Rattle.rank_blocks.proofs.Cited.{IsPlacesOf, IsWordOf, ints}
 use Rattle.std.proofs.lemmas.Grind.{get_or-set_at}
 
 -- what is true of two numbers is true of the greater

@@ -1,6 +1,5 @@
 -- A report and a certificate are accepted if and only if both are right.
-use Rattle.std.proofs.Common.{◌≡◌, inl, inr, ℕ, ◌≤◌, false, cond, map, subst, Option, true, List, [], length}
-use Rattle.std.proofs.Common.{sym, ap}
+use Rattle.std.proofs.Common.{◌≡◌, inl, inr, ℕ, ◌≤◌, false, cond, map, subst, Option, true, List, [], length, sym, ap}
 use Rattle.std.proofs.Common.{◌∙◌, ℤ}
 use Rattle.std.specs.Prelude.{◌==◌}
 use Rattle.std.specs.List.{flat_map, enumerate_from, AllByRecursion, AllZip}
@@ -14,22 +13,19 @@ use Rattle.rank_scores.specs.declared.candidate.Candidate.{Candidate}
 use Rattle.rank_scores.specs.Morsels.{morsels, best_of_query, kth_of_query}
 use Rattle.rank_papers.specs.Report.{IsFoundReport}
 use Rattle.rank_papers.specs.ReportLines.{Reported, IsReportOf, SaysRightReport}
-use Rattle.rank_papers.specs.Certificate.{Certified, Line}
-use Rattle.rank_papers.specs.Certificate.{IsCount, AreCounts, IsFoundCertificate, IsCertificateOf, IsRightEntry, count_of}
-use Rattle.rank_papers.specs.Certificate.{counts_of, SaysRightCertificate}
+use Rattle.rank_papers.specs.Certificate.{Certified, Line, IsCount, AreCounts, IsFoundCertificate, IsCertificateOf}
+use Rattle.rank_papers.specs.Certificate.{IsRightEntry, count_of, counts_of, SaysRightCertificate}
 use Rattle.rank_papers.specs.Laws.{CertificatesAreRead, RightCertificatesSayRight, ReportsAreRead, RightReportsSayRight}
 use Rattle.rank_papers.proofs.SameQueries.{one_query, own_query, score_from, score_to}
 use Rattle.rank_papers.specs.Papers.{read_papers, of_rows}
 use Rattle.rank_papers.proofs.ReadBoth.{papers_read}
 use Rattle.rank_check.specs.declared.verdict.Verdict.TheVariants.{Accepted}
-use Rattle.rank_check.specs.Tests.{Test, row_tests, report_tests, entry_tests}
-use Rattle.rank_check.specs.Tests.{certificate_tests, verdict}
+use Rattle.rank_check.specs.Tests.{Test, row_tests, report_tests, entry_tests, certificate_tests, verdict}
 use Rattle.rank_check.specs.Laws.{AcceptedWhereRight}
 use Rattle.rank_check.proofs.Each.{each-append, each-parts}
 use Rattle.rank_check.proofs.Accepted.{Passes, accepted-pass, pass-accepted}
 use Rattle.rank_check.proofs.RightRows.{rows_best, rows_named, best_pass}
-use Rattle.rank_check.proofs.RightLines.{AreCounted, are_counted, lines_right, counts_are}
-use Rattle.rank_check.proofs.RightLines.{right_pass}
+use Rattle.rank_check.proofs.RightLines.{AreCounted, are_counted, lines_right, counts_are, right_pass}
 
 module _ (q : Query) (c : Data) (asked : IsAsked q) (right : IsContents c) (certificates : CertificatesAreRead)
     (apart : CandidatesAreApart) where

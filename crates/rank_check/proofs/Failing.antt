@@ -19,7 +19,7 @@ use Rattle.rank_check.specs.Survey.{met, top, top_score}
 use Rattle.rank_check.specs.declared.survey.Top.{Top}
 use Rattle.rank_papers.specs.declared.fault.Paper.TheVariants.{Certificate}
 use Rattle.rank_check.specs.declared.verdict.Why.TheVariants.{OtherSeries, NoBound, NotBelow, NotCounted}
-use Rattle.rank_check.specs.Tests.{refusal}
+use Rattle.rank_check.specs.Tests.{refusal, Test, follows, is_counted, line_tests, entry_tests}
 use Rattle.ghcn_files.specs.Meaning.Ids.{same_id}
 use Rattle.ghcn_files.proofs.IdLaws.{same_id-turned}
 use Rattle.rank_scores.specs.Morsels.{morsels}
@@ -33,7 +33,6 @@ use Rattle.std.specs.Int.{int_max}
 use Rattle.std.proofs.lemmas.Int.{ints}
 use Rattle.std.proofs.Math.Bool.{and-true}
 use Rattle.std.proofs.lemmas.Option.{slice_get-map, slice_get-get_or}
-use Rattle.rank_check.specs.Tests.{Test, follows, is_counted, line_tests, entry_tests}
 
 module _ {X : Type 0} (tests : ℕ × X → List Test) where
   -- the first of the tests of elements with their numbers that fails

@@ -1,7 +1,6 @@
 -- The first test that fails of a report, and of a certificate.
 use Rattle.std.proofs.Common.{◌≡◌, ℕ, ◌+◌, ◌<◌, ◌≤◌, Bool, true, false, cond, List, [], ◌∷◌, ◌++◌, length, map, Option}
-use Rattle.std.proofs.Common.{Some}
-use Rattle.std.proofs.Common.{not, refl, sym, ap, ◌∙◌, subst, arith, ◌||◌}
+use Rattle.std.proofs.Common.{Some, not, refl, sym, ap, ◌∙◌, subst, arith, ◌||◌}
 use Rattle.std.specs.Prelude.{nat_le}
 use Rattle.std.specs.Option.{option_or, option_eq}
 use Rattle.std.specs.Ordering.{int_eq}
@@ -23,11 +22,10 @@ use Rattle.rank_check.specs.declared.survey.Findings.{Findings}
 use Rattle.rank_papers.specs.declared.fault.Paper.TheVariants.{Report, Certificate}
 use Rattle.rank_check.specs.declared.verdict.Why.TheVariants.{TooFew, OtherQuery, OtherFloor}
 use Rattle.rank_check.specs.declared.refusal.Refusal.{Refusal}
-use Rattle.rank_check.specs.Tests.{refusal}
+use Rattle.rank_check.specs.Tests.{refusal, Test, number_test, length_test, tests_of_rows, report_tests, tests_of_lines}
 use Rattle.rank_check.specs.FoundFaults.{IsFaultOfRows}
 use Rattle.rank_check.specs.Survey.{AreFindings}
-use Rattle.rank_check.specs.Tests.{Test, number_test, length_test, tests_of_rows, report_tests}
-use Rattle.rank_check.specs.Tests.{tests_of_lines, certificate_tests}
+use Rattle.rank_check.specs.Tests.{certificate_tests}
 use Rattle.rank_papers.proofs.FirstFailing.{first_failing-append}
 
 -- ---- the number of rows

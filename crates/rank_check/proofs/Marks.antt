@@ -1,7 +1,6 @@
 -- What marks in the order of candidates know of the rows, and how one more candidate changes it.
-use Rattle.std.proofs.Common.{◌≡◌, ℕ, zero, suc, ◌<◌, ◌≤◌, Bool, true, false, cond, List, [], ◌∷◌, length}
-use Rattle.std.proofs.Common.{map, Some, refl, sym, ap, ◌∙◌, subst, arith, get_or, not, ◌||◌, ◌&&◌}
-use Rattle.std.proofs.Common.{ltb, ltb-true, ltb-false, take}
+use Rattle.std.proofs.Common.{◌≡◌, ℕ, zero, suc, ◌<◌, ◌≤◌, Bool, true, false, cond, List, [], ◌∷◌, length, map, Some}
+use Rattle.std.proofs.Common.{refl, sym, ap, ◌∙◌, subst, arith, get_or, not, ◌||◌, ◌&&◌, ltb, ltb-true, ltb-false, take}
 use Rattle.std.specs.Prelude.{slice_get, Option}
 use Rattle.std.specs.Option.{option_map_or}
 use Rattle.std.specs.List.{AllByRecursion, Contains}

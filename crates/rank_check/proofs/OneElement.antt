@@ -16,9 +16,8 @@ use Rattle.rank_papers.specs.Certificate.{Certified}
 use Rattle.rank_papers.specs.Papers.{read_papers, same_query, of_rows}
 use Rattle.rank_papers.specs.declared.fault.Paper.TheVariants.{Report, Certificate}
 use Rattle.rank_check.specs.declared.verdict.Why.TheVariants.{OtherQuery, OtherFloor}
-use Rattle.rank_check.specs.Tests.{refusal}
-use Rattle.rank_check.specs.Tests.{row_tests, report_tests, entry_tests}
-use Rattle.rank_check.specs.Tests.{number_test, length_test, certificate_tests, refused, verdict_of}
+use Rattle.rank_check.specs.Tests.{refusal, row_tests, report_tests, entry_tests, number_test, length_test}
+use Rattle.rank_check.specs.Tests.{certificate_tests, refused, verdict_of}
 use Rattle.rank_check.specs.Laws.{VerdictStays}
 
 module _ (candidates : CandidatesStay) (series : MorselsStay) (score : KthStays) (q : Query) (c : Data) where

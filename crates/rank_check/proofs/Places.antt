@@ -1,7 +1,6 @@
 -- Places in the order of candidates: which of the marks a candidate precedes.
-use Rattle.std.proofs.Common.{◌≡◌, ℕ, ◌<◌, ◌≤◌, Bool, true, false, List, [], ◌∷◌, length}
-use Rattle.std.proofs.Common.{refl, sym, ap, ◌∙◌, subst, arith, get_or, not}
-use Rattle.std.proofs.Common.{ltb, ltb-true, ltb-false}
+use Rattle.std.proofs.Common.{◌≡◌, ℕ, ◌<◌, ◌≤◌, Bool, true, false, List, [], ◌∷◌, length, refl, sym, ap, ◌∙◌, subst}
+use Rattle.std.proofs.Common.{arith, get_or, not, ltb, ltb-true, ltb-false}
 use Rattle.std.specs.List.{Contains}
 use Rattle.std.specs.List.Sorted.{IsPartitionPoint, IsPartitionedBy, IsSorted}
 use Rattle.std.specs.Ordering.{is_lt, int_cmp, ordering_then}
@@ -16,8 +15,7 @@ use Rattle.rank_scores.specs.Order.{full_cmp}
 use Rattle.rank_scores.proofs.Listing.{full_cmp_total}
 use Rattle.rank_scores.proofs.Ranks.{rank_cmp_total}
 use Rattle.rank_check.specs.declared.tally.Mark.{Mark}
-use Rattle.rank_check.specs.Marks.{candidates_at, unmet}
-use Rattle.rank_check.specs.Marks.{IsPlace, precedes_first, AreMarksInOrder}
+use Rattle.rank_check.specs.Marks.{candidates_at, unmet, IsPlace, precedes_first, AreMarksInOrder}
 
 -- ---- the order of candidates
 

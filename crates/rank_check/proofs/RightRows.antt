@@ -6,7 +6,7 @@ use Rattle.std.specs.List.{find, flat_map, enumerate_from, AllByRecursion}
 use Rattle.std.specs.Option.{option_map, option_map_or}
 use Rattle.std.specs.Cmp.Lexicographic.{bytes_decides}
 use Rattle.std.proofs.lemmas.Bool.{and_parts, leb-true, leb-false, le-leb, lt-leb}
-use Rattle.std.proofs.lemmas.List.{length-take, length-map}
+use Rattle.std.proofs.lemmas.List.{length-take, length-map, take_all}
 use Rattle.ghcn_fields.specs.Meaning.Bytes.{same_bytes}
 use Rattle.ghcn_files.specs.declared.station.Station.{Station}
 use Rattle.ghcn_files.specs.Meaning.Listed.{is_station_of}
@@ -21,7 +21,6 @@ use Rattle.rank_papers.specs.Report.{Named}
 use Rattle.rank_papers.specs.ReportLines.{name_of}
 use Rattle.rank_papers.specs.Papers.{of_rows}
 use Rattle.rank_check.specs.Tests.{is_one_of, is_named, row_before, row_tests, are_enough}
-use Rattle.std.proofs.lemmas.List.{take_all}
 use Rattle.std.proofs.lemmas.Option.{slice_get-map}
 use Rattle.rank_check.proofs.Accepted.{Passes}
 use Rattle.rank_check.proofs.SortedCandidates.{in_order, ordered-descends, ordered-length, at_rank, rank_at, among}

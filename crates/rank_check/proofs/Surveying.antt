@@ -1,11 +1,9 @@
 -- What a pass over all data finds, candidate by candidate and series by series.
-use Rattle.std.proofs.Common.{◌≡◌, ℕ, ◌+◌, ◌<◌, Bool, true, false, cond, List, [], ◌∷◌, ◌++◌, length, take}
-use Rattle.std.proofs.Common.{map, Option, Some, None, refl, sym, ap, ◌∙◌, subst, arith, append-nil}
-use Rattle.std.proofs.Common.{append_assoc}
-use Rattle.std.proofs.Common.{◌||◌, ℤ, get_or}
+use Rattle.std.proofs.Common.{◌≡◌, ℕ, ◌+◌, ◌<◌, Bool, true, false, cond, List, [], ◌∷◌, ◌++◌, length, take, map, Option}
+use Rattle.std.proofs.Common.{Some, None, refl, sym, ap, ◌∙◌, subst, arith, append-nil, append_assoc, ◌||◌, ℤ, get_or}
+use Rattle.std.proofs.Common.{inl, inr, ◌^◌, ◌<ℤ◌, ◌≤ℤ◌}
 use Rattle.std.specs.List.{fold, flat_map, AllByRecursion}
 use Rattle.std.specs.Prelude.{int_le}
-use Rattle.std.proofs.Common.{inl, inr, ◌^◌, ◌<ℤ◌, ◌≤ℤ◌}
 use Rattle.std.proofs.lemmas.Bool.{cases_Bool}
 use Rattle.std.specs.Int.{int_max, int_min}
 use Rattle.std.specs.Ordering.{is_eq, is_lt, is_le, int_cmp, ordering_then}
@@ -31,9 +29,8 @@ use Rattle.ghcn_files.proofs.Ordered.{first_trans, first_either}
 use Rattle.ghcn_files.proofs.Among.{each-weaker}
 use Rattle.rank_check.specs.Marks.{known, may_reach}
 use Rattle.rank_check.proofs.Each.{each-more}
-use Rattle.rank_check.specs.Survey.{IsLast, reaches, later, top, met, met_by, raised, top_score, Tally}
+use Rattle.rank_check.specs.Survey.{IsLast, reaches, later, top, met, met_by, raised, top_score, Tally, tally_with}
 use Rattle.rank_check.specs.declared.tally.Mark.{Mark}
-use Rattle.rank_check.specs.Survey.{tally_with}
 use Rattle.rank_check.specs.Survey.{reset, IsFloor}
 
 -- ---- one candidate more

@@ -16,9 +16,8 @@ use Rattle.rank_papers.proofs.FirstFailing.{front_none, front_passed, none_of, n
 use Rattle.rank_papers.proofs.SameQueries.{one_query, own_query, score_from, score_to}
 use Rattle.rank_head.specs.declared.fault.HeadFault.TheVariants.{OtherReportQuery, OtherCertificateQuery, OutOfOrder}
 use Rattle.rank_head.specs.declared.fault.HeadFault.TheVariants.{NotRising, NotScanned, NotCounted}
-use Rattle.rank_head.specs.HeadTests.{HeadTest, floor_test, order_tests}
-use Rattle.rank_head.specs.HeadTests.{stands_before, rising_tests, is_scanned, scanned_tests, matching_tests}
-use Rattle.rank_head.specs.HeadTests.{place_tests, count_tests, head_fault}
+use Rattle.rank_head.specs.HeadTests.{HeadTest, floor_test, order_tests, stands_before, rising_tests, is_scanned}
+use Rattle.rank_head.specs.HeadTests.{scanned_tests, matching_tests, place_tests, count_tests, head_fault}
 use Rattle.rank_head.specs.RightHead.{IsRightHead, HeadsAreRight}
 use Rattle.rank_head.proofs.FirstPlaces.{all_pass, none_refused}
 

@@ -70,7 +70,7 @@ file-stands None place path is other = inl refl
 file-stands (Some None) place path is other = refl
 file-stands (Some (Some names)) place path is other = absurd (other is)
 
--- what is no value is none
+-- what isn't a value is none
 pub none-left : {X : Type 0} (o : Option X) → ((x : X) → o ≡ Some x → ⊥) → o ≡ None
 none-left None others = refl
 none-left (Some x) others = absurd (others x refl)

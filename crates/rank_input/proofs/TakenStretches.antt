@@ -1,6 +1,5 @@
 -- Bytes of one daily file that are taken in shares.
-use Rattle.std.proofs.Common.{◌≡◌, refl, sym, subst, ap, ◌∙◌, ℕ, true}
-use Rattle.std.proofs.Common.{List, [], ◌++◌, take, drop}
+use Rattle.std.proofs.Common.{◌≡◌, refl, sym, subst, ap, ◌∙◌, ℕ, true, List, [], ◌++◌, take, drop}
 use Rattle.std.specs.Prelude.{Option, None, Some}
 use Rattle.std.specs.Option.{option_map}
 use Rattle.std.specs.Io.Take.{take_limit, take_inner, take_remaining}

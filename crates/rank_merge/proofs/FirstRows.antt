@@ -1,4 +1,4 @@
--- The first k of some in a stable order: with more behind them, and without what k others come before or tie with.
+-- The first k of some in a stable order: with more after them, and without what k others come before or tie with.
 use Rattle.rank_merge.proofs.Cited.{◌≡◌, ℕ, zero, suc, ◌+◌, ◌≤◌, Bool, true, false, cond, not, List, [], ◌∷◌, ◌++◌}
 use Rattle.rank_merge.proofs.Cited.{length, take, Some, refl, sym, ap, ◌∙◌, arith, append-nil, append_assoc, slice_get}
 use Rattle.rank_merge.proofs.Cited.{AllByRecursion, count_by, IsTotalOrder, Ordering, false_from_ne_true, take-take}
@@ -52,7 +52,7 @@ module _ {X : Type 0} (comes : X → X → Bool)
   sorted-push [] y = refl
   sorted-push (x ∷ xs) y = ap (placed comes x) (sorted-push xs y) ∙ placed_both x y (sorted_by comes xs)
 
-  -- two lists with the same first k have the same first k with more behind them
+  -- two lists with the same first k have the same first k with more after them
   firsts-append : (k : ℕ) (xs ys zs : List X) → firsts comes k xs ≡ firsts comes k ys
       → firsts comes k (xs ++ zs) ≡ firsts comes k (ys ++ zs)
   firsts-append k xs ys [] e =
@@ -80,7 +80,7 @@ module _ {X : Type 0} (cmp : X → X → Ordering) (total : IsTotalOrder cmp) wh
   leads_back : (a b : X) → leads a b ≡ false → leads b a ≡ true
   leads_back = ordered.first_either cmp total leads (λ a b. refl)
 
-  -- two lists with the same first k have the same first k with more behind them
+  -- two lists with the same first k have the same first k with more after them
   pub same_firsts : (k : ℕ) (xs ys zs : List X) → firsts leads k xs ≡ firsts leads k ys
       → firsts leads k (xs ++ zs) ≡ firsts leads k (ys ++ zs)
   same_firsts = firsts-append leads leads_on leads_back

@@ -71,7 +71,7 @@ module _ {X : Type 0} (cmp : X → X → Ordering) (total : IsTotalOrder cmp) wh
   sorted-stable x [] = refl
   sorted-stable x (a ∷ xs) = grind (arith, ints, placed-stable x a (sorted_by first xs), sorted-stable x xs)
 
-  -- an element is in front of what ties with it behind it
+  -- an element is before those after it that tie with it
   own_front : (y : X) (ys : List X) → filter (ties before y) (y ∷ ys) ≡ y ∷ filter (ties before y) ys
   own_front y ys = passed_front (ties before y) y ys (tie y y (first_own y) (first_own y))
 

@@ -1,7 +1,6 @@
 -- IDs in order, counted by two searches, and the rows that they belong to.
 use Rattle.std.proofs.Common.{◌≡◌, ℕ, zero, suc, ◌+◌, ◌-◌, ◌≤◌, Bool, true, false, cond, List, [], ◌∷◌, length, take}
-use Rattle.std.proofs.Common.{map}
-use Rattle.std.proofs.Common.{refl, sym, ap, ◌∙◌, subst, arith, get_or, leb, ◌<◌, inl, inr, Option}
+use Rattle.std.proofs.Common.{map, refl, sym, ap, ◌∙◌, subst, arith, get_or, leb, ◌<◌, inl, inr, Option}
 use Rattle.std.specs.List.{count_by}
 use Rattle.std.specs.List.Sorted.{IsPartitionPoint, IsPartitionedBy, IsPermutation}
 use Rattle.std.specs.Prelude.{slice_get, ◌==◌, ◌||◌}

@@ -1,14 +1,13 @@
 -- Lines that are written are cut and read again.
 use Rattle.std.proofs.Common.{◌≡◌, ℕ, zero, suc, ◌+◌, ◌-◌, ◌/◌, ◌%◌, ◌<◌, Bool, true, false, cond, List, [], ◌∷◌, ◌++◌, length, take, drop, refl, ap, ◌∙◌, arith, append_assoc, length-append, decimal}
 use Rattle.std.specs.Prelude.{◌==◌, ◌&&◌, ℤ, pos, negsuc, slice_range, IsUtf8}
-use Rattle.std.specs.Fmt.{digits, digits_onto, digit_glyph}
+use Rattle.std.specs.Fmt.{digits, digits_onto, digit_glyph, signed_decimal}
 use Rattle.std.specs.List.{list_all, join_with_byte}
 use Rattle.std.proofs.lemmas.Bool.{and_parts}
 use Rattle.std.proofs.lemmas.Bool.Decides.{nat_tests}
 use Rattle.std.proofs.lemmas.List.Sums.{AllPass-from_list_all}
 use Rattle.std.proofs.lemmas.Str.{IsUtf8-from_ascii}
 use Rattle.std.proofs.lemmas.Str.Ascii.{IsAscii-from_all}
-use Rattle.std.specs.Fmt.{signed_decimal}
 use Rattle.ghcn_files.specs.Meaning.Ids.{is_visible}
 use Rattle.ghcn_files.specs.Meaning.StationLines.{is_printable}
 use Rattle.rank_papers.specs.Meaning.Report.{text_line}

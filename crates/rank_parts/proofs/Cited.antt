@@ -1,10 +1,11 @@
 -- The names that the proofs cite, passed on from one place.
-pub use Rattle.std.proofs.Common.{Bool, Err, List, None, Ok, Option, Result, Some, [], ap, ap₂, arith, cond, drop}
-pub use Rattle.std.proofs.Common.{false, filter, get_or, inl, inr, length, map, not, refl, rules, subst, suc, sym, take}
-pub use Rattle.std.proofs.Common.{true, zero, ℕ, ℤ, ◌+◌, ◌-◌, ◌<◌, ◌||◌, ◌∙◌, ◌∷◌, ◌≡◌, ◌≤ℤ◌, ◌≤◌}
+pub use Rattle.std.proofs.Common.{Bool, Equal, Err, Greater, Less, List, None, Ok, Option, Result, Some, [], ap, ap₂}
+pub use Rattle.std.proofs.Common.{arith, cond, drop, false, filter, get_or, inl, inr, int_le, int_lt, is_ok, length}
+pub use Rattle.std.proofs.Common.{map, nat_cmp, nat_le, nat_lt, not, refl, rules, slice_get, subst, suc, sym, take}
+pub use Rattle.std.proofs.Common.{true, zero, ℕ, ℤ, ◌&&◌, ◌+◌, ◌-◌, ◌<◌, ◌==◌, ◌||◌, ◌↔◌, ◌∙◌, ◌∷◌, ◌≡◌, ◌≤ℤ◌, ◌≤◌}
 pub use Rattle.std.proofs.Math.Path.{fun_ext}
-pub use Rattle.std.proofs.lemmas.Bool.{and_from, and_parts, and_right, both_ways, false_from_ne_true, false≢true}
-pub use Rattle.std.proofs.lemmas.Bool.{leb-true, ltb-false, ltb-true, true_from_ne_false}
+pub use Rattle.std.proofs.lemmas.Bool.{and_from, and_parts, and_right, both_ways, cond_both, false_from_ne_true}
+pub use Rattle.std.proofs.lemmas.Bool.{false≢true, leb-true, ltb-false, ltb-true, true_from_ne_false}
 pub use Rattle.std.proofs.lemmas.Cmp.{tied_itself}
 pub use Rattle.std.proofs.lemmas.Fn.{always_returns_same}
 pub use Rattle.std.proofs.lemmas.Int.{ints}
@@ -18,14 +19,9 @@ pub use Rattle.std.proofs.lemmas.Option.{get_or_from_slice_get, slice_get-map, s
 pub use Rattle.std.proofs.lemmas.Slice.Zip.{AllZip-long, AllZip-map}
 pub use Rattle.std.specs.Cmp.{IsStrictWeakOrder}
 pub use Rattle.std.specs.Cmp.Lexicographic.{slice_cmp}
-pub use Rattle.std.specs.List.{AllByRecursion, AllZip, Contains, cons_option, count_by, filter_map, find, flat_map}
-pub use Rattle.std.specs.List.{list_all, sum}
+pub use Rattle.std.specs.List.{AllByRecursion, AllZip, cons_option, count_by, filter_map, find, flat_map, list_all, sum}
 pub use Rattle.std.specs.List.Sorted.{IsBinarySearchResult, IsPartitionPoint, IsSearchInRange}
 pub use Rattle.std.specs.Option.{option_and_then, option_copied, option_map, option_map_or, option_or}
-pub use Rattle.std.specs.Ordering.{nat_cmp}
-pub use Rattle.std.specs.Prelude.{int_le, int_lt, nat_le, nat_lt, slice_get, ◌&&◌, ◌==◌, ◌↔◌}
-pub use Rattle.std.specs.Result.{is_ok}
-pub use Rattle.std.specs.declared.cmp.Ordering.TheVariants.{Equal, Greater, Less}
 pub use Rattle.ghcn_fields.specs.Faults.{first_failing}
 pub use Rattle.ghcn_fields.specs.Meaning.Bytes.{same_bytes}
 pub use Rattle.ghcn_fields.specs.Sorting.{sorted_by}
@@ -49,6 +45,7 @@ pub use Rattle.ghcn_series.specs.Says.{data_of}
 pub use Rattle.ghcn_series.specs.Series.{Data, is_series_of, series_of}
 pub use Rattle.rank_query.specs.Admits.{admits_station}
 pub use Rattle.rank_query.specs.Meaning.Asked.{Query, IsAsked, score_element}
+pub use Rattle.rank_scores.proofs.Leaders.{filter-all}
 pub use Rattle.rank_scores.proofs.QueryCandidates.{morsels_rise}
 pub use Rattle.rank_scores.proofs.QueryMorsels.{by_station}
 pub use Rattle.rank_scores.proofs.Ranks.{Descends}
@@ -63,8 +60,8 @@ pub use Rattle.rank_scores.specs.QueryCandidates.{CandidatesAreApart}
 pub use Rattle.rank_scores.specs.declared.candidate.Candidate.{Candidate}
 pub use Rattle.rank_papers.proofs.NamedRows.{descends_order}
 pub use Rattle.rank_papers.proofs.ReadBoth.{papers_read}
-pub use Rattle.rank_papers.specs.Certificate.{Certified, Line, IsFoundCertificate, IsCertificateOf, IsCertified, IsCount}
-pub use Rattle.rank_papers.specs.Certificate.{IsEntry, IsRightEntry, SaysRightCertificate, count_of, counts_of}
+pub use Rattle.rank_papers.specs.Certificate.{Certified, Line, IsFoundCertificate, IsCertificateOf, IsCertified}
+pub use Rattle.rank_papers.specs.Certificate.{IsCount, IsEntry, IsRightEntry, SaysRightCertificate, count_of, counts_of}
 pub use Rattle.rank_papers.specs.Certificate.{kth_of_best}
 pub use Rattle.rank_papers.specs.CertificateLines.{certified_in, read_certificate}
 pub use Rattle.rank_papers.specs.Laws.{CertificatesAreRead, ReportsAreRead, RightCertificatesSayRight}

@@ -1,15 +1,13 @@
 -- Worked verdicts of parts, by computation.
-use Rattle.std.proofs.Common.{◌≡◌, ℕ, List, [], ◌∷◌, ◌++◌, refl}
+use Rattle.std.proofs.Common.{◌++◌}
 use Rattle.std.specs.Prelude.{codes, pos}
 use Rattle.std.specs.Fmt.{digits}
 use Rattle.jiff_core.specs.Calendar.{days_from_civil, day_count, days_of_years, days_of_months}
 use Rattle.ghcn_fields.specs.Meaning.Dates.{year_and_rest, month_and_day}
 use Rattle.ghcn_files.specs.declared.element.Element.TheVariants.{Tmax}
 use Rattle.ghcn_files.specs.StationLines.{station_of}
-use Rattle.ghcn_series.specs.Meaning.Series.{DayValue, Series}
-use Rattle.ghcn_series.specs.Series.{Data}
+use Rattle.ghcn_series.specs.Meaning.Series.{DayValue}
 use Rattle.rank_query.specs.declared.score.Score.TheVariants.{Highest}
-use Rattle.rank_query.specs.Meaning.Asked.{Query}
 use Rattle.rank_query.specs.Asked.{top}
 use Rattle.rank_query.specs.Words.{says}
 use Rattle.rank_query.specs.Readers.{keyword}
@@ -17,14 +15,12 @@ use Rattle.rank_query.specs.WordValues.{number, element}
 use Rattle.rank_query.specs.Reading.{no_score_at, score_at, region_at, season_at, period_at, per_at, read_words}
 use Rattle.rank_query.specs.Reading.{read_query}
 use Rattle.rank_papers.specs.declared.fault.Paper.TheVariants.{Report, Certificate}
-use Rattle.rank_check.specs.declared.verdict.Why.{Why}
-use Rattle.rank_check.specs.declared.verdict.Why.TheVariants.{Form, OtherQuery, NotACandidate, OutOfOrder, NotBest}
-use Rattle.rank_check.specs.declared.verdict.Why.TheVariants.{OtherSeries, NoBound, NotBelow, NotCounted, OtherFloor}
-use Rattle.rank_check.specs.Tests.{refusal}
+use Rattle.rank_check.specs.declared.verdict.Why.TheVariants.{Form, OtherQuery, OutOfOrder, OtherFloor}
 use Rattle.rank_parts.specs.declared.verdict.PartVerdict.{PartVerdict}
-use Rattle.rank_parts.specs.declared.verdict.PartVerdict.TheVariants.{Accepted, Refused}
 use Rattle.rank_parts.specs.Parts.{part_verdict}
 use Rattle.rank_parts.specs.Texts.{verdict_text}
+use Rattle.rank_parts.proofs.Cited.{◌≡◌, ℕ, List, [], ◌∷◌, refl, Series, Data, Query, Why, NotACandidate, NotBest}
+use Rattle.rank_parts.proofs.Cited.{OtherSeries, NoBound, NotBelow, NotCounted, refusal, Accepted, Refused}
 
 -- what a verdict computes with, besides what unfolds everywhere
 verdicts : Unit {0}
@@ -43,31 +39,18 @@ abbrev part : List Series → Data
 part series = record {
   stations = station_of (codes "ZZA00000001  10.0000   20.0000  100.0    ALPHA")
       ∷ station_of (codes "ZZA00000002  11.0000   21.0000  100.0    BRAVO")
-      ∷ station_of (codes "ZZA00000003  12.0000   22.0000  100.0    CHARLIE")
-      ∷ [];
+      ∷ station_of (codes "ZZA00000003  12.0000   22.0000  100.0    CHARLIE") ∷ [];
   series = series;
   unlisted = 0;
 }
 
--- the first has the two greatest values of all, one of them tied
-abbrev alpha : Series
-alpha = warm (codes "ZZA00000001") ((pos 18444, pos 311) ∷ (pos 18445, pos 305) ∷ [])
-
-abbrev bravo : Series
-bravo = warm (codes "ZZA00000002") ((pos 18444, pos 311) ∷ [])
-
-abbrev charlie : Series
-charlie = warm (codes "ZZA00000003") ((pos 18444, pos 250) ∷ [])
-
--- two parts of them, and one without any
+-- two parts of these: the first series has the two greatest values of all, one of them tied
 abbrev first_part : Data
-first_part = part (alpha ∷ charlie ∷ [])
+first_part = part (warm (codes "ZZA00000001") ((pos 18444, pos 311) ∷ (pos 18445, pos 305) ∷ [])
+    ∷ warm (codes "ZZA00000003") ((pos 18444, pos 250) ∷ []) ∷ [])
 
 abbrev second_part : Data
-second_part = part (bravo ∷ [])
-
-abbrev no_part : Data
-no_part = part []
+second_part = part (warm (codes "ZZA00000002") ((pos 18444, pos 311) ∷ []) ∷ [])
 
 -- the k highest of all
 abbrev ask : ℕ → Query
@@ -123,7 +106,7 @@ of_certificate z = part_verdict (ask 1) first_part right_report z
 
 -- a verdict of the part without series
 abbrev seen : List ℕ → List ℕ → PartVerdict
-seen r z = part_verdict (ask 1) no_part r z
+seen r z = part_verdict (ask 1) (part []) r z
 
 -- a refusal of a line of the certificate
 abbrev bad_line : ℕ → Why → PartVerdict
@@ -139,23 +122,14 @@ accepted : (of_both right_report right_counted ≡ (Accepted 2 3, Accepted 1 3))
 unfolding verdicts
 accepted = (refl, refl, refl)
 
--- a line that stands for no series isn't seen by any part: each accepts, and 2 and 1 don't add up to 4
-one_line_more : of_both right_report
+-- a line that stands for no series isn't seen by any part: each accepts, and 2 and 1 don't add up to 4; a series
+-- without a line is seen by the part that has it, at the end line, and by no other
+more_and_fewer : (of_both right_report
     (two_counted (codes "skip ZZA00000003 250" ∷ codes "scan ZZA00000004 9 0" ∷ codes "end 4" ∷ []))
-    ≡ (Accepted 2 4, Accepted 1 4)
+    ≡ (Accepted 2 4, Accepted 1 4))
+    × (of_both right_report (two_counted (codes "end 2" ∷ [])) ≡ (bad_line 6 OtherSeries, Accepted 1 2))
 unfolding verdicts
-one_line_more = refl
-
--- a series without a line is seen by the part that has it, at the end line, and by no other
-missing : of_both right_report (two_counted (codes "end 2" ∷ [])) ≡ (bad_line 6 OtherSeries, Accepted 1 2)
-unfolding verdicts
-missing = refl
-
--- a report that leaves out the best candidate is refused by its part, and by no other
-left_out : of_both (report (codes "1 ZZA00000002 2020-07-01 2020-07-01 31.1 C BRAVO")) right_plain
-    ≡ (bad_line 4 NotBest, Accepted 1 3)
-unfolding verdicts
-left_out = refl
+more_and_fewer = (refl, refl)
 
 -- lines of a part: a bound below a candidate, a skip at the k-th score; a bound of a series of another part isn't seen
 bad_lines : (of_certificate (bounded (codes "310") (codes "311") (codes "250")) ≡ bad_line 4 NoBound)
@@ -164,20 +138,22 @@ bad_lines : (of_certificate (bounded (codes "310") (codes "311") (codes "250")) 
 unfolding verdicts
 bad_lines = (refl, refl, refl)
 
--- rows of a part's series: another value, another name; the part that doesn't have the series sees neither
+-- rows of a part's series: another value, another name, the best candidate left out; the part that doesn't have the
+-- series sees none of these
 bad_rows : (part_verdict (ask 1) first_part (report (codes "1 ZZA00000001 2020-07-02 2020-07-02 31.1 C ALPHA"))
     right_counted ≡ bad_line 4 NotACandidate)
     × (of_both (report (codes "1 ZZA00000001 2020-07-01 2020-07-01 31.1 C BRAVO")) right_counted
     ≡ (bad_line 4 NotACandidate, Accepted 1 3))
+    × (of_both (report (codes "1 ZZA00000002 2020-07-01 2020-07-01 31.1 C BRAVO")) right_plain
+    ≡ (bad_line 4 NotBest, Accepted 1 3))
 unfolding verdicts
-bad_rows = (refl, refl)
+bad_rows = (refl, refl, refl)
 
 -- ---- the head, which each part sees, also one without series
 
 -- the forms, the queries, the k-th score
-heads : (seen [] [] ≡ Refused (refusal Report 1 Form))
-    × (seen right_report [] ≡ bad_line 1 Form)
-    × (part_verdict (ask 2) no_part right_report right_counted ≡ Refused (refusal Report 2 OtherQuery))
+heads : (seen [] [] ≡ Refused (refusal Report 1 Form)) × (seen right_report [] ≡ bad_line 1 Form)
+    × (part_verdict (ask 2) (part []) right_report right_counted ≡ Refused (refusal Report 2 OtherQuery))
     × (seen right_report (headed (codes "query top 2 highest TMAX") (codes "kth 311")
     (codes "scan ZZA00000001 311 1" ∷ codes "end 1" ∷ [])) ≡ bad_line 2 OtherQuery)
     × (seen right_report (headed (codes "query top 1 highest TMAX") (codes "kth 310")
@@ -185,24 +161,20 @@ heads : (seen [] [] ≡ Refused (refusal Report 1 Form))
 unfolding verdicts
 heads = (refl, refl, refl, refl, refl)
 
--- lines that don't rise, a row of no line that was scanned, a count of another number of rows
+-- lines that don't rise, a row of no line that was scanned, a count of another number of rows, and rows out of order
 lines_of_heads : (seen right_report (counted (codes "scan ZZA00000002 311 0" ∷ codes "scan ZZA00000001 311 1"
     ∷ codes "end 2" ∷ [])) ≡ bad_line 5 OtherSeries)
     × (seen right_report (counted (codes "skip ZZA00000001 300" ∷ codes "scan ZZA00000002 311 0" ∷ codes "end 2" ∷ []))
     ≡ Refused (refusal Report 3 NotACandidate))
     × (seen right_report (counted (codes "scan ZZA00000001 311 0" ∷ codes "end 1" ∷ [])) ≡ bad_line 4 NotCounted)
-unfolding verdicts
-lines_of_heads = (refl, refl, refl)
-
--- rows out of order
-rows_of_heads : part_verdict (ask 2) no_part (text (codes "extremes report 1" ∷ codes "query top 2 highest TMAX"
+    × (part_verdict (ask 2) (part []) (text (codes "extremes report 1" ∷ codes "query top 2 highest TMAX"
     ∷ codes "1 ZZA00000001 2020-07-02 2020-07-02 30.5 C ALPHA"
-    ∷ codes "2 ZZA00000002 2020-07-01 2020-07-01 31.1 C BRAVO"
-    ∷ codes "end 2" ∷ [])) (headed (codes "query top 2 highest TMAX") (codes "kth 305")
+    ∷ codes "2 ZZA00000002 2020-07-01 2020-07-01 31.1 C BRAVO" ∷ codes "end 2" ∷ []))
+    (headed (codes "query top 2 highest TMAX") (codes "kth 305")
     (codes "scan ZZA00000001 311 1" ∷ codes "scan ZZA00000002 311 1" ∷ codes "end 2" ∷ []))
-    ≡ Refused (refusal Report 4 OutOfOrder)
+    ≡ Refused (refusal Report 4 OutOfOrder))
 unfolding verdicts
-rows_of_heads = refl
+lines_of_heads = (refl, refl, refl, refl)
 
 -- ---- what is reported first
 

@@ -2,10 +2,8 @@ mod Cited
 pub mod StationRows
 pub mod EntryLists
 pub mod SaidInPieces
-pub mod Heads
 pub mod OwnLines
 pub mod WholePapers
 pub mod Walks
 pub mod LineReasons
-pub mod OneElement
 pub mod Examples

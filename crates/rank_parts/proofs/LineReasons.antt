@@ -1,14 +1,12 @@
 -- Why a line is refused, by what is looked up of its station, and what the head shows of its rows.
-use Rattle.rank_parts.proofs.Cited.{◌≡◌, ℕ, Bool, true, false, cond, not, List, [], Option, Some, None, refl, sym, ap}
-use Rattle.rank_parts.proofs.Cited.{◌∙◌, subst, find, AllByRecursion, option_and_then, and_right, both_ways}
-use Rattle.rank_parts.proofs.Cited.{tied_itself, nil_from_length, first_failing, Station, StationId, same_id-is}
-use Rattle.rank_parts.proofs.Cited.{is_station_of, Series, Data, series_of, In, of_one, for_each, found_in}
-use Rattle.rank_parts.proofs.Cited.{in-contains, Query, score_element, admits_station, Candidate, Named, Reported}
-use Rattle.rank_parts.proofs.Cited.{IsReported, Line, Certified, count_of, of_rows, IsRightHead, IdsRise, is_scanned}
-use Rattle.rank_parts.proofs.Cited.{by_bytes, bytes_total, scanned_at, Why, is_morsel, piece_tests, rows_with, worst_of}
-use Rattle.rank_parts.proofs.Cited.{why_at, why_of_line, IsSeen, AreSeen}
-use Rattle.rank_parts.proofs.Heads.{few_rows}
-use Rattle.rank_parts.proofs.StationRows.{count_rows}
+use Rattle.rank_parts.proofs.Cited.{option_and_then, nil_from_length, AllByRecursion, admits_station, first_failing, []}
+use Rattle.rank_parts.proofs.Cited.{is_station_of, score_element, tied_itself, in-contains, IsRightHead, bytes_total, ℕ}
+use Rattle.rank_parts.proofs.Cited.{piece_tests, why_of_line, same_id-is, IsReported, is_scanned, scanned_at, and_right}
+use Rattle.rank_parts.proofs.Cited.{both_ways, StationId, series_of, Candidate, Certified, is_morsel, rows_with, Option}
+use Rattle.rank_parts.proofs.Cited.{Data, for_each, found_in, Reported, count_of, by_bytes, worst_of, Station, Bool}
+use Rattle.rank_parts.proofs.Cited.{of_rows, IdsRise, AreSeen, Series, of_one, why_at, IsSeen, false, subst, Query, ◌≡◌}
+use Rattle.rank_parts.proofs.Cited.{Named, true, cond, List, Some, None, refl, find, Line, not, sym, ◌∙◌, Why, ap, In}
+use Rattle.rank_parts.proofs.StationRows.{few_rows, count_rows}
 
 -- ---- what is looked up
 
@@ -22,8 +20,7 @@ module _ (q : Query) (d : Data) (rows : List Named) (e : Line) where
   pub why_is : (st : Station) (o : Option Series) (b : Bool) → series_of d e.id (score_element q.score) ≡ o
       → find (is_station_of e.id) d.stations ≡ Some st → is_morsel q st o ≡ b
       → why_of_line q d rows e ≡ cond b (failing st o) None
-  why_is st o b s f is =
-      let id = same_id-is st.id e.id (found_in (is_station_of e.id) d.stations st f).1 in
+  why_is st o b s f is = let id = same_id-is st.id e.id (found_in (is_station_of e.id) d.stations st f).1 in
       ap (option_and_then (why_at q d rows e)) f
       ∙ ap (λ (u : Option Series). cond (is_morsel q st u) (failing st u) None)
       (ap (λ (i : StationId). series_of d i (score_element q.score)) id ∙ s)
@@ -52,8 +49,7 @@ module _ (q : Query) (d : Data) (rows : List Named) (e : Line) where
 
 -- a line says whether its station was scanned
 scanned_line : (es : List Line) → IdsRise es → (e : Line) → In es e → is_scanned es e.id ≡ not e.skipped
-scanned_line es up e h =
-    let at = in-contains es e h in
+scanned_line es up e h = let at = in-contains es e h in
     scanned_at e.id es at.0 e up at.1 (ap (λ (f : Line). by_bytes f.id e.id) at.2 ∙ tied_itself bytes_total e.id)
     ∙ ap (λ (f : Line). not f.skipped) at.2
 
@@ -69,9 +65,6 @@ none_of rows es up scanned e h none = nil_from_length (rows_with e.id rows) (sym
 -- a right head shows all that is asked of rows and lines
 pub head_shows : (q : Query) (r : Reported) (z : Certified) → IsReported r → IsRightHead q r z
     → AreSeen q r.rows z.entries
-head_shows q r z can h =
-    for_each (IsSeen q r.rows) z.entries (λ e k. record {
-      order = h.order;
-      few = few_rows q r can h.report;
-      none = none_of r.rows z.entries h.rise h.scanned e k;
-    })
+head_shows q r z can h = let none = none_of r.rows z.entries h.rise h.scanned in
+    for_each (IsSeen q r.rows) z.entries
+    (λ e k. record { order = h.order; few = few_rows q r can h.report; none = none e k })

@@ -1,10 +1,10 @@
 -- What parts say that accept a report and a certificate is so of all data, and back.
-use Rattle.rank_parts.proofs.Cited.{◌≡◌, ℕ, suc, Bool, true, false, cond, List, [], ◌∷◌, length, Option, Some, None}
-use Rattle.rank_parts.proofs.Cited.{refl, Ok, ◌+◌, AllByRecursion, option_or, option_map, option_map_or, Data}
-use Rattle.rank_parts.proofs.Cited.{Query, morsels, Reported, Line, Certified, HeadFault, head_fault, Why, Certificate}
-use Rattle.rank_parts.proofs.Cited.{OtherSeries, Refusal, refusal, Accepted, Refused, refusal_of, why_of_line}
-use Rattle.rank_parts.proofs.Cited.{first_refused, have_lines, part_judged, ◌↔◌, sym, ◌∙◌, ◌≤◌, not, map, ap, subst}
-use Rattle.rank_parts.proofs.Cited.{arith, ◌||◌, ◌&&◌, ◌==◌, int_le, find, list_all, sum, flat_map, AllZip, length-map}
+use Rattle.rank_parts.proofs.Cited.{◌≡◌, ℕ, suc, Bool, true, cond, List, [], ◌∷◌, length, Option, Some, None, refl, Ok}
+use Rattle.rank_parts.proofs.Cited.{◌+◌, AllByRecursion, option_or, option_map, option_map_or, Data, Query, morsels}
+use Rattle.rank_parts.proofs.Cited.{Reported, Line, Certified, HeadFault, head_fault, Why, Certificate, OtherSeries}
+use Rattle.rank_parts.proofs.Cited.{Refusal, refusal, Accepted, Refused, refusal_of, why_of_line, first_refused}
+use Rattle.rank_parts.proofs.Cited.{have_lines, part_judged, ◌↔◌, sym, ◌∙◌, ◌≤◌, not, map, ap, subst, arith, ◌||◌, ◌&&◌}
+use Rattle.rank_parts.proofs.Cited.{◌==◌, int_le, find, list_all, sum, flat_map, AllZip, length-map, cond_both}
 use Rattle.rank_parts.proofs.Cited.{length-flat_map, IsPermutation-sym, length_permutation, sum-map, AllZip-long}
 use Rattle.rank_parts.proofs.Cited.{AllZip-map, same_bytes, first_failing, sorted_by, sorted-permutation, Station}
 use Rattle.rank_parts.proofs.Cited.{StationId, same_id, is_station_of, Series, series_of, IsContents, zip-weaker, In}
@@ -15,10 +15,12 @@ use Rattle.rank_parts.proofs.Cited.{is_one_of, is_morsel, is_within_worst, score
 use Rattle.rank_parts.proofs.Cited.{or_rest, permuted_in, own_id, listed_found, station_of, is_morsel_of, rows_with}
 use Rattle.rank_parts.proofs.Cited.{worst_of, own_series, IsAccepted, IsAbsent, is_own, has_line, bound_is_below}
 use Rattle.rank_parts.proofs.Cited.{option_and_then, found_in, all_passes, or_made, AreRightPieces, why_at, refused}
-use Rattle.rank_parts.proofs.EntryLists.{in_zip, zip_each, line_of, absent_where, has_where, RiseAll, ids_of}
+use Rattle.rank_parts.proofs.Cited.{Result, Err, fun_ext, same_element, is_kept, only, is_kept-only, is_series_of}
+use Rattle.rank_parts.proofs.Cited.{data_for, MorselsStay, find-filter, Paper, read_papers, PartVerdictStays}
+use Rattle.rank_parts.proofs.Walks.{is_listed}
+use Rattle.rank_parts.proofs.EntryLists.{in_zip, ids_among, zip_each, line_of, has_where, RiseAll, ids_of}
 use Rattle.rank_parts.proofs.EntryLists.{morsel_ids, no_others}
-use Rattle.rank_parts.proofs.LineReasons.{why_is}
-use Rattle.rank_parts.proofs.Heads.{recounted}
+use Rattle.rank_parts.proofs.LineReasons.{failing, why_is}
 
 -- ---- what a part says
 
@@ -45,8 +47,7 @@ pub record SeesNothing (q : Query) (d : Data) (r : Reported) (z : Certified) (n 
 -- so it is
 pub sees_nothing : (q : Query) (d : Data) (r : Reported) (z : Certified) (n m : ℕ)
     → part_judged q d (Ok (r, z)) ≡ Accepted n m → SeesNothing q d r z n m
-sees_nothing q d r z n m e =
-    by (head_fault q r z) (first_refused (why_of_line q d r.rows) 4 z.entries)
+sees_nothing q d r z n m e = by (head_fault q r z) (first_refused (why_of_line q d r.rows) 4 z.entries)
     (have_lines q d z.entries) refl refl refl e
   where
     by : (h : Option HeadFault) (l : Option Refusal) (b : Bool) → head_fault q r z ≡ h
@@ -55,16 +56,9 @@ sees_nothing q d r z n m e =
         (option_or l (cond b None (Some (refusal Certificate (length z.entries + 4) OtherSeries)))))
         (Accepted (length (morsels q d)) (length z.entries)) ≡ Accepted n m
         → SeesNothing q d r z n m
-    by (Some f) l b s t u g = absurd cc
-    by None (Some v) b s t u g = absurd cc
-    by None None false s t u g = absurd cc
-    by None None true s t u g = record {
-      head = s;
-      lines = (none_refused (why_of_line q d r.rows) z.entries 4).0 t;
-      all = u;
-      series = cc;
-      long = cc;
-    }
+    by None None true s t u g = let lines = (none_refused (why_of_line q d r.rows) z.entries 4).0 t in
+        record { head = s; lines = lines; all = u; series = cc; long = cc }
+    by _ _ _ s t u g = absurd cc
 
 -- ---- series that are the same for a query
 
@@ -73,20 +67,12 @@ same_tests : (q : Query) (st : Station) (u v : Series) → IsSameFor q u v
     → is_morsel q st (Some u) ≡ is_morsel q st (Some v) → (e : Line) (n : ℕ) (rows : List Named)
     (worst : Option Candidate) → first_failing (piece_tests q st (Some u) e n rows worst)
     ≡ first_failing (piece_tests q st (Some v) e n rows worst)
-same_tests q st u v same own e n rows worst = λ i. first_failing (
-    (same_id st.id e.id && own i, OtherSeries)
-    ∷ (n == length rows, NotCounted)
-    ∷ (
-      list_all (λ (row : Named). is_one_of (same.candidates i) row.0 && same_bytes (trimmed st.name) row.1) rows,
-      NotACandidate,
-    )
-    ∷ (
-      list_all (λ (x : Candidate). not (is_within_worst worst x) || is_one_of (of_rows rows) x) (same.candidates i),
-      NotBest,
-    )
-    ∷ (list_all (λ (x : Candidate). int_le x.score e.bound) (same.candidates i), NoBound)
-    ∷ (not e.skipped || bound_is_below (score_of worst) e.bound, NotBelow)
-    ∷ [])
+same_tests q st u v same own e n rows worst = let all = same.candidates in λ i. first_failing (
+    (same_id st.id e.id && own i, OtherSeries) ∷ (n == length rows, NotCounted)
+    ∷ (list_all (λ (row : Named). is_one_of (all i) row.0 && same_bytes (trimmed st.name) row.1) rows, NotACandidate)
+    ∷ (list_all (λ (x : Candidate). not (is_within_worst worst x) || is_one_of (of_rows rows) x) (all i), NotBest)
+    ∷ (list_all (λ (x : Candidate). int_le x.score e.bound) (all i), NoBound)
+    ∷ (not e.skipped || bound_is_below (score_of worst) e.bound, NotBelow) ∷ [])
 
 -- ---- the morsels of the parts and of the whole
 
@@ -98,26 +84,21 @@ module _ (q : Query) (c : Data) (ds : List Data) (cut : IsCut q c ds) where
   -- one of all data takes the place of one of a part
   part_of : (v : Series) → In (morsels q c) v
       → (d : Data) × In ds d × (u : Series) × In (morsels q d) u × IsSameFor q u v
-  part_of v h =
-      let u = zip_in (IsSameFor q) sorted (morsels q c) cut.morsels v h in
-      let d = all_in (morsels q) ds u.0 (permuted_in sorted (flat_map (morsels q) ds)
-      (IsPermutation-sym (flat_map (morsels q) ds) sorted
-      (sorted-permutation series_first (flat_map (morsels q) ds))) u.0 u.1) in
+  part_of v h = let u = zip_in (IsSameFor q) sorted (morsels q c) cut.morsels v h in
+      let back = IsPermutation-sym _ _ (sorted-permutation series_first (flat_map (morsels q) ds)) in
+      let d = all_in (morsels q) ds u.0 (permuted_in sorted (flat_map (morsels q) ds) back u.0 u.1) in
       (d.0, d.1, u.0, d.2, u.2)
 
   -- and back
   whole_of : (d : Data) → In ds d → (u : Series) → In (morsels q d) u
       → (v : Series) × In (morsels q c) v × IsSameFor q u v
-  whole_of d h u k =
-      in_zip (IsSameFor q) sorted (morsels q c) cut.morsels u (permuted_in (flat_map (morsels q) ds) sorted
-      (sorted-permutation series_first (flat_map (morsels q) ds)) u (in_all (morsels q) ds d u h k))
+  whole_of d h u k = in_zip (IsSameFor q) sorted (morsels q c) cut.morsels u
+      (permuted_in _ _ (sorted-permutation series_first (flat_map (morsels q) ds)) u (in_all (morsels q) ds d u h k))
 
   -- the numbers of the parts' morsels add up to that of all data
   pub add_up : sum (map (λ (d : Data). length (morsels q d)) ds) ≡ length (morsels q c)
-  add_up =
-      sum-map (λ (d : Data). length (morsels q d)) ds ∙ sym (length-flat_map (morsels q) ds)
-      ∙ sym (length_permutation (flat_map (morsels q) ds) sorted
-      (sorted-permutation series_first (flat_map (morsels q) ds)))
+  add_up = sum-map (λ (d : Data). length (morsels q d)) ds ∙ sym (length-flat_map (morsels q) ds)
+      ∙ sym (length_permutation _ _ (sorted-permutation series_first (flat_map (morsels q) ds)))
       ∙ sym (AllZip-long (IsSameFor q) sorted (morsels q c) cut.morsels)
 
   module _ (d : Data) (h : In ds d) where
@@ -131,9 +112,7 @@ module _ (q : Query) (c : Data) (ds : List Data) (cut : IsCut q c ds) where
         → first_failing (piece_tests q st (own_series q d st) e n rows worst)
         ≡ first_failing (piece_tests q st (own_series q c st) e n rows worst))
     same_morsel st k mine =
-        let u = morsel_of q d st k mine in
-        let v = whole_of d h u.0 u.2 in
-        let s = station_of q c v.0 v.1 in
+        let u = morsel_of q d st k mine in let v = whole_of d h u.0 u.2 in let s = station_of q c v.0 v.1 in
         let id : s.0.id ≡ st.id = sym (own_id q c s.0 v.0 s.3) ∙ sym v.2.id ∙ own_id q d st u.0 u.1 in
         let here : own_series q c st ≡ Some v.0 =
         ap (λ (i : StationId). series_of c i (score_element q.score)) (sym id) ∙ s.3 in
@@ -155,57 +134,33 @@ module _ (q : Query) (c : Data) (ds : List Data) (right : IsContents c) (cut : I
   seen_by d h = let s = in_zip (λ (x : Data) (n : ℕ). SeesNothing q x r z n m) ds ns seen d h in (s.0, s.2)
 
   -- a morsel has a line
-  line_for : (v : Series) → In (morsels q c) v → (e : Line) × In z.entries e × (e.id ≡ v.id)
-  line_for v h =
-      let p = part_of q c ds cut v h in
-      let st = station_of q p.0 p.2 p.3 in
-      let each = each_passes (λ (s : Station). not (is_own q p.0 s) || has_line z.entries s.id) p.0.stations
-      (seen_by p.0 p.1).1.all in
-      let has = or_rest (is_own q p.0 st.0) (has_line z.entries st.0.id)
-      (of_one (λ (s : Station). (not (is_own q p.0 s) || has_line z.entries s.id) ≡ true) p.0.stations st.0 each st.1)
-      (is_morsel_of q p.0 st.0 p.2 st.2 st.3 p.3) in
-      let e = line_of z.entries st.0.id has in
-      (e.0, e.1, e.2 ∙ sym (own_id q p.0 st.0 p.2 st.3) ∙ p.4.id)
-
-  -- so a station without a line isn't a morsel
-  pub none_missing : AllByRecursion (IsAbsent q c z.entries) c.stations
-  none_missing = absent_where q c z.entries line_for
+  pub line_for : (v : Series) → In (morsels q c) v → (e : Line) × In z.entries e × (e.id ≡ v.id)
+  line_for v h = let p = part_of q c ds cut v h in let st = station_of q p.0 p.2 p.3 in
+      let each = each_passes (is_listed q p.0 z.entries) p.0.stations (seen_by p.0 p.1).1.all in
+      let own = of_one (λ (s : Station). is_listed q p.0 z.entries s ≡ true) p.0.stations st.0 each st.1 in
+      let e = line_of z.entries st.0.id (or_rest (is_own q p.0 st.0) (has_line z.entries st.0.id) own
+      (is_morsel_of q p.0 st.0 p.2 st.2 st.3 p.3)) in (e.0, e.1, e.2 ∙ sym (own_id q p.0 st.0 p.2 st.3) ∙ p.4.id)
 
   module _ (up : RiseAll (ids_of z.entries)) (long : length z.entries ≡ m) (adds : sum ns ≡ m) where
-    -- there are at most as many lines as morsels
-    as_many : length (ids_of z.entries) ≤ length (map (λ (s : Series). s.id) (morsels q c))
-    as_many =
+    -- each line belongs to a morsel, since there are at most as many lines as morsels
+    morsel_for : (e : Line) → In z.entries e → (v : Series) × In (morsels q c) v × (v.id ≡ e.id)
+    morsel_for e h =
         let own : ns ≡ map (λ (d : Data). length (morsels q d)) ds =
         AllZip-map (λ (d : Data). length (morsels q d)) ds ns
         (zip-weaker (λ (d : Data) (n : ℕ). SeesNothing q d r z n m)
         (λ (d : Data) (n : ℕ). n ≡ length (morsels q d)) ds ns (λ d n s. sym s.series) seen) in
-        omega (
-          arith,
-          length-map z.entries (λ (e : Line). e.id),
-          length-map (morsels q c) (λ (s : Series). s.id),
-          ap (λ (ks : List ℕ). sum ks) own ∙ add_up q c ds cut,
-          long,
-          adds,
-        )
-
-    -- so each line belongs to a morsel
-    morsel_for : (e : Line) → In z.entries e → (v : Series) × In (morsels q c) v × (v.id ≡ e.id)
-    morsel_for e h =
+        let many = ap (λ (ks : List ℕ). sum ks) own ∙ add_up q c ds cut in
+        let ids = length-map z.entries (λ (e : Line). e.id) in
+        let few : length (ids_of z.entries) ≤ length (map (λ (s : Series). s.id) (morsels q c)) =
+        omega (arith, many, ids, long, adds, length-map (morsels q c) (λ (s : Series). s.id)) in
         map_in (λ (s : Series). s.id) (morsels q c) e.id
         (no_others (map (λ (s : Series). s.id) (morsels q c)) (ids_of z.entries) (morsel_ids q c right) up
-        (λ i k.
-        let v = map_in (λ (s : Series). s.id) (morsels q c) i k in
-        let f = line_for v.0 v.1 in
-        subst (In (ids_of z.entries)) (f.2 ∙ v.2) (in_map (λ (x : Line). x.id) z.entries f.0 f.1))
-        as_many e.id (in_map (λ (x : Line). x.id) z.entries e h))
+        (ids_among q c z.entries line_for) few e.id (in_map (λ (x : Line). x.id) z.entries e h))
 
     -- each line is accepted by itself
-    line_accepted : (e : Line) → In z.entries e → IsAccepted q c r.rows e (count_of (of_rows r.rows) e)
-    line_accepted e h =
-        let v = morsel_for e h in
-        let p = part_of q c ds cut v.0 v.1 in
-        let st = station_of q p.0 p.2 p.3 in
-        let mine = is_morsel_of q p.0 st.0 p.2 st.2 st.3 p.3 in
+    pub line_accepted : (e : Line) → In z.entries e → IsAccepted q c r.rows e (count_of (of_rows r.rows) e)
+    line_accepted e h = let v = morsel_for e h in let p = part_of q c ds cut v.0 v.1 in
+        let st = station_of q p.0 p.2 p.3 in let mine = is_morsel_of q p.0 st.0 p.2 st.2 st.3 p.3 in
         let id : st.0.id ≡ e.id = sym (own_id q p.0 st.0 p.2 st.3) ∙ p.4.id ∙ v.2 in
         let listed : p.0.stations ≡ c.stations = same_stations q c ds cut p.0 p.1 in
         let found : find (is_station_of e.id) c.stations ≡ Some st.0 =
@@ -213,20 +168,17 @@ module _ (q : Query) (c : Data) (ds : List Data) (right : IsContents c) (cut : I
         ∙ listed_found q c right st.0 (subst (λ (l : List Station). In l st.0) listed st.1) in
         let reason = why_is q p.0 r.rows e st.0 (own_series q p.0 st.0) true
         (ap (λ (i : StationId). series_of p.0 i (score_element q.score)) (sym id))
-        (ap (λ (l : List Station). find (is_station_of e.id) l) listed ∙ found) mine in (
-          st.0,
-          found,
-          sym ((same_morsel q c ds cut p.0 p.1 st.0 st.1 mine).1 e (count_of (of_rows r.rows) e)
-              (rows_with e.id r.rows) (worst_of q.k r.rows))
-              ∙ sym reason
-              ∙ of_one (λ (x : Line). why_of_line q p.0 r.rows x ≡ None) z.entries e (seen_by p.0 p.1).1.lines h,
-        )
-
-    -- so are all lines
-    pub lines_accepted : AllZip (IsAccepted q c r.rows) z.entries (map (count_of (of_rows r.rows)) z.entries)
-    lines_accepted = (zip_each (IsAccepted q c r.rows) (count_of (of_rows r.rows)) z.entries).1 line_accepted
+        (ap (find (is_station_of e.id)) listed ∙ found) mine in
+        let same = (same_morsel q c ds cut p.0 p.1 st.0 st.1 mine).1 e (count_of (of_rows r.rows) e)
+        (rows_with e.id r.rows) (worst_of q.k r.rows) in
+        let none = of_one (λ (x : Line). why_of_line q p.0 r.rows x ≡ None) z.entries e (seen_by p.0 p.1).1.lines h in
+        (st.0, found, sym same ∙ sym reason ∙ none)
 
 -- ---- a report and a certificate that are right for the whole are accepted by all parts
+
+-- the certificate of version 2 with the counts of some rows
+abbrev pub recounted : List Named → Certified → Certified
+recounted rows z = record z { version = 2; counts = map (count_of (of_rows rows)) z.entries }
 
 module _ (q : Query) (c : Data) (ds : List Data) (cut : IsCut q c ds) (r : Reported) (z : Certified)
     (pieces : AreRightPieces q c r (recounted r.rows z)) (d : Data) (h : In ds d) where
@@ -235,23 +187,18 @@ module _ (q : Query) (c : Data) (ds : List Data) (cut : IsCut q c ds) (r : Repor
   no_reason e k =
       let whole = (zip_each (IsAccepted q c r.rows) (count_of (of_rows r.rows)) z.entries).0 pieces.lines e k in
       let st : Station = whole.0 in
-      let n : ℕ = count_of (of_rows r.rows) e in
       let found : find (is_station_of e.id) d.stations ≡ Some whole.0 =
-      ap (λ (l : List Station). find (is_station_of e.id) l) (same_stations q c ds cut d h) ∙ whole.1 in
+      ap (find (is_station_of e.id)) (same_stations q c ds cut d h) ∙ whole.1 in
       let there = (found_in (is_station_of e.id) d.stations whole.0 found).0 in
       ap (option_and_then (why_at q d r.rows e)) found
-      ∙ (elim (is_own q d st) as (λ b. is_own q d st ≡ b → cond b (first_failing
-      (piece_tests q st (own_series q d st) e n (rows_with e.id r.rows) (worst_of q.k r.rows))) None ≡ None) [
-        | true ↦ λ own. (same_morsel q c ds cut d h st there own).1 e n (rows_with e.id r.rows) (worst_of q.k r.rows)
-            ∙ whole.2
-        | false ↦ λ own. refl
-      ] refl)
+      ∙ cond_both (is_own q d st) (failing q d r.rows e st (own_series q d st)) None (λ o. o ≡ None)
+      (λ own. (same_morsel q c ds cut d h st there own).1 e (count_of (of_rows r.rows) e) (rows_with e.id r.rows)
+      (worst_of q.k r.rows) ∙ whole.2) (λ own. refl)
 
   -- each morsel of the part has a line
   all_have : have_lines q d z.entries ≡ true
-  all_have =
-      all_passes (λ (st : Station). not (is_own q d st) || has_line z.entries st.id) d.stations
-      (for_each (λ (st : Station). (not (is_own q d st) || has_line z.entries st.id) ≡ true) d.stations (λ st k.
+  all_have = all_passes (is_listed q d z.entries) d.stations
+      (for_each (λ (st : Station). is_listed q d z.entries st ≡ true) d.stations (λ st k.
       or_made (is_own q d st) (has_line z.entries st.id) (λ own. has_where q c z.entries st
       (of_one (IsAbsent q c z.entries) c.stations st pieces.absent
       (subst (λ (l : List Station). In l st) (same_stations q c ds cut d h) k))
@@ -265,3 +212,27 @@ module _ (q : Query) (c : Data) (ds : List Data) (cut : IsCut q c ds) (r : Repor
       (for_each (λ e. why_of_line q d r.rows e ≡ None) z.entries no_reason) in
       λ i. option_or (option_map refusal_of (fine i)) (option_or (lines i)
       (cond (all_have i) None (Some (refusal Certificate (length z.entries + 4) OtherSeries))))
+
+-- ---- the verdict of a part rests on the series of the query's element alone
+
+module _ (series : MorselsStay) (q : Query) (c : Data) where
+  -- a station has the same series
+  own : own_series q (data_for q c) ≡ own_series q c
+  own = let e = score_element q.score in fun_ext (λ (st : Station).
+      find-filter (is_series_of st.id e) (λ u. is_kept (only e) u.element) c.series
+      (λ u is. is_kept-only e u.element ∙ (and_parts (same_id u.id st.id) (same_element u.element e) is).1))
+
+  -- so the verdict is the same
+  judged-same : (p : Result (Reported × Certified) (Paper × ℕ)) → part_judged q (data_for q c) p ≡ part_judged q c p
+  judged-same (Err bad) = refl
+  judged-same (Ok (r, z)) = λ i. option_map_or Refused (option_or (option_map refusal_of (head_fault q r z))
+      (option_or (first_refused (λ e. option_and_then (λ st. cond (is_morsel q st (own i st))
+      (first_failing (piece_tests q st (own i st) e (count_of (of_rows r.rows) e) (rows_with e.id r.rows)
+      (worst_of q.k r.rows))) None) (find (is_station_of e.id) c.stations)) 4 z.entries)
+      (cond (list_all (λ st. not (is_morsel q st (own i st)) || has_line z.entries st.id) c.stations) None
+      (Some (refusal Certificate (length z.entries + 4) OtherSeries)))))
+      (Accepted (length (series q c i)) (length z.entries))
+
+-- on the texts of a report and a certificate
+pub verdict_stays : MorselsStay → PartVerdictStays
+verdict_stays series q c report certificate = judged-same series q c (read_papers report certificate)

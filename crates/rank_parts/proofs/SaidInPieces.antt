@@ -1,44 +1,29 @@
 -- A report and a certificate say what is right if and only if all their pieces are right.
-use Rattle.rank_parts.proofs.Cited.{◌≡◌, ℕ, ◌≤◌, true, not, List, length, map, Option, Some, sym, ap, ◌∙◌, subst, ℤ}
-use Rattle.rank_parts.proofs.Cited.{◌&&◌, find, Contains, option_map, and_parts, Station, same_id, same_id-is}
-use Rattle.rank_parts.proofs.Cited.{is_station_of, Series, Data, IsContents, In, of_one, for_each, found_in, any_in}
-use Rattle.rank_parts.proofs.Cited.{in_kept, in_map, map_in, contains-in, in-contains, Query, IsAsked, Candidate}
-use Rattle.rank_parts.proofs.Cited.{candidates, AreApart, bound_is_below, all_candidates, morsels, best_of_query}
-use Rattle.rank_parts.proofs.Cited.{kth_of_query, IsAbove, Descends, Named, trimmed, Reported, IsReported}
-use Rattle.rank_parts.proofs.Cited.{SaysRightReport, name_of, Line, Certified, IsCertified, IsEntry, IsRightEntry}
-use Rattle.rank_parts.proofs.Cited.{SaysRightCertificate, counts_of, of_rows, is_scanned, is_within_worst, IsRightPiece}
-use Rattle.rank_parts.proofs.Cited.{right_piece, own_id, morsel_of, one_morsel, candidate_in, in_candidates}
-use Rattle.rank_parts.proofs.Cited.{order_descends, same_rows, rows_with, worst_of, own_series, IsAccepted}
-use Rattle.rank_parts.proofs.Cited.{AreRightPieces, Bool, Result, Ok, ◌≤ℤ◌, false, ◌↔◌, AllZip, false_from_ne_true}
-use Rattle.rank_parts.proofs.Cited.{StationId, in_any, kept_in, CandidatesAreApart, read_report, count_of}
-use Rattle.rank_parts.proofs.Cited.{read_certificate, CertificatesAreRead, RightCertificatesSayRight, ReportsAreRead}
-use Rattle.rank_parts.proofs.Cited.{RightReportsSayRight, descends_order, AcceptedWhereRight, score_of, zip_in}
-use Rattle.rank_parts.proofs.Cited.{listed_found, station_of, is_morsel_of, candidate_id, RightInPieces}
-use Rattle.rank_parts.proofs.Cited.{AcceptedInPieces, IsReportOf, IsCertificateOf, morsels_rise}
+use Rattle.rank_parts.proofs.Cited.{RightCertificatesSayRight, SaysRightCertificate, RightReportsSayRight, kth_of_query}
+use Rattle.rank_parts.proofs.Cited.{CertificatesAreRead, false_from_ne_true, CandidatesAreApart, AcceptedWhereRight, ap}
+use Rattle.rank_parts.proofs.Cited.{read_certificate, AcceptedInPieces, SaysRightReport, is_within_worst, is_station_of}
+use Rattle.rank_parts.proofs.Cited.{IsCertificateOf, bound_is_below, all_candidates, order_descends, AreRightPieces, In}
+use Rattle.rank_parts.proofs.Cited.{ReportsAreRead, descends_order, best_of_query, in_candidates, RightInPieces, Option}
+use Rattle.rank_parts.proofs.Cited.{IsRightEntry, IsRightPiece, candidate_in, listed_found, is_morsel_of, candidate_id}
+use Rattle.rank_parts.proofs.Cited.{morsels_rise, contains-in, in-contains, IsCertified, right_piece, read_report, true}
+use Rattle.rank_parts.proofs.Cited.{option_map, same_id-is, IsContents, candidates, IsReported, is_scanned, one_morsel}
+use Rattle.rank_parts.proofs.Cited.{own_series, IsAccepted, station_of, IsReportOf, and_parts, Candidate, Certified, Ok}
+use Rattle.rank_parts.proofs.Cited.{counts_of, morsel_of, same_rows, rows_with, StationId, Data, for_each, found_in}
+use Rattle.rank_parts.proofs.Cited.{AreApart, Descends, Reported, worst_of, count_of, score_of, Station, same_id, subst}
+use Rattle.rank_parts.proofs.Cited.{in_kept, IsAsked, morsels, IsAbove, trimmed, name_of, IsEntry, of_rows, kept_in, ℕ}
+use Rattle.rank_parts.proofs.Cited.{Series, of_one, any_in, in_map, map_in, own_id, Result, AllZip, in_any, zip_in, ◌≡◌}
+use Rattle.rank_parts.proofs.Cited.{Query, Named, List, Some, ◌&&◌, find, Line, Bool, ◌≤ℤ◌, not, map, sym, ◌∙◌, ◌↔◌, ℤ}
 use Rattle.rank_parts.proofs.StationRows.{inside, inside_are, inside_falls, inside_best, kth_best, kth_worst}
 use Rattle.rank_parts.proofs.StationRows.{in_station, each_within, rows_within, best_inside, of_station, count_rows}
-use Rattle.rank_parts.proofs.StationRows.{station_within}
+use Rattle.rank_parts.proofs.StationRows.{few_rows, station_within}
 use Rattle.rank_parts.proofs.EntryLists.{in_zip, zip_ids, same_to, line_where, zip_each, absent_where, below_out}
-use Rattle.rank_parts.proofs.EntryLists.{ids_of, same_ids, rise_ids, morsel_ids, entries_rise}
-use Rattle.rank_parts.proofs.Heads.{few_rows, k_within}
+use Rattle.rank_parts.proofs.EntryLists.{ids_among, ids_of, same_ids, rise_ids, morsel_ids, entries_rise}
 
 -- ---- if all pieces are right, the two say what is right
 
 module _ (q : Query) (c : Data) (r : Reported) (z : Certified) (asked : IsAsked q) (right : IsContents c)
     (apart : AreApart (all_candidates q c)) (can : IsReported r) (is : IsCertified z)
     (pieces : AreRightPieces q c r z) where
-  -- there is a row to ask for
-  some : 1 ≤ q.k
-  some = (k_within q asked).0
-
-  -- there are at most as many rows as were asked for
-  few : length r.rows ≤ q.k
-  few = few_rows q r can pieces.head.report
-
-  -- each row precedes all after it
-  falls : Descends (of_rows r.rows)
-  falls = order_descends (of_rows r.rows) pieces.head.order
-
   -- ---- lines
 
   -- what an accepted line comes to
@@ -52,128 +37,94 @@ module _ (q : Query) (c : Data) (r : Reported) (z : Certified) (asked : IsAsked 
 
   -- by its tests
   piece : (e : Line) → In z.entries e → Piece e
-  piece e k =
-      let one = in_zip (IsAccepted q c r.rows) z.entries z.counts pieces.lines e k in
+  piece e k = let one = in_zip (IsAccepted q c r.rows) z.entries z.counts pieces.lines e k in
       let line = (right_piece q one.2.0 (own_series q c one.2.0) e one.0 (rows_with e.id r.rows) (worst_of q.k r.rows)
-      (rows_within q r.rows e.id asked pieces.head.order few)).0 one.2.2 in
+      (rows_within q r.rows e.id asked pieces.head.order (few_rows q r can pieces.head.report))).0 one.2.2 in
       let own = morsel_of q c one.2.0 (found_in (is_station_of e.id) c.stations one.2.0 one.2.1).0 line.morsel in
       let same : own.0 ≡ line.series = cc (sym own.1 ∙ line.there) in
-      record {
-        count = one.0;
-        station = one.2.0;
-        listed = one.2.1;
-        line = line;
-        morsel = subst (In (morsels q c)) same own.2;
-        named = sym line.named ∙ sym (own_id q c one.2.0 line.series line.there);
-      }
+      let morsel = subst (In (morsels q c)) same own.2 in
+      let named = sym line.named ∙ sym (own_id q c one.2.0 line.series line.there) in
+      record { count = one.0; station = one.2.0; listed = one.2.1; line = line; morsel = morsel; named = named }
 
   -- ---- rows
 
   -- a row is a candidate, with the name of its station
   row_right : (row : Named) → In r.rows row
       → In (all_candidates q c) row.0 × (name_of c.stations row.0.id ≡ Some row.1)
-  row_right row h =
-      let e = any_in (λ (x : Line). not x.skipped && same_id x.id row.0.id) z.entries
+  row_right row h = let e = any_in (λ (x : Line). not x.skipped && same_id x.id row.0.id) z.entries
       (of_one (λ (x : Named). is_scanned z.entries x.0.id ≡ true) r.rows row pieces.head.scanned h) in
-      let id : row.0.id ≡ e.0.id =
-      sym (same_id-is e.0.id row.0.id (and_parts (not e.0.skipped) (same_id e.0.id row.0.id) e.2).1) in
-      let p = piece e.0 e.1 in
+      let id : row.0.id ≡ e.0.id = sym (same_id-is e.0.id row.0.id (and_parts _ _ e.2).1) in let p = piece e.0 e.1 in
       let own = in_kept (λ (x : Named). same_id x.0.id e.0.id) r.rows row h (same_to row.0.id e.0.id id) in
       let held = (p.line.rows_are row.0).0 (in-contains (of_rows (rows_with e.0.id r.rows)) row.0
       (in_map (λ (x : Named). x.0) (rows_with e.0.id r.rows) row own)) in
       let name : trimmed p.station.name ≡ row.1 =
       of_one (λ (x : Named). trimmed p.station.name ≡ x.1) (rows_with e.0.id r.rows) row p.line.names own in (
         in_candidates q c p.line.series row.0 p.morsel (contains-in (candidates q p.line.series) row.0 held.0),
-        ap (name_of c.stations) id ∙ ap (option_map (λ (s : Station). trimmed s.name)) p.listed
-            ∙ ap (λ (n : List ℕ). Some n) name,
+        ap (name_of c.stations) id ∙ ap (option_map (λ (s : Station). trimmed s.name)) p.listed ∙ ap Some name,
       )
 
   -- a candidate that is within is one of the rows
   all_rows : (d : Candidate) → In (all_candidates q c) d → is_within_worst (worst_of q.k r.rows) d ≡ true
       → In (of_rows r.rows) d
-  all_rows d h w =
-      let u = candidate_in q c d h in
-      let e = line_where q c z.entries pieces.absent u.0 u.1 in
-      let p = piece e.0 e.1 in
+  all_rows d h w = let u = candidate_in q c d h in
+      let e = line_where q c z.entries pieces.absent u.0 u.1 in let p = piece e.0 e.1 in
       let same = one_morsel q c u.0 p.line.series u.1 p.morsel (sym e.2 ∙ p.named) in
-      let own : Contains (candidates q p.line.series) d = in-contains (candidates q p.line.series) d
-      (subst (λ (s : Series). In (candidates q s) d) same u.2) in
-      (in_station r.rows e.0.id d (contains-in (of_rows (rows_with e.0.id r.rows)) d
-      ((p.line.rows_are d).1 (own, w)))).0
+      let own = in-contains (candidates q p.line.series) d (subst (λ (s : Series). In (candidates q s) d) same u.2) in
+      (in_station r.rows e.0.id d (contains-in _ d ((p.line.rows_are d).1 (own, w)))).0
 
   -- so the rows are the best
   best : of_rows r.rows ≡ best_of_query q c
-  best = inside_best q c apart r.rows some few (same_rows (of_rows r.rows) (inside q c r.rows) falls
-      (inside_falls q c apart r.rows)
-      (λ d k.
-      let row = map_in (λ (x : Named). x.0) r.rows d k in
-      (inside_are q c r.rows d).1 (
-        subst (In (all_candidates q c)) row.2 (row_right row.0 row.1).0,
-        each_within q.k r.rows some few falls d k,
-      ))
+  best = let few = few_rows q r can pieces.head.report in
+      let falls = order_descends (of_rows r.rows) pieces.head.order in
+      inside_best q c apart r.rows asked few (same_rows (of_rows r.rows) (inside q c r.rows) falls
+      (inside_falls q c apart r.rows) (λ d k. let row = map_in (λ (x : Named). x.0) r.rows d k in
+      let held = subst (In (all_candidates q c)) row.2 (row_right row.0 row.1).0 in
+      (inside_are q c r.rows d).1 (held, each_within q r.rows asked few falls d k))
       (λ d k. let kept = (inside_are q c r.rows d).0 k in all_rows d kept.0 kept.1))
 
   -- ---- lines and morsels
 
-  -- the IDs of the lines are those of the morsels
-  ids_right : ids_of z.entries ≡ map (λ (s : Series). s.id) (morsels q c)
-  ids_right =
-      same_ids (ids_of z.entries) (map (λ (s : Series). s.id) (morsels q c)) (rise_ids z.entries pieces.head.rise)
-      (morsel_ids q c right)
-      (λ i h.
-      let e = map_in (λ (x : Line). x.id) z.entries i h in
-      let p = piece e.0 e.1 in
-      subst (In (map (λ (s : Series). s.id) (morsels q c))) (sym p.named ∙ e.2)
-      (in_map (λ (s : Series). s.id) (morsels q c) p.line.series p.morsel))
-      (λ i h.
-      let u = map_in (λ (s : Series). s.id) (morsels q c) i h in
-      let e = line_where q c z.entries pieces.absent u.0 u.1 in
-      subst (In (ids_of z.entries)) (e.2 ∙ u.2) (in_map (λ (x : Line). x.id) z.entries e.0 e.1))
-
   -- a line and a morsel of one ID are right
   entry_right : (e : Line) (u : Series) → In z.entries e → In (morsels q c) u → e.id ≡ u.id
       → IsRightEntry q (kth_of_query q c) e u
-  entry_right e u h k named =
-      let p = piece e h in
+  entry_right e u h k named = let p = piece e h in
       let same = one_morsel q c p.line.series u p.morsel k (sym p.named ∙ named) in
       record {
         named = named;
         above = subst (λ (s : Series). IsAbove q s e.bound) same p.line.above;
         fits = (of_one IsEntry z.entries e is.entries h).bound;
         passed_over = λ s. subst (λ (o : Option ℤ). bound_is_below o e.bound ≡ true)
-            (kth_worst q c apart r.rows some best) (p.line.passed_over s);
+            (kth_worst q c apart r.rows asked best) (p.line.passed_over s);
       }
 
-  -- so the report and the certificate say what is right
+  -- so the report and the certificate say what is right, since the IDs of the lines are those of the morsels
   pub pieces_say : SaysRightReport q c r × SaysRightCertificate q c z
-  pieces_say = (
-    record {
-      asked = pieces.head.report;
-      best = best;
-      named = for_each (λ row. name_of c.stations row.0.id ≡ Some row.1) r.rows (λ row k. (row_right row k).1);
-    },
-    record {
-      asked = pieces.head.certificate;
-      kth = pieces.head.kth ∙ kth_best q c apart r.rows some best;
-      entries = zip_ids (IsRightEntry q (kth_of_query q c)) z.entries (morsels q c) ids_right entry_right;
-      counts = pieces.head.counts ∙ ap (λ (l : List Candidate). counts_of z.version l z.entries) best;
-    },
-  )
+  pieces_say =
+      let ids = same_ids (ids_of z.entries) (map (λ (s : Series). s.id) (morsels q c))
+      (rise_ids z.entries pieces.head.rise) (morsel_ids q c right)
+      (λ i h. let e = map_in (λ (x : Line). x.id) z.entries i h in let p = piece e.0 e.1 in
+      subst (In (map (λ (s : Series). s.id) (morsels q c))) (sym p.named ∙ e.2)
+      (in_map (λ (s : Series). s.id) (morsels q c) p.line.series p.morsel))
+      (ids_among q c z.entries (line_where q c z.entries pieces.absent)) in
+      let named = for_each (λ (row : Named). name_of c.stations row.0.id ≡ Some row.1) r.rows
+      (λ row k. (row_right row k).1) in
+      let kth = pieces.head.kth ∙ kth_best q c apart r.rows asked best in
+      let entries = zip_ids (IsRightEntry q (kth_of_query q c)) z.entries (morsels q c) ids entry_right in
+      let counts = pieces.head.counts ∙ ap (λ (l : List Candidate). counts_of z.version l z.entries) best in (
+        record { asked = pieces.head.report; best = best; named = named },
+        record { asked = pieces.head.certificate; kth = kth; entries = entries; counts = counts },
+      )
 
 -- ---- if they do, all pieces are right
 
 module _ (q : Query) (c : Data) (r : Reported) (z : Certified) (asked : IsAsked q) (right : IsContents c)
     (apart : AreApart (all_candidates q c)) (version : z.version ≡ 2)
     (says : SaysRightReport q c r × SaysRightCertificate q c z) where
-  -- there is a row to ask for
-  some_asked : 1 ≤ q.k
-  some_asked = (k_within q asked).0
-
   -- ---- rows
 
   -- the rows are the candidates up to the worst of them
   rows_inside : of_rows r.rows ≡ inside q c r.rows
-  rows_inside = best_inside q c apart r.rows some_asked says.0.best
+  rows_inside = best_inside q c apart r.rows asked says.0.best
 
   -- each precedes all after it
   rows_fall : Descends (of_rows r.rows)
@@ -190,28 +141,24 @@ module _ (q : Query) (c : Data) (r : Reported) (z : Certified) (asked : IsAsked 
     -- a row of a morsel's station is one of its candidates
     of_morsel : (d : Candidate) → In (of_rows r.rows) d → d.id ≡ u.id
         → In (candidates q u) d × (is_within_worst (worst_of q.k r.rows) d ≡ true)
-    of_morsel d k i =
-        let is = (rows_are d).0 k in
-        let v = candidate_in q c d is.0 in
+    of_morsel d k i = let is = (rows_are d).0 k in let v = candidate_in q c d is.0 in
         let same = one_morsel q c v.0 u v.1 h (sym (candidate_id q c v.0 d v.2) ∙ i) in
         (subst (λ (s : Series). In (candidates q s) d) same v.2, is.1)
 
     -- a line that is skipped has a bound below the worst
     low : e.skipped ≡ true → bound_is_below (score_of (worst_of q.k r.rows)) e.bound ≡ true
     low s = subst (λ (o : Option ℤ). bound_is_below o e.bound ≡ true)
-        (sym (kth_worst q c apart r.rows some_asked says.0.best)) (line.passed_over s)
+        (sym (kth_worst q c apart r.rows asked says.0.best)) (line.passed_over s)
 
     -- so no row belongs to it
     none_skipped : e.skipped ≡ true → (row : Named) → In r.rows row → row.0.id ≡ u.id → ⊥
-    none_skipped s row k i =
-        let own = of_morsel row.0 (in_map (λ (x : Named). x.0) r.rows row k) i in
+    none_skipped s row k i = let own = of_morsel row.0 (in_map (λ (x : Named). x.0) r.rows row k) i in
         below_out (worst_of q.k r.rows) e.bound row.0 (low s) own.1
         (of_one (λ d. d.score ≤ℤ e.bound) (candidates q u) row.0 line.above own.0)
 
     -- a right line is accepted by itself
     line_accepted : IsAccepted q c r.rows e (count_of (of_rows r.rows) e)
-    line_accepted =
-        let there = station_of q c u h in
+    line_accepted = let there = station_of q c u h in
         let id : e.id ≡ there.0.id = line.named ∙ own_id q c there.0 u there.3 in
         let found : find (is_station_of e.id) c.stations ≡ Some there.0 =
         ap (λ (i : StationId). find (is_station_of i) c.stations) id ∙ listed_found q c right there.0 there.1 in
@@ -227,12 +174,10 @@ module _ (q : Query) (c : Data) (r : Reported) (z : Certified) (asked : IsAsked 
                 morsel = is_morsel_of q c there.0 u there.2 there.3 h;
                 counted = count_rows r.rows e (λ s row k i. none_skipped s row k (i ∙ line.named));
                 rows_are = λ d. (
-                  λ k.
-                      let row = in_station r.rows e.id d (contains-in (of_rows mine) d k) in
+                  λ k. let row = in_station r.rows e.id d (contains-in (of_rows mine) d k) in
                       let is = of_morsel d row.0 (row.1 ∙ line.named) in
                       (in-contains (candidates q u) d is.0, is.1),
-                  λ k.
-                      let own = contains-in (candidates q u) d k.0 in
+                  λ k. let own = contains-in (candidates q u) d k.0 in
                       in-contains (of_rows mine) d (of_station r.rows e.id d
                       ((rows_are d).1 (in_candidates q c u d h own, k.1)) (candidate_id q c u d own ∙ sym line.named)),
                 );
@@ -241,8 +186,7 @@ module _ (q : Query) (c : Data) (r : Reported) (z : Certified) (asked : IsAsked 
                     let named : Some row.1 ≡ Some (trimmed there.0.name) =
                     sym (of_one (λ (x : Named). name_of c.stations x.0.id ≡ Some x.1) r.rows row says.0.named kept.0)
                     ∙ ap (name_of c.stations) (same_id-is row.0.id e.id kept.1)
-                    ∙ ap (option_map (λ (s : Station). trimmed s.name)) found in
-                    cc);
+                    ∙ ap (option_map (λ (s : Station). trimmed s.name)) found in cc);
                 above = line.above;
                 passed_over = low;
               }),
@@ -254,36 +198,34 @@ module _ (q : Query) (c : Data) (r : Reported) (z : Certified) (asked : IsAsked 
       let u = candidate_in q c row.0 ((rows_are row.0).0 (in_map (λ (x : Named). x.0) r.rows row h)).0 in
       let e = zip_in (IsRightEntry q (kth_of_query q c)) z.entries (morsels q c) says.1.entries u.0 u.1 in
       let id : row.0.id ≡ u.0.id = candidate_id q c u.0 row.0 u.2 in
-      let scanned : e.0.skipped ≡ false =
-      false_from_ne_true (e.0.skipped) (λ s. none_skipped e.0 u.0 u.1 e.2 s row h id) in
+      let scanned = false_from_ne_true (e.0.skipped) (λ s. none_skipped e.0 u.0 u.1 e.2 s row h id) in
       in_any (λ (x : Line). not x.skipped && same_id x.id row.0.id) z.entries e.0 e.1
       (ap (λ (b : Bool). not b && same_id e.0.id row.0.id) scanned ∙ same_to e.0.id row.0.id (e.2.named ∙ sym id))
 
-  -- the counts are those of the rows
-  counts : z.counts ≡ counts_of z.version (of_rows r.rows) z.entries
-  counts = says.1.counts ∙ ap (λ (l : List Candidate). counts_of z.version l z.entries) (sym says.0.best)
-
   -- so all pieces are right
   pub said_in_pieces : AreRightPieces q c r z
-  said_in_pieces = record {
-    head = record {
-      report = says.0.asked;
-      certificate = says.1.asked;
-      order = descends_order (of_rows r.rows) rows_fall;
-      kth = says.1.kth ∙ sym (kth_best q c apart r.rows some_asked says.0.best);
-      rise = entries_rise q (kth_of_query q c) z.entries (morsels q c) says.1.entries (morsels_rise q c right);
-      scanned = for_each (λ row. is_scanned z.entries row.0.id ≡ true) r.rows scanned_row;
-      counts = counts;
-    };
-    lines = subst (AllZip (IsAccepted q c r.rows) z.entries)
-        (sym (counts ∙ ap (λ (v : ℕ). counts_of v (of_rows r.rows) z.entries) version))
-        ((zip_each (IsAccepted q c r.rows) (count_of (of_rows r.rows)) z.entries).1 (λ e h.
-        let u = in_zip (IsRightEntry q (kth_of_query q c)) z.entries (morsels q c) says.1.entries e h in
-        line_accepted e u.0 u.1 u.2));
-    absent = absent_where q c z.entries (λ u h.
-        let e = zip_in (IsRightEntry q (kth_of_query q c)) z.entries (morsels q c) says.1.entries u h in
-        (e.0, e.1, e.2.named));
-  }
+  said_in_pieces =
+      let counts : z.counts ≡ counts_of z.version (of_rows r.rows) z.entries =
+      says.1.counts ∙ ap (λ (l : List Candidate). counts_of z.version l z.entries) (sym says.0.best) in
+      record {
+        head = record {
+          report = says.0.asked;
+          certificate = says.1.asked;
+          order = descends_order (of_rows r.rows) rows_fall;
+          kth = says.1.kth ∙ sym (kth_best q c apart r.rows asked says.0.best);
+          rise = entries_rise q (kth_of_query q c) z.entries (morsels q c) says.1.entries (morsels_rise q c right);
+          scanned = for_each (λ row. is_scanned z.entries row.0.id ≡ true) r.rows scanned_row;
+          counts = counts;
+        };
+        lines = subst (AllZip (IsAccepted q c r.rows) z.entries)
+            (sym (counts ∙ ap (λ (v : ℕ). counts_of v (of_rows r.rows) z.entries) version))
+            ((zip_each (IsAccepted q c r.rows) (count_of (of_rows r.rows)) z.entries).1 (λ e h.
+            let u = in_zip (IsRightEntry q (kth_of_query q c)) z.entries (morsels q c) says.1.entries e h in
+            line_accepted e u.0 u.1 u.2));
+        absent = absent_where q c z.entries (λ u h.
+            let e = zip_in (IsRightEntry q (kth_of_query q c)) z.entries (morsels q c) says.1.entries u h in
+            (e.0, e.1, e.2.named));
+      }
 
 -- both directions
 pub right_in_pieces : CandidatesAreApart → RightInPieces
@@ -304,17 +246,13 @@ pub accepted_in_pieces : CertificatesAreRead → RightCertificatesSayRight → R
 accepted_in_pieces certificates right_certificates reports right_reports accepted pieces q c report certificate r z
     asked right is_report is_certificate version =
     let law = pieces q c r z asked right is_report.can_be is_certificate.can_be version in
-    let whole = accepted q c report certificate asked right in
-    let of_report = right_reports q c report asked right in
-    let of_certificate = right_certificates q c certificate asked right in (
-      λ e. law.0 (
-        of_read (read_report report) (λ (v : Reported). IsReportOf v report) (SaysRightReport q c) (reports report) r
-            is_report (of_report.0 (whole.0 e).0),
-        of_read (read_certificate certificate) (λ (v : Certified). IsCertificateOf v certificate)
-            (SaysRightCertificate q c) (certificates certificate) z is_certificate (of_certificate.0 (whole.0 e).1),
-      ),
-      λ h. whole.1 (
-        of_report.1 (r, is_report, (law.1 h).0),
-        of_certificate.1 (z, is_certificate, (law.1 h).1),
-      ),
+    let whole = accepted q c report certificate asked right in let of_report = right_reports q c report asked right in
+    let of_certificate = right_certificates q c certificate asked right in
+    let says_report = of_read (read_report report) (λ (v : Reported). IsReportOf v report) (SaysRightReport q c)
+    (reports report) r is_report in
+    let says_certificate = of_read (read_certificate certificate) (λ (v : Certified). IsCertificateOf v certificate)
+    (SaysRightCertificate q c) (certificates certificate) z is_certificate in (
+      λ e. law.0 (says_report (of_report.0 (whole.0 e).0), says_certificate (of_certificate.0 (whole.0 e).1)),
+      λ h. let said = law.1 h in
+          whole.1 (of_report.1 (r, is_report, said.0), of_certificate.1 (z, is_certificate, said.1)),
     )

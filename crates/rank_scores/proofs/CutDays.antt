@@ -1,6 +1,6 @@
 -- Of days in their order those that pass a test are those that pass, in their order: so are the admitted days of facts.
-use Rattle.std.proofs.Common.{◌≡◌, Bool, true, false, cond, not, List, [], ◌∷◌, ◌++◌, length, filter, refl, ap}
-use Rattle.std.proofs.Common.{◌∙◌, arith, ℤ}
+use Rattle.std.proofs.Common.{◌≡◌, Bool, true, false, cond, not, List, [], ◌∷◌, ◌++◌, length, filter, refl, ap, ◌∙◌}
+use Rattle.std.proofs.Common.{arith, ℤ, rules}
 use Rattle.std.specs.Prelude.{◌==◌, int_le}
 use Rattle.std.specs.List.{AllByRecursion}
 use Rattle.std.specs.Cmp.{IsTotalOrder}
@@ -23,7 +23,6 @@ use Rattle.ghcn_series.proofs.ListFacts.{all-filter}
 use Rattle.rank_query.specs.Meaning.Asked.{Query}
 use Rattle.rank_query.specs.Meaning.Admits.{admits_day}
 use Rattle.rank_scores.specs.Stretches.{admitted_among}
-use Rattle.std.proofs.Common.{rules}
 
 -- ---- a test of what is put in order
 

@@ -1,6 +1,6 @@
 -- The morsels of files that are cut into parts are those of the parts, if no station has a series in two of them.
-use Rattle.std.proofs.Common.{◌≡◌, ℕ, Bool, true, false, cond, not, List, [], ◌∷◌, length, map, filter, refl, sym}
-use Rattle.std.proofs.Common.{ap, ◌∙◌, subst, None, Some}
+use Rattle.std.proofs.Common.{◌≡◌, ℕ, Bool, true, false, cond, not, List, [], ◌∷◌, length, map, filter, refl, sym, ap}
+use Rattle.std.proofs.Common.{◌∙◌, subst, None, Some, arith, rules}
 use Rattle.std.specs.Prelude.{◌==◌}
 use Rattle.std.specs.List.{flat_map, cons_option, IsDistinct}
 use Rattle.std.specs.List.Sorted.{IsPermutation}
@@ -24,9 +24,7 @@ use Rattle.rank_query.specs.Meaning.Asked.{Query}
 use Rattle.rank_scores.specs.Morsels.{admitted_series, has_admitted, morsels}
 use Rattle.rank_scores.specs.Cut.{series_first, series_ids, Filed, MorselsOfParts}
 use Rattle.rank_scores.proofs.CutSeries.{admitted_stations, given, all_given, admitted_series-given}
-use Rattle.std.proofs.Common.{arith}
 use Rattle.std.proofs.lemmas.Int.{ints}
-use Rattle.std.proofs.Common.{rules}
 
 -- ---- series by their IDs
 

@@ -1,5 +1,5 @@
 -- Files that are cut into parts are cut as a query sees it, if no station has morsels in two parts.
-use Rattle.std.proofs.Common.{◌≡◌, ℕ, false, List, [], ◌∷◌, ◌++◌, map, refl, sym, ap, ◌∙◌, subst}
+use Rattle.std.proofs.Common.{◌≡◌, ℕ, false, List, [], ◌∷◌, ◌++◌, map, refl, sym, ap, ◌∙◌, subst, arith, rules}
 use Rattle.std.specs.List.{flat_map, AllByRecursion, AllZip, IsDistinct}
 use Rattle.std.specs.List.Sorted.{IsPermutation}
 use Rattle.std.proofs.lemmas.List.{map-append}
@@ -25,9 +25,7 @@ use Rattle.rank_scores.proofs.CutDays.{admitted-left, admitted-right}
 use Rattle.rank_scores.proofs.CutSeries.{Seen, has_any, of_one, comes_first, seen, candidates_seen, seen_in, same_seen}
 use Rattle.rank_scores.proofs.CutSeries.{distinct_seen, sorted-seen, admitted_stations, held_in, candidates_held}
 use Rattle.rank_scores.proofs.CutSeries.{morsels_held}
-use Rattle.std.proofs.Common.{arith}
 use Rattle.std.proofs.lemmas.Int.{ints}
-use Rattle.std.proofs.Common.{rules}
 
 module _ {P : Type 0} (q : Query) (stations : List Station) (files : P → List (List ℕ)) where
   -- the data of a part

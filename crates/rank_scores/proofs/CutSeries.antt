@@ -1,6 +1,6 @@
 -- What a query sees of the series that files hold, from the facts of the files.
-use Rattle.std.proofs.Common.{◌≡◌, Bool, true, false, cond, not, List, [], ◌∷◌, ◌++◌, length, map, filter, refl}
-use Rattle.std.proofs.Common.{sym, ap, ◌∙◌, Option, None, Some, ℕ}
+use Rattle.std.proofs.Common.{◌≡◌, Bool, true, false, cond, not, List, [], ◌∷◌, ◌++◌, length, map, filter, refl, sym}
+use Rattle.std.proofs.Common.{ap, ◌∙◌, Option, None, Some, ℕ, arith, rules}
 use Rattle.std.specs.Prelude.{◌==◌}
 use Rattle.std.specs.List.{filter_map, flat_map, cons_option, AllByRecursion, AllZip, IsDistinct}
 use Rattle.std.proofs.lemmas.Bool.{not-false}
@@ -28,8 +28,6 @@ use Rattle.rank_scores.specs.Groups.{leaders}
 use Rattle.rank_scores.specs.Stretches.{admitted_among}
 use Rattle.rank_scores.specs.Morsels.{admitted_series, all_candidates, has_admitted, id_comes_first, morsels}
 use Rattle.rank_scores.specs.Cut.{IsSameFor, series_first}
-use Rattle.std.proofs.Common.{arith}
-use Rattle.std.proofs.Common.{rules}
 
 -- ---- what a query sees of a series
 

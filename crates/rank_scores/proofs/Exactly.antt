@@ -3,7 +3,7 @@ use Rattle.std.proofs.Common.{◌≡◌, ℕ, zero, suc, ◌<◌, ◌≤◌, Boo
 use Rattle.std.proofs.Common.{ap, subst, ◌∙◌, arith, ◌⊎◌, inl, inr, ℤ, pos, ◌+ℤ◌, ◌-ℤ◌, ◌≤ℤ◌, neg_ℤ, [], ◌∷◌, get_or}
 use Rattle.std.specs.Prelude.{not, map, ◌↔◌}
 use Rattle.std.specs.Option.{option_map}
-use Rattle.std.specs.List.{AllByRecursion, Contains, filter_map, cons_option}
+use Rattle.std.specs.List.{AllByRecursion, Contains, filter_map, cons_option, IsDistinct}
 use Rattle.std.specs.Ordering.{int_eq, int_cmp}
 use Rattle.std.proofs.Math.ListN.{get_or-map}
 use Rattle.std.proofs.lemmas.List.{length-map}
@@ -34,7 +34,6 @@ use Rattle.rank_scores.specs.Order.{begin_alike, AreApart}
 use Rattle.rank_scores.specs.declared.candidate.Candidate.{Candidate}
 use Rattle.rank_scores.specs.Morsels.{IsAbove, NoneIsAbove}
 use Rattle.std.proofs.Common.{rules, cond, ◌&&◌, filter}
-use Rattle.std.specs.List.{IsDistinct}
 use Rattle.std.specs.List.Sorted.{IsStrictlySortedBy}
 use Rattle.std.specs.declared.cmp.Ordering.TheVariants.{Less}
 use Rattle.std.proofs.lemmas.Bool.{cases_Bool}

@@ -1,6 +1,5 @@
 -- Candidates that are apart, once they are put in order: each precedes all after it.
-use Rattle.std.proofs.Common.{◌≡◌, ℕ, suc, ◌<◌, Bool, true, false, List, [], ◌∷◌, arith, length}
-use Rattle.std.proofs.Common.{get_or}
+use Rattle.std.proofs.Common.{◌≡◌, ℕ, suc, ◌<◌, Bool, true, false, List, [], ◌∷◌, arith, length, get_or, rules}
 use Rattle.std.specs.Prelude.{◌&&◌}
 use Rattle.std.specs.List.Sorted.{IsPermutation, IsSorted}
 use Rattle.std.specs.Cmp.{IsTotalOrder}
@@ -17,7 +16,6 @@ use Rattle.rank_scores.specs.Meaning.Order.{precedes, rank_cmp}
 use Rattle.rank_scores.specs.Order.{full_cmp, begin_alike, AreApart}
 use Rattle.rank_scores.proofs.Ranks.{rank_cmp_total, Descends}
 use Rattle.std.proofs.lemmas.Int.{ints}
-use Rattle.std.proofs.Common.{rules}
 
 -- the order of listing is total
 pub full_cmp_total : IsTotalOrder full_cmp

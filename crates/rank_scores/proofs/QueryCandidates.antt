@@ -2,8 +2,7 @@
 use Rattle.std.proofs.Common.{◌≡◌, ℕ, Bool, true, false, List, [], ◌∷◌, ◌++◌, map, filter, Option, Some, None}
 use Rattle.std.proofs.Common.{refl, ◌∙◌, subst, arith}
 use Rattle.std.specs.Prelude.{IsTrue}
-use Rattle.std.specs.List.{flat_map, filter_map, find, cons_option, AllByRecursion, IsDistinct}
-use Rattle.std.specs.List.{list_any}
+use Rattle.std.specs.List.{flat_map, filter_map, find, cons_option, AllByRecursion, IsDistinct, list_any}
 use Rattle.std.specs.Option.{is_some}
 use Rattle.std.proofs.lemmas.Bool.{and_parts, cond_both}
 use Rattle.ghcn_files.specs.declared.station.Station.{Station}

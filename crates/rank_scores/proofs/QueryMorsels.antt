@@ -1,6 +1,5 @@
 -- The morsels of a query: series that it asks about, and no other series has a candidate.
-use Rattle.std.proofs.Common.{◌≡◌, Bool, true, false, not, List, [], ◌∷◌, length, filter, Option}
-use Rattle.std.proofs.Common.{Some, refl, arith}
+use Rattle.std.proofs.Common.{◌≡◌, Bool, true, false, not, List, [], ◌∷◌, length, filter, Option, Some, refl, arith}
 use Rattle.std.specs.Prelude.{◌==◌}
 use Rattle.std.specs.List.{find, filter_map, flat_map, AllByRecursion}
 use Rattle.std.proofs.lemmas.Grind.{common_steps}

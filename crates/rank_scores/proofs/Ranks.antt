@@ -1,6 +1,6 @@
 -- The best of some candidates, by rank, are the first of them when they are put in order.
 use Rattle.std.proofs.Common.{◌≡◌, ℕ, zero, suc, ◌+◌, Bool, true, false, cond, List, [], ◌∷◌, take, drop, Option, Some}
-use Rattle.std.proofs.Common.{None, refl, sym, ap, ◌∙◌, subst, arith}
+use Rattle.std.proofs.Common.{None, refl, sym, ap, ◌∙◌, subst, arith, rules}
 use Rattle.std.specs.Prelude.{slice_get, ◌==◌}
 use Rattle.std.specs.List.{find, filter_map, range_with_len, AllByRecursion, list_any, cons_option}
 use Rattle.std.specs.List.Sorted.{IsPermutation}
@@ -21,7 +21,6 @@ use Rattle.rank_scores.specs.Meaning.Order.{precedes, rank_cmp}
 use Rattle.rank_scores.specs.Order.{rank_in, of_rank, best}
 use Rattle.rank_scores.proofs.Rising.{from_each}
 use Rattle.std.proofs.lemmas.Int.{ints}
-use Rattle.std.proofs.Common.{rules}
 
 -- ranking is a total order
 pub rank_cmp_total : IsTotalOrder rank_cmp

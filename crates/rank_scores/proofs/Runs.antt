@@ -1,6 +1,6 @@
 -- Runs of numbers that pass, and of days of the calendar.
-use Rattle.std.proofs.Common.{◌≡◌, ℕ, zero, suc, ◌<◌, ◌≤◌, Bool, true, false, List, [], ◌∷◌, Option, Some, None}
-use Rattle.std.proofs.Common.{refl, ap, ◌∙◌, arith, inl, inr, ℤ, pos, ◌+ℤ◌, ◌<ℤ◌, ◌≤ℤ◌}
+use Rattle.std.proofs.Common.{◌≡◌, ℕ, zero, suc, ◌<◌, ◌≤◌, Bool, true, false, List, [], ◌∷◌, Option, Some, None, refl}
+use Rattle.std.proofs.Common.{ap, ◌∙◌, arith, inl, inr, ℤ, pos, ◌+ℤ◌, ◌<ℤ◌, ◌≤ℤ◌, rules}
 use Rattle.std.specs.List.{AllByRecursion}
 use Rattle.std.specs.Option.{option_map_or}
 use Rattle.std.proofs.lemmas.Bool.{cases_Bool, cases_order, and_parts, false_from_ne_true, true_from_ne_false}
@@ -13,7 +13,6 @@ use Rattle.rank_scores.specs.Runs.{run_from, calendar_len}
 use Rattle.rank_scores.specs.Meaning.Candidates.{is_such}
 use Rattle.rank_scores.specs.Stretches.{admitted_among}
 use Rattle.rank_scores.proofs.Rising.{from_each, value_on-other}
-use Rattle.std.proofs.Common.{rules}
 
 -- that many numbers from a on pass, counted up to n
 pub record IsCounted (such : ℤ → Bool) (n : ℕ) (a : ℤ) (len : ℕ) : Type 0 where

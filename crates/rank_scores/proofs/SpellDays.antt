@@ -1,13 +1,12 @@
 -- The spells that are offered as one day after another comes are those of the days.
 use Rattle.std.proofs.Common.{◌≡◌, ℕ, suc, ◌-◌, ◌<◌, Bool, true, false, cond, List, [], ◌∷◌, ◌++◌, Option, Some, None}
-use Rattle.std.proofs.Common.{refl, sym, ap, ◌∙◌, subst, arith, inl, inr, ℤ, pos, ◌+ℤ◌, ◌-ℤ◌, ◌<ℤ◌}
+use Rattle.std.proofs.Common.{refl, sym, ap, ◌∙◌, subst, arith, inl, inr, ℤ, pos, ◌+ℤ◌, ◌-ℤ◌, ◌<ℤ◌, rules}
 use Rattle.std.specs.Prelude.{◌&&◌, not, filter, int_le, int_lt, length, ⊤}
 use Rattle.std.specs.List.{AllByRecursion, filter_map, cons_option}
 use Rattle.std.proofs.lemmas.List.Elements.{filter_agree}
 use Rattle.std.specs.Option.{option_map, option_map_or}
 use Rattle.std.specs.Ordering.{int_eq}
-use Rattle.std.proofs.lemmas.Bool.{and_parts, and_left, and_right, not_from_true}
-use Rattle.std.proofs.lemmas.Bool.{cases_lt, cases_Bool}
+use Rattle.std.proofs.lemmas.Bool.{and_parts, and_left, and_right, not_from_true, cases_lt, cases_Bool}
 use Rattle.std.proofs.lemmas.Bool.Decides.{Decides-int_eq}
 use Rattle.std.proofs.lemmas.Int.{ints, by_lt_z}
 use Rattle.ghcn_fields.specs.Meaning.Days.{first_day, is_day}
@@ -25,7 +24,6 @@ use Rattle.rank_scores.proofs.Rising.{Rise, admitted-rise, from_each, value_on-o
 use Rattle.rank_scores.proofs.Rising.{value_on-before, all-filter}
 use Rattle.rank_scores.proofs.Runs.{AreDays, admitted-days, day-bounds}
 use Rattle.rank_scores.proofs.Exactly.{spell-begins}
-use Rattle.std.proofs.Common.{rules}
 
 -- what is below the next number is at most this one
 below-next : (v most next : ℤ) → next ≡ most +ℤ pos 1 → int_lt v next ≡ int_le v most

@@ -12,8 +12,7 @@ use Rattle.ghcn_series.specs.Series.{IsSeries, is_by_day, is_value}
 use Rattle.rank_query.specs.Meaning.Asked.{Query}
 use Rattle.rank_query.specs.Meaning.Admits.{admits_day}
 use Rattle.rank_scores.specs.declared.admitted.Stretch.{Stretch}
-use Rattle.rank_scores.specs.Stretches.{admitted_among}
-use Rattle.rank_scores.specs.Stretches.{IsStretch}
+use Rattle.rank_scores.specs.Stretches.{admitted_among, IsStretch}
 use Rattle.rank_scores.proofs.Rising.{rise-from_by_day, from_each, from_both}
 use Rattle.rank_scores.proofs.Runs.{day-bounds}
 

@@ -1,7 +1,7 @@
 -- Totals of windows: as sums of the first of some days, and of the days from a first to a last one.
 use Rattle.std.proofs.Common.{◌≡◌, ℕ, zero, suc, ◌+◌, ◌*◌, Bool, true, false, cond, List, [], ◌∷◌, drop, Option, Some}
-use Rattle.std.proofs.Common.{None, refl, sym, ◌∙◌, arith, ℤ, pos, neg_ℤ, ◌+ℤ◌, ◌-ℤ◌, ◌≤ℤ◌, ◌<ℤ◌, ◌⊎◌, inl, inr}
-use Rattle.std.proofs.Common.{◌<◌, ◌≤◌, length, subst}
+use Rattle.std.proofs.Common.{None, refl, sym, ◌∙◌, arith, ℤ, pos, neg_ℤ, ◌+ℤ◌, ◌-ℤ◌, ◌≤ℤ◌, ◌<ℤ◌, ◌⊎◌, inl, inr, ◌<◌}
+use Rattle.std.proofs.Common.{◌≤◌, length, subst, rules}
 use Rattle.std.specs.Prelude.{◌&&◌, int_le}
 use Rattle.std.specs.List.{AllByRecursion, list_all}
 use Rattle.std.specs.Ordering.{int_eq}
@@ -18,7 +18,6 @@ use Rattle.rank_scores.specs.Meaning.Candidates.{admitted, days_within, sum_of_v
 use Rattle.rank_scores.specs.Candidates.{plus, window_total}
 use Rattle.rank_scores.proofs.Rising.{Rise, rise-filter, all-filter, from_each, from_both, find-filter}
 use Rattle.rank_scores.proofs.Rising.{value_on-other, value_on-later}
-use Rattle.std.proofs.Common.{rules}
 
 -- ---- sums that there may be
 

@@ -18,7 +18,7 @@ use Rattle.rank_table.proofs.Written.{unless_memory}
 
 -- ---- how many lines reports have
 
--- the lines of a report that is read are so many
+-- how many lines a report has that is read
 lines_of_read : (ls : Lines) (r : Reported) → reported_lines ls ≡ Ok r → length ls ≡ line_count r
 lines_of_read ls r e = ap (λ (xs : Lines). length xs) (lines-are ls r e).1 ∙ length-written r
 

@@ -73,7 +73,7 @@ ends_alone ls n none e =
       | inr more ↦ let no = more.2 in absurd cc
     ]
 
--- or in the first report of several, or behind it
+-- or in the first report of several, or after it
 module _ (front : Lines) (l : List ℕ) (none : HaveNoLast front) (is : is_last l ≡ true) where
   -- the lines of the first report
   abbrev first : Lines

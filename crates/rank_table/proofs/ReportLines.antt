@@ -51,7 +51,7 @@ lines_by-length : (line : ℕ → Named → List ℕ) (n : ℕ) (rows : List Nam
 lines_by-length line n [] = refl
 lines_by-length line n (row ∷ rows) = ap suc (lines_by-length line (suc n) rows)
 
--- the lines of a report are so many
+-- how many lines a report has
 pub length-written : (v : Reported) → length (written v) ≡ line_count v
 length-written v =
     let rows : length (lines_of v.query 0 v.rows) ≡ length v.rows = lines_by-length _ 0 v.rows in

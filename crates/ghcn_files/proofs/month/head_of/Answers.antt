@@ -2,8 +2,7 @@ use Rattle.std.proofs.Common.{true, false, Option, Ok, refl, sym, ap, ◌∙◌}
 use Rattle.ghcn_files.specs.declared.month.Head.{Head}
 use Rattle.ghcn_files.specs.declared.fault.LineWhy.{LineWhy}
 use Rattle.ghcn_files.specs.Months.{unless, head_of}
-use Rattle.ghcn_files.proofs.Months.{Tested, head_why-tested, head_of-parts, test_held}
-use Rattle.ghcn_files.proofs.Months.{test_failed}
+use Rattle.ghcn_files.proofs.Months.{Tested, head_why-tested, head_of-parts, test_held, test_failed}
 use Rattle.ghcn_files.proofs.month.head_of.Goals as goal
 
 -- a year that isn't one

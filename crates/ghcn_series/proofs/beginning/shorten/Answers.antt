@@ -1,8 +1,6 @@
-use Rattle.std.proofs.Common.{arith, ◌≡◌, ◌+◌, ◌-◌, ◌++◌, [], ◌∷◌, length, take, drop, get_or, sym, ap, subst₂, ◌∙◌}
-use Rattle.std.specs.Prelude.{◌==◌, ◌&&◌, Bool}
-use Rattle.std.proofs.lemmas.List.{take_more, take_all, length-drop}
-use Rattle.ghcn_fields.specs.Meaning.Bytes.{is_blank}
-use Rattle.ghcn_series.specs.Alike.{BeginAlike}
+use Rattle.ghcn_series.proofs.Cited.{arith, ◌≡◌, ◌+◌, ◌-◌, ◌++◌, [], ◌∷◌, length, take, drop, get_or, sym, ap, subst₂}
+use Rattle.ghcn_series.proofs.Cited.{◌∙◌, ◌==◌, ◌&&◌, Bool, take_more, take_all, is_blank, BeginAlike}
+use Rattle.std.proofs.lemmas.List.{length-drop}
 use Rattle.ghcn_series.proofs.AlikeBeginnings.{begin-kept}
 use Rattle.ghcn_series.proofs.beginning.shorten.Goals as goal
 use Rattle.ghcn_series.proofs.beginning.shorten.Goals.{then-is_blank, else-is_blank}
@@ -10,10 +8,8 @@ use Rattle.ghcn_series.proofs.beginning.shorten.Goals.{then-is_blank, else-is_bl
 -- what is kept is like all of it
 pub returns-clause-kept : goal.returns-clause-kept
 returns-clause-kept c =
-    let rest = c.args.rest.now.items in
-    let bytes = c.args.bytes.now in
-    let before = length bytes - 1 in
-    let last = get_or bytes before 0 in
+    let rest = c.args.rest.now.items in let bytes = c.args.bytes.now in
+    let before = length bytes - 1 in let last = get_or bytes before 0 in
     let whole : bytes ≡ take before bytes ++ last ∷ [] =
     sym (take_all (before + 1) bytes (omega (arith, c.requires.some)))
     ∙ take_more bytes before 0 (omega (arith, c.requires.some)) in

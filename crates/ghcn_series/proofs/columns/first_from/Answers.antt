@@ -1,6 +1,5 @@
-use Rattle.std.proofs.Common.{rules, ℤ, w32, ◌∙◌, ◌≡◌}
-use Rattle.std.specs.Prelude.{int_lt, slice_get}
-use Rattle.std.proofs.lemmas.Int.{to_z-of_z}
+use Rattle.ghcn_series.proofs.Cited.{rules, ℤ, w32, ◌∙◌, ◌≡◌, int_lt, to_z-of_z}
+use Rattle.std.specs.Prelude.{slice_get}
 use Rattle.std.proofs.lemmas.List.Sorted.{IsPartitionPoint-from_clause}
 use Rattle.ghcn_series.proofs.Nexts.{found-at_partition}
 use Rattle.ghcn_series.proofs.Searches.{parted-by_rise, got-is}
@@ -9,8 +8,7 @@ use Rattle.ghcn_series.proofs.columns.first_from.Goals as goal
 -- the number at the partition point is the first from there on
 pub returns : goal.returns
 returns c =
-    let b : ℤ = c.args.number in
-    let same = to_z-of_z w32 b c.ranges.number in
+    let b : ℤ = c.args.number in let same = to_z-of_z w32 b c.ranges.number in
     let parted = IsPartitionPoint-from_clause (λ (n : ℤ). int_lt n b) c.args.numbers.now c.partition_point-at.result
     c.partition_point-at.ensures.partitioned (parted-by_rise c.args.numbers.now c.requires b)
     (λ a r f called. search (rules, same)) in

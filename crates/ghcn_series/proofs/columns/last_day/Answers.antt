@@ -1,5 +1,4 @@
-use Rattle.std.proofs.Common.{Some, ℕ, ℤ, ap, w32}
-use Rattle.std.proofs.lemmas.Int.{to_z-of_z}
+use Rattle.ghcn_series.proofs.Cited.{Some, ℕ, ℤ, ap, w32, to_z-of_z}
 use Rattle.ghcn_series.proofs.LastDays.{highest-bit}
 use Rattle.ghcn_series.proofs.columns.last_day.Goals as goal
 

@@ -1,5 +1,4 @@
-use Rattle.std.proofs.Common.{w32}
-use Rattle.std.proofs.lemmas.Int.{to_z-of_z}
+use Rattle.ghcn_series.proofs.Cited.{w32, to_z-of_z}
 use Rattle.ghcn_series.proofs.Searches.{absent-from_search}
 use Rattle.ghcn_series.proofs.columns.place_of.Goals as goal
 

@@ -1,13 +1,10 @@
-use Rattle.std.proofs.Common.{sym, ap, ◌∙◌}
-use Rattle.std.proofs.lemmas.Result.{err_from_is_err_and}
-use Rattle.ghcn_fields.specs.Meaning.Bytes.{is_blank}
+use Rattle.ghcn_series.proofs.Cited.{sym, ap, ◌∙◌, err_from_is_err_and, is_blank}
 use Rattle.ghcn_series.proofs.AlikeReads.{blank-read, text-read, text-refused}
 use Rattle.ghcn_series.proofs.cutter.read_line.Goals as goal
 
 -- a blank line is no line
 pub returns-then-is_blank-clause-read : goal.returns-then-is_blank-clause-read
-returns-then-is_blank-clause-read g c =
-    blank-read c.args.reader.now c.args.file c.args.line c.args.bytes.now
+returns-then-is_blank-clause-read g c = blank-read c.args.reader.now c.args.file c.args.line c.args.bytes.now
     (ap is_blank (sym c.without_return-bytes.ensures) ∙ sym c.is_blank.ensures ∙ c.if-is_blank.true)
 
 -- a line of an element is read

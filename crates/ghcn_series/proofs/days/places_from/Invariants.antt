@@ -1,6 +1,4 @@
-use Rattle.std.proofs.Common.{◌≡◌, ℕ, ◌<◌, ◌≤◌, get_or, pos}
-use Rattle.std.specs.Prelude.{◌==◌, int_le}
-use Rattle.std.specs.Int.{bit_at}
+use Rattle.ghcn_series.proofs.Cited.{◌≡◌, ℕ, ◌<◌, ◌≤◌, get_or, pos, ◌==◌, int_le, bit_at}
 use Rattle.ghcn_series.proofs.days.places_from.Given as goal
 
 -- the bits so far are those of the values read

@@ -1,13 +1,10 @@
-use Rattle.std.proofs.Common.{◌≡◌, ℕ, ◌+◌, ◌-◌, ◌<◌, false, List, [], ◌∷◌, ◌++◌, length, drop}
-use Rattle.std.proofs.Common.{get_or, refl, sym, ◌∙◌, arith, length-append, length-drop}
-use Rattle.std.specs.Prelude.{replicate}
-use Rattle.std.specs.Char.{is_ascii_uppercase}
-use Rattle.std.proofs.Math.Bool.{and-false}
-use Rattle.std.proofs.lemmas.List.{get_or-take, get_or-drop, get_or-append_right, get_or-replicate, length-replicate}
-use Rattle.std.proofs.lemmas.List.{length-take-le}
+use Rattle.ghcn_series.proofs.Cited.{◌≡◌, ℕ, ◌+◌, ◌-◌, ◌<◌, false, List, [], ◌∷◌, ◌++◌, length, drop, get_or, refl, sym}
+use Rattle.ghcn_series.proofs.Cited.{◌∙◌, arith, length-append, length-drop, replicate, is_ascii_uppercase, and-false}
+use Rattle.ghcn_series.proofs.Cited.{get_or-take, get_or-drop, get_or-append_right, length-replicate, length-take-le}
+use Rattle.ghcn_series.proofs.Cited.{columns, may_follow, is_code}
+use Rattle.std.proofs.lemmas.List.{get_or-replicate}
 use Rattle.std.proofs.lemmas.List.Folds.{list_all_at}
-use Rattle.ghcn_fields.specs.Meaning.Lines.{columns}
-use Rattle.ghcn_series.specs.LineKinds.{may_follow, is_code, has_code}
+use Rattle.ghcn_series.specs.LineKinds.{has_code}
 use Rattle.ghcn_series.proofs.form.has_code.Goals as goal
 
 -- bytes with a blank after the first aren't a code
@@ -21,8 +18,7 @@ blank_behind (b ∷ bytes) i within is =
 -- a line without the last column of a code has none
 short_code : (line : List ℕ) → length line < 21 → false ≡ has_code line
 short_code line short =
-    let blanks : List ℕ = replicate 21 32 in
-    let whole : List ℕ = line ++ blanks in
+    let blanks : List ℕ = replicate 21 32 in let whole : List ℕ = line ++ blanks in
     let last : get_or (columns 18 21 line) 3 0 ≡ 32 =
     get_or-take 4 (drop 17 whole) 3 0 (omega arith) ∙ get_or-drop 17 whole 3 0
     ∙ get_or-append_right line blanks (length line) 20 0 refl (omega (arith, short))

@@ -1,6 +1,4 @@
-use Rattle.std.proofs.Common.{length}
-use Rattle.std.proofs.lemmas.Bool.{le-leb}
-use Rattle.std.proofs.lemmas.List.{drop_all}
+use Rattle.ghcn_series.proofs.Cited.{length, le-leb, drop_all}
 use Rattle.ghcn_series.proofs.form.has_form.Goals as goal
 
 -- nothing follows the last column of a line that isn't longer

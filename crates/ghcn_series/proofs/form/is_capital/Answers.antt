@@ -1,7 +1,4 @@
-use Rattle.std.proofs.Common.{[], false, get_or, refl, arith}
-use Rattle.std.specs.Char.{is_ascii_uppercase}
-use Rattle.std.proofs.lemmas.Bool.{agree_below_at}
-use Rattle.ghcn_series.specs.declared.form.TheConstants.{BYTES}
+use Rattle.ghcn_series.proofs.Cited.{[], false, get_or, refl, arith, is_ascii_uppercase, agree_below_at, BYTES}
 use Rattle.ghcn_series.proofs.form.is_capital.Goals as goal
 
 -- the table has what is said at each byte

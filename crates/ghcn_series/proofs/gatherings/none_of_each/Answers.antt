@@ -1,5 +1,4 @@
-use Rattle.std.proofs.Common.{◌≡◌, [], ◌∷◌, arith}
-use Rattle.std.proofs.lemmas.List.{length_push}
+use Rattle.ghcn_series.proofs.Cited.{◌≡◌, [], ◌∷◌, arith, length_push}
 use Rattle.ghcn_series.proofs.ListFacts.{each-append}
 use Rattle.ghcn_series.proofs.gatherings.none_of_each.Goals as goal
 

@@ -1,5 +1,4 @@
-use Rattle.std.proofs.Common.{◌≡◌, [], length}
-use Rattle.std.specs.List.{AllByRecursion}
+use Rattle.ghcn_series.proofs.Cited.{◌≡◌, [], length, AllByRecursion}
 use Rattle.ghcn_series.proofs.gatherings.none_of_each.Given as goal
 
 -- the stations so far have none

@@ -1,7 +1,5 @@
-use Rattle.std.proofs.Common.{◌≡◌, Some, sym, ap, ◌∙◌}
+use Rattle.ghcn_series.proofs.Cited.{◌≡◌, Some, sym, ap, ◌∙◌, option_copied, none-some}
 use Rattle.std.specs.Prelude.{slice_get}
-use Rattle.std.specs.Option.{option_copied}
-use Rattle.std.proofs.lemmas.Option.{none-some}
 use Rattle.ghcn_series.proofs.Places.{station_there}
 use Rattle.ghcn_series.proofs.gatherings.series_of.Goals as goal
 

@@ -1,5 +1,4 @@
-use Rattle.std.proofs.Common.{◌≡◌, pos, get_or, map}
-use Rattle.std.specs.List.{range_with_len}
+use Rattle.ghcn_series.proofs.Cited.{◌≡◌, pos, get_or, map, range_with_len}
 use Rattle.ghcn_series.proofs.parts.by_number.Given as goal
 
 -- the numbers so far are there with their places

@@ -1,8 +1,4 @@
-use Rattle.std.proofs.Common.{◌≡◌, map, take}
-use Rattle.std.specs.List.{AllByRecursion}
-use Rattle.ghcn_files.specs.Meaning.Elements.{elements}
-use Rattle.ghcn_series.specs.Parts.{AreEmpty}
-use Rattle.ghcn_series.specs.Steps.{GathersNothing}
+use Rattle.ghcn_series.proofs.Cited.{◌≡◌, map, take, AllByRecursion, elements, AreEmpty, GathersNothing}
 use Rattle.ghcn_series.proofs.station.nothing_by_element.Given as goal
 
 -- the elements so far have a gathering of nothing, and no days are in the memory that is left

@@ -2,11 +2,10 @@ use Rattle.std.proofs.Common.{◌≡◌, ◌+◌, ◌++◌, ◌∷◌, [], ℕ, 
 use Rattle.std.proofs.Common.{arith, append-nil, option_to_list}
 use Rattle.std.specs.List.{filter_map}
 use Rattle.std.specs.Option.{option_copied}
-use Rattle.std.proofs.lemmas.List.{map-append}
+use Rattle.std.proofs.lemmas.List.{map-append, take_all}
 use Rattle.ghcn_series.specs.Meaning.Series.{Series}
 use Rattle.rank_scores.specs.Morsels.{morsel_at}
 use Rattle.rank_scores.proofs.QueryMorsels.{by_station}
-use Rattle.std.proofs.lemmas.List.{take_all}
 use Rattle.rank_check.proofs.Each.{kept-more}
 use Rattle.rank_check.proofs.survey.morsels_of.Goals as goal
 use Rattle.rank_check.proofs.survey.morsels_of.Goals.{in-Some+in_ok-push, in_default}

@@ -1,6 +1,5 @@
-use Rattle.std.proofs.Common.{◌≡◌, ◌∷◌, [], List, ℕ, map, take, drop, suc, refl, sym, ap, subst, arith}
+use Rattle.std.proofs.Common.{◌≡◌, ◌∷◌, [], List, ℕ, map, take, drop, suc, refl, sym, ap, subst, arith, Global}
 use Rattle.std.specs.Prelude.{String, string_bytes, option_map, None}
-use Rattle.std.proofs.Common.{Global}
 use Rattle.std.proofs.lemmas.Result.{err_from_is_err_and}
 use Rattle.rank_input.specs.NamingStops.{IsNothing}
 use Rattle.rank_input.specs.Named.{AddsNamed}

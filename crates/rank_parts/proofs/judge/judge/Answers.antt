@@ -4,8 +4,7 @@ use Rattle.rank_parts.proofs.judge.judge.Goals as goal
 
 -- the head is right
 pub lines_fault-requires : goal.lines_fault-requires
-lines_fault-requires c =
-    let q = c.args.query.now in
+lines_fault-requires c = let q = c.args.query.now in
     let head = (c.in_ok-fault.ensures.right c.requires.report c.requires.certificate).0 c.in_default.is in
     subst (λ (rows : List Row). AreSeen q (map named_in rows) c.as_slice-lines.result.now)
     (sym c.as_slice-rows.ensures.value)

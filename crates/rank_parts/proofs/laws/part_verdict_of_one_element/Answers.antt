@@ -1,4 +1,4 @@
-use Rattle.rank_parts.proofs.OneElement.{verdict_stays}
+use Rattle.rank_parts.proofs.OwnLines.{verdict_stays}
 use Rattle.rank_parts.proofs.laws.part_verdict_of_one_element.Goals as goal
 
 -- by the morsels, which stay

@@ -9,7 +9,4 @@ returns-clause-data c =
 
 -- parts of files
 pub returns-clause-files : goal.returns-clause-files
-returns-clause-files c =
-    of_files (whole c.certificates_are_read.ensures.read c.certificates_are_read.ensures.right
-    c.reports_are_read.ensures.read c.reports_are_read.ensures.right c.heads_are_right.ensures.right
-    c.right_in_pieces.ensures.says) c.files_in_parts.ensures.cut c.data_are_right.ensures.held
+returns-clause-files c = of_files (returns-clause-data c) c.files_in_parts.ensures.cut c.data_are_right.ensures.held

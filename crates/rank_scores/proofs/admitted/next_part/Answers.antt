@@ -1,13 +1,11 @@
-use Rattle.std.proofs.Common.{◌≡◌, ◌++◌, List, true, false, sym, ap, ◌∙◌, subst, ◌≤ℤ◌, rules, w32}
-use Rattle.std.proofs.Common.{FitsSigned, to_z-of_z}
+use Rattle.std.proofs.Common.{◌≡◌, ◌++◌, List, true, false, sym, ap, ◌∙◌, subst, ◌≤ℤ◌, rules, w32, FitsSigned}
+use Rattle.std.proofs.Common.{to_z-of_z, arith}
 use Rattle.std.specs.List.{AllByRecursion}
 use Rattle.ghcn_series.specs.Meaning.Series.{DayValue}
 use Rattle.rank_query.specs.Meaning.Asked.{Query}
-use Rattle.rank_scores.specs.Stretches.{admitted_among}
-use Rattle.rank_scores.specs.Stretches.{IsStretch}
+use Rattle.rank_scores.specs.Stretches.{admitted_among, IsStretch}
 use Rattle.rank_scores.proofs.StretchDays.{stretch-behind, stretch-part, stretch-on, no-first}
 use Rattle.rank_scores.proofs.admitted.next_part.Goals as goal
-use Rattle.std.proofs.Common.{arith}
 use Rattle.std.proofs.lemmas.Int.{ints}
 
 -- an admitted part is the first of the admitted days

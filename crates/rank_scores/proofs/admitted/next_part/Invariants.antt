@@ -1,6 +1,5 @@
 use Rattle.std.proofs.Common.{◌≡◌, length}
-use Rattle.rank_scores.specs.Stretches.{admitted_among}
-use Rattle.rank_scores.specs.Stretches.{IsStretch}
+use Rattle.rank_scores.specs.Stretches.{admitted_among, IsStretch}
 use Rattle.rank_scores.proofs.admitted.next_part.Given as goal
 
 -- the admitted days to come are those that there were at first, and the stretch is one of the days to come

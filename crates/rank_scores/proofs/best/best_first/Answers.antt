@@ -1,8 +1,7 @@
 use Rattle.rank_scores.proofs.Ranks.{best-is, of_rank-is}
 use Rattle.rank_scores.proofs.Listing.{descends}
 use Rattle.rank_scores.proofs.best.best_first.Goals as goal
-use Rattle.std.proofs.Common.{arith}
-use Rattle.std.proofs.Common.{rules}
+use Rattle.std.proofs.Common.{arith, rules}
 
 -- the first k of the sorted candidates are the best k
 pub returns-clause-best : goal.returns-clause-best

@@ -1,4 +1,4 @@
-use Rattle.std.proofs.Common.{◌≡◌, ◌∙◌, Option}
+use Rattle.std.proofs.Common.{◌≡◌, ◌∙◌, Option, arith, rules}
 use Rattle.std.proofs.Math.Path.{fun_ext}
 use Rattle.std.proofs.lemmas.Bool.{and_parts}
 use Rattle.ghcn_files.specs.declared.element.Element.{Element}
@@ -11,8 +11,6 @@ use Rattle.ghcn_series.specs.Kept.{kept}
 use Rattle.rank_scores.proofs.Rising.{find-filter}
 use Rattle.rank_scores.specs.OneElement.{SeriesStay}
 use Rattle.rank_scores.proofs.laws.one_element_is_enough.Goals as goal
-use Rattle.std.proofs.Common.{arith}
-use Rattle.std.proofs.Common.{rules}
 
 -- a station has the same series of an element among those of that element
 series_of-kept : (e : Element) (c : Data) (id : StationId) → series_of (kept (only e) c) id e ≡ series_of c id e

@@ -1,8 +1,6 @@
-use Rattle.std.proofs.Common.{arith, List, ℤ, ℕ, ◌∙◌, ◌≡◌, w32, get_or, []}
-use Rattle.std.proofs.lemmas.Int.{to_z-of_z}
-use Rattle.std.proofs.lemmas.List.{get_or_default}
+use Rattle.ghcn_series.proofs.Cited.{arith, List, ℤ, ℕ, ◌∙◌, ◌≡◌, w32, get_or, [], to_z-of_z, get_or_default}
+use Rattle.ghcn_series.proofs.Cited.{AreColumns}
 use Rattle.ghcn_series.specs.Packed as packed
-use Rattle.ghcn_series.specs.Packed.{AreColumns}
 use Rattle.ghcn_series.proofs.Searches.{block-absent, block-found}
 use Rattle.ghcn_series.proofs.columns.Columns.block_near.Goals as goal
 
@@ -16,8 +14,7 @@ returns-in_err-at-clause-none c =
 -- the block at the number's place is the one
 pub returns-clause-some : goal.returns-clause-some
 returns-clause-some c =
-    let words : List ℕ = c.self.inside.words.items in
-    let values : List (List ℤ) = c.self.inside.values.items in
+    let words : List ℕ = c.self.inside.words.items in let values : List (List ℤ) = c.self.inside.values.items in
     let cols : AreColumns c.self.inside.numbers.items words values = c.self.invariant in
     let i : ℕ = c.in_ok-at.at in
     let at : packed.IsAt c.self.inside.numbers.items c.args.number i =

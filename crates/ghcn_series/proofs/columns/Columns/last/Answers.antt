@@ -1,7 +1,6 @@
-use Rattle.std.proofs.Common.{rules, ◌∙◌, ◌-◌, List, length, ℤ, ℕ, sym, w32, ◌≡◌, Some}
+use Rattle.ghcn_series.proofs.Cited.{rules, ◌∙◌, ◌-◌, List, length, ℤ, ℕ, sym, w32, ◌≡◌, Some, to_z-of_z}
+use Rattle.ghcn_series.proofs.Cited.{days_of_blocks, blocks_of}
 use Rattle.std.specs.Prelude.{slice_get}
-use Rattle.std.proofs.lemmas.Int.{to_z-of_z}
-use Rattle.ghcn_series.specs.Packed.{days_of_blocks, blocks_of}
 use Rattle.ghcn_series.proofs.LastDays.{IsLastBlock, last-block, last-of_columns, last_of-at}
 use Rattle.ghcn_series.proofs.columns.Columns.last.Goals as goal
 use Rattle.ghcn_series.proofs.columns.Columns.last.Goals.{After-last-2}
@@ -9,14 +8,12 @@ use Rattle.ghcn_series.proofs.columns.Columns.last.Goals.{After-last-2}
 -- the last number and the last word are those of one block
 last : (c : After-last-2) (w : ℕ) → Some w ≡ slice_get c.deref-2.result.now (length c.deref-2.result.now - 1)
     → IsLastBlock c.self.inside.numbers.items c.self.inside.words.items c.in_ok-number.number.now w
-last c w there =
-    last-block _ _ _ c.in_ok-number.number.now w c.self.invariant.blocks
+last c w there = last-block _ _ _ c.in_ok-number.number.now w c.self.invariant.blocks
     (rw c.deref.ensures.value at c.in_ok-number.ensures.value) (rw c.deref-2.ensures.value at there)
 
 -- the bits of the last word are days
 pub last_day-requires-clause-days : goal.last_day-requires-clause-days
-last_day-requires-clause-days c =
-    rw (to_z-of_z w32 c.in_ok-number.number.now (search rules))
+last_day-requires-clause-days c = rw (to_z-of_z w32 c.in_ok-number.number.now (search rules))
     (last (goal.at.last_day-requires-clause-days c).After-last-2 _ c.in_ok-word.ensures.value).days
 
 -- and there is one

@@ -1,5 +1,4 @@
-use Rattle.std.proofs.Common.{ℤ, sym, ◌∙◌, w32}
-use Rattle.std.proofs.lemmas.Int.{to_z-of_z}
+use Rattle.ghcn_series.proofs.Cited.{ℤ, sym, ◌∙◌, w32, to_z-of_z}
 use Rattle.ghcn_series.proofs.Searches.{next-of_columns}
 use Rattle.ghcn_series.proofs.columns.Columns.next_block.Goals as goal
 

@@ -1,7 +1,4 @@
-use Rattle.std.proofs.Common.{rules, ℤ, None, ◌≡◌, ◌∙◌, sym, w32}
-use Rattle.std.proofs.lemmas.Int.{to_z-of_z}
-use Rattle.ghcn_fields.specs.Days.{block_of}
-use Rattle.ghcn_series.specs.Meaning.Series.{value_on}
+use Rattle.ghcn_series.proofs.Cited.{rules, ℤ, None, ◌≡◌, ◌∙◌, sym, w32, to_z-of_z, block_of, value_on}
 use Rattle.ghcn_series.specs.Packed as packed
 use Rattle.ghcn_series.proofs.Lookups.{at_day}
 use Rattle.ghcn_series.proofs.columns.Columns.value.Goals as goal

@@ -1,13 +1,13 @@
 use Rattle.std.proofs.Common.{sym, ◌∙◌, rules, refl}
 use Rattle.std.proofs.Math.Bool.{or-false, or-true}
-use Rattle.ghcn_series.proofs.CountedLines.{blank_kind, element_kind, other_kind, odd_kind}
+use Rattle.ghcn_series.proofs.Cited.{Blank, OfElement, Other, Odd}
+use Rattle.ghcn_series.proofs.CountedLines.{line_of_kind}
 use Rattle.ghcn_series.proofs.counts.LineCounts.add.Goals as goal
 
 -- a blank line has no element
 pub returns-in_ok-self-in-Blank : goal.returns-in_ok-self-in-Blank
 returns-in_ok-self-in-Blank c = λ line is.
-    let blank = blank_kind line (sym c.in-Blank.is ∙ is) in
-    record {
+    let blank = line_of_kind line Blank (sym c.in-Blank.is ∙ is) in record {
       number = refl;
       blank = rw blank.0 (search rules);
       foreign = refl;
@@ -19,8 +19,7 @@ returns-in_ok-self-in-Blank c = λ line is.
 -- a line of an element isn't blank
 pub returns-in-OfElement : goal.returns-in-OfElement
 returns-in-OfElement c = λ line is.
-    let element = element_kind line (sym c.in-OfElement.is ∙ is) in
-    record {
+    let element = line_of_kind line OfElement (sym c.in-OfElement.is ∙ is) in record {
       number = refl;
       blank = rw element.0 (search rules);
       foreign = refl;
@@ -32,8 +31,7 @@ returns-in-OfElement c = λ line is.
 -- nor is one of another code
 pub returns-in-Other : goal.returns-in-Other
 returns-in-Other c = λ line is.
-    let other = other_kind line (sym c.in-Other.is ∙ is) in
-    record {
+    let other = line_of_kind line Other (sym c.in-Other.is ∙ is) in record {
       number = refl;
       blank = rw other.0 (search rules);
       foreign = refl;
@@ -45,8 +43,7 @@ returns-in-Other c = λ line is.
 -- nor is an odd one, which is counted
 pub returns-in_ok-add-in-Odd : goal.returns-in_ok-add-in-Odd
 returns-in_ok-add-in-Odd c = λ line is.
-    let odd = odd_kind line (sym c.in-Odd.is ∙ is) in
-    record {
+    let odd = line_of_kind line Odd (sym c.in-Odd.is ∙ is) in record {
       number = refl;
       blank = rw odd.0 (search rules);
       foreign = refl;

@@ -1,5 +1,4 @@
-use Rattle.std.proofs.Common.{◌≡◌, ◌∙◌, sym, refl}
-use Rattle.std.proofs.lemmas.Bool.{ne_eqb}
+use Rattle.ghcn_series.proofs.Cited.{◌≡◌, ◌∙◌, sym, refl, ne_eqb}
 use Rattle.ghcn_series.proofs.FollowedCounts.{is_first, cuts-noted}
 use Rattle.ghcn_series.proofs.counts.LineCounts.cuts_foreign.Goals as goal
 use Rattle.ghcn_series.proofs.counts.LineCounts.cuts_foreign.Goals.{in-Some-eq0, in_default, in_default-2}
@@ -12,8 +11,7 @@ returns-else-not-self c =
       | in-Some-eq0 w ↦
           let none : w.in-Some-eq0.field-0 ≡ 0 = sym w.in-Some-eq0.field-0-is ∙ w.in-Some-eq0.field-0-test in
           w.matches-is ∙ rw (w.in-Some-eq0.is, none) refl
-      | in_default w ↦
-          w.matches-is ∙ rw w.in_default.is (sym (ne_eqb w.in_default.field-0 0
+      | in_default w ↦ w.matches-is ∙ rw w.in_default.is (sym (ne_eqb w.in_default.field-0 0
           (λ e. w.in_default.field-0-test.1 (w.in_default.field-0-is ∙ e))))
       | in_default-2 w ↦ w.matches-is ∙ rw w.in_default.is refl
     ] in

@@ -1,5 +1,4 @@
-use Rattle.std.proofs.Common.{arith, ◌≡◌, true, refl}
-use Rattle.std.proofs.lemmas.Bool.Decides.{nat_tests}
+use Rattle.ghcn_series.proofs.Cited.{arith, ◌≡◌, true, refl, nat_tests}
 use Rattle.ghcn_series.proofs.KeptFaults.{HasEnded, ended-begun, ended-unbegun, holds_fed, some_fed, refuses_kept}
 use Rattle.ghcn_series.proofs.cutter.Cutter.close.Goals as goal
 use Rattle.ghcn_series.proofs.cutter.Cutter.close.Goals.{then-self, else-self}

@@ -1,7 +1,4 @@
-use Rattle.std.proofs.Common.{◌≡◌, ◌+◌, sym, subst}
-use Rattle.ghcn_series.specs.declared.cutter.Cutter.{Cutter}
-use Rattle.ghcn_series.specs.Says.{in_64_bits}
-use Rattle.ghcn_series.specs.Cut.{EndsFile}
+use Rattle.ghcn_series.proofs.Cited.{◌≡◌, ◌+◌, sym, subst, Cutter, in_64_bits, EndsFile}
 use Rattle.ghcn_series.proofs.KeptFaults as kept
 use Rattle.ghcn_series.proofs.cutter.Cutter.end_of_file.Goals as goal
 use Rattle.ghcn_series.proofs.cutter.Cutter.end_of_file.Goals.{then-is_reading, else-is_reading}
@@ -24,19 +21,16 @@ read_end-requires-clause-read g c =
 -- the file is read to its end, or skipped
 pub returns-clause-fed : goal.returns-clause-fed
 returns-clause-fed g c =
-    let old = c.args.self.now in
-    let ended = c.saturating_add-self.result in
+    let old = c.args.self.now in let ended = c.saturating_add-self.result in
     let P : Cutter g.row.L.Denot → Type 0 = λ r. ended ≡ in_64_bits (r.ended + 1)
     → EndsFile g.L.LineReader.has_read old (kept.ending r ended) in
     elim c.if-is_reading.branch [
-      | then-is_reading w ↦
-          let looks = rw w.if-is_reading.true at c.is_reading.ensures in
+      | then-is_reading w ↦ let looks = rw w.if-is_reading.true at c.is_reading.ensures in
           subst P (sym w.self-is) (λ one_more.
           kept.ends-read old w.read_end.new.self w.read_end.result w.err-self.result ended looks
           w.read_end.ensures.ended w.read_end.ensures.read w.read_end.ensures.fault w.err-self.ensures.value one_more)
           c.saturating_add-self.ensures
-      | else-is_reading w ↦
-          let looks = rw w.if-is_reading.false at c.is_reading.ensures in
+      | else-is_reading w ↦ let looks = rw w.if-is_reading.false at c.is_reading.ensures in
           subst P (sym w.self-is) (kept.ends-passed old ended looks) c.saturating_add-self.ensures
     ]
 

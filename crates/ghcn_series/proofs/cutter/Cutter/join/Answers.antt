@@ -4,9 +4,7 @@ use Rattle.ghcn_series.proofs.cutter.Cutter.join.Goals as goal
 
 -- both readers have read lines for the same stations
 pub join-requires : goal.join-requires
-join-requires g c =
-    let go = c.if-not-goes_on_with.ensures in
-    readers-alike c.args.self c.args.next go.0 go.1 c.requires
+join-requires g c = let go = c.if-not-goes_on_with.ensures in readers-alike c.args.self c.args.next go.0 go.1 c.requires
 
 -- a listed station has months in both
 pub returns-in_default-clause-apart : goal.returns-in_default-clause-apart

@@ -1,5 +1,4 @@
-use Rattle.std.proofs.Common.{rules}
-use Rattle.ghcn_series.specs.Fed.{nothing_fed}
+use Rattle.ghcn_series.proofs.Cited.{rules, nothing_fed}
 use Rattle.ghcn_series.proofs.cutter.Cutter.new.Goals as goal
 
 -- nothing is fed, which is something

@@ -1,5 +1,4 @@
-use Rattle.std.proofs.Common.{arith, ◌<◌, length}
-use Rattle.std.proofs.lemmas.Bool.Decides.{nat_tests}
+use Rattle.ghcn_series.proofs.Cited.{arith, ◌<◌, length, nat_tests}
 use Rattle.ghcn_series.proofs.KeptFaults as kept
 use Rattle.ghcn_series.proofs.cutter.Cutter.piece.Goals as goal
 

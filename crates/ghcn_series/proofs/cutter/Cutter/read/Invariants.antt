@@ -1,7 +1,4 @@
-use Rattle.std.proofs.Common.{◌≡◌, length}
-use Rattle.ghcn_series.specs.LinesRead.{HasReadSome}
-use Rattle.ghcn_series.specs.Fed.{Fed}
-use Rattle.ghcn_series.specs.Cut.{HasReadFed}
+use Rattle.ghcn_series.proofs.Cited.{◌≡◌, length, HasReadSome, Fed, HasReadFed}
 use Rattle.ghcn_series.proofs.FedPieces.{IsWithinPiece}
 use Rattle.ghcn_series.proofs.cutter.Cutter.read.Given as goal
 

@@ -1,7 +1,4 @@
-use Rattle.std.proofs.Common.{[], ℕ, Bor, List, get_or, arith}
-use Rattle.std.proofs.lemmas.Result.{err_from_is_err_and}
-use Rattle.ghcn_files.specs.Elements.{everything}
-use Rattle.ghcn_series.specs.Fed.{more, with_files}
+use Rattle.ghcn_series.proofs.Cited.{[], ℕ, Bor, List, get_or, arith, err_from_is_err_and, everything, more, with_files}
 use Rattle.ghcn_series.proofs.AllSeries.{kept-everything}
 use Rattle.ghcn_series.proofs.ReadFiles.{all_texts}
 use Rattle.ghcn_series.proofs.FedFiles.{fed_files, texts-more}

@@ -1,5 +1,4 @@
-use Rattle.ghcn_files.specs.Elements.{everything}
-use Rattle.ghcn_series.specs.Cut.{HasFed}
+use Rattle.ghcn_series.proofs.Cited.{everything, HasFed}
 use Rattle.ghcn_series.specs.Gathered.{HasReadByRows}
 use Rattle.ghcn_series.proofs.FedFiles.{fed_files}
 use Rattle.ghcn_series.proofs.data.Data.read.Given as goal

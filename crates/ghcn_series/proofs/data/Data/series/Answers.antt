@@ -1,7 +1,4 @@
-use Rattle.std.proofs.Common.{ℕ, sym, ap, ◌∙◌, arith}
-use Rattle.std.specs.Option.{option_copied}
-use Rattle.ghcn_files.specs.Listed.{place_of}
-use Rattle.ghcn_series.specs.Series.{Data, series_of}
+use Rattle.ghcn_series.proofs.Cited.{ℕ, sym, ap, ◌∙◌, arith, option_copied, place_of, Data, series_of}
 use Rattle.ghcn_series.proofs.SeriesPlaces.{none-unlisted, at_place, listed-at}
 use Rattle.ghcn_series.proofs.data.Data.series.Goals as goal
 
@@ -19,6 +16,5 @@ pub returns : goal.returns
 returns c =
     let place = ap (λ (all : Data). place_of all.stations c.args.id.now) (sym c.self.view_is)
     ∙ sym c.place.ensures ∙ c.in_ok-place.was in
-    c.series_at.ensures
-    ∙ ap (λ (k : ℕ). at_place c.args.self.now c.args.element k) (omega arith)
+    c.series_at.ensures ∙ ap (λ (k : ℕ). at_place c.args.self.now c.args.element k) (omega arith)
     ∙ listed-at c.args.self.now c.args.id.now c.args.element c.in_ok-place.field-0 place

@@ -1,6 +1,4 @@
-use Rattle.std.proofs.Common.{rules, w32}
-use Rattle.std.specs.Prelude.{int_le}
-use Rattle.std.proofs.lemmas.Int.{to_z-of_z}
+use Rattle.ghcn_series.proofs.Cited.{rules, w32, int_le, to_z-of_z}
 use Rattle.ghcn_series.proofs.PartDays.{some-bits}
 use Rattle.ghcn_series.proofs.RunDays.{kept-days}
 use Rattle.ghcn_series.proofs.days.BlockDays.keep_from.Goals as goal
@@ -11,7 +9,5 @@ invariant_of-self c = some-bits c.self.inside.number c.self.inside.left _ c.self
 
 -- they are those whose values pass
 pub returns : goal.returns
-returns c =
-    rw (← c.self.view_is) (kept-days (int_le c.args.least) c.self.inside.number c.self.inside.values.now
-    c.self.inside.left c.places_from.result
-    (rw (to_z-of_z w32 c.args.least (search rules)) at c.places_from.ensures))
+returns c = rw (← c.self.view_is) (kept-days (int_le c.args.least) c.self.inside.number c.self.inside.values.now
+    c.self.inside.left c.places_from.result (rw (to_z-of_z w32 c.args.least (search rules)) at c.places_from.ensures))

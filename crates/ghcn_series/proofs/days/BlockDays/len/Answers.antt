@@ -4,6 +4,5 @@ use Rattle.ghcn_series.proofs.days.BlockDays.len.Goals as goal
 
 -- there is a day for each bit
 pub returns : goal.returns
-returns c =
-    rw (← c.self.view_is)
+returns c = rw (← c.self.view_is)
     (sym (long-days c.self.inside.number c.self.inside.values.now c.self.inside.left (search rules)))

@@ -1,5 +1,4 @@
-use Rattle.std.proofs.Common.{rules, arith, ◌∙◌, ℕ, ℤ, sym, w32}
-use Rattle.std.proofs.lemmas.Int.{to_z-of_z}
+use Rattle.ghcn_series.proofs.Cited.{rules, arith, ◌∙◌, ℕ, ℤ, sym, w32, to_z-of_z}
 use Rattle.ghcn_series.proofs.FirstDays.{block-empty, lowest-block}
 use Rattle.ghcn_series.proofs.PartDays.{some-bits, ones-left}
 use Rattle.ghcn_series.proofs.RunDays.{takes-run}
@@ -16,8 +15,7 @@ returns-then-self-eq0-clause-end c = returns-then-self-eq0-clause-none c
 
 -- the number is that of a block
 pub day_at-first-requires-clause-number : goal.day_at-first-requires-clause-number
-day_at-first-requires-clause-number c =
-    rw (to_z-of_z w32 c.self.inside.number (search rules))
+day_at-first-requires-clause-number c = rw (to_z-of_z w32 c.self.inside.number (search rules))
     (lowest-block _ _ c.self.invariant (omega (arith, c.if-self-eq0.false)) (search rules))
 
 -- the days that stay are in the calendar
@@ -27,15 +25,8 @@ invariant_of-self c = some-bits c.self.inside.number c.self.inside.left _ c.self
 -- what is taken is the first run
 pub returns-clause-run : goal.returns-clause-run
 returns-clause-run c =
-    let n : ℤ = c.self.inside.number in
-    let k : ℕ = c.end_of_run-behind.result in
-    rw (
-      ← c.self.view_is,
-      c.day_at-first.ensures,
-      c.day_at-last.ensures,
-      to_z-of_z w32 n (search rules),
-      c.first_places.ensures,
-      ones-left k,
-    )
+    let n : ℤ = c.self.inside.number in let k : ℕ = c.end_of_run-behind.result in
+    rw (← c.self.view_is, c.day_at-first.ensures, c.day_at-last.ensures)
+    (rw (to_z-of_z w32 n (search rules), c.first_places.ensures, ones-left k)
     (takes-run n c.self.inside.values.now c.self.inside.left k (search rules) (omega (arith, c.if-self-eq0.false))
-    c.end_of_run-behind.ensures)
+    c.end_of_run-behind.ensures))

@@ -6,8 +6,7 @@ use Rattle.ghcn_series.proofs.days.BlockDays.take_to_last_run.Goals as goal
 
 -- without a bit there is no day
 pub returns-then-self-eq0 : goal.returns-then-self-eq0
-returns-then-self-eq0 c =
-    takes-none c.args.self.now (sym c.self.view_is
+returns-then-self-eq0 c = takes-none c.args.self.now (sym c.self.view_is
     ∙ block-empty c.self.inside.number c.self.inside.values.now c.self.inside.left c.if-self-eq0.true)
 
 -- the days that stay are in the calendar

@@ -1,7 +1,4 @@
-use Rattle.std.proofs.Common.{true, not, sym, ap, ◌∙◌}
-use Rattle.std.proofs.lemmas.Bool.{not-true}
-use Rattle.ghcn_series.specs.SeenMonths.{NotesMonth}
-use Rattle.ghcn_series.specs.Gathered.{month_count}
+use Rattle.ghcn_series.proofs.Cited.{true, not, sym, ap, ◌∙◌, not-true}
 use Rattle.ghcn_series.proofs.SeenMonths.{gathering-more, month-new, seen-is, number_is}
 use Rattle.ghcn_series.proofs.gathering.Gathering.add.Goals as goal
 
@@ -9,8 +6,7 @@ use Rattle.ghcn_series.proofs.gathering.Gathering.add.Goals as goal
 pub returns-then-not-branch-clause-added : goal.returns-then-not-branch-clause-added
 returns-then-not-branch-clause-added c = λ m right of.
     let number = number_is true m c.args.row.now c.number_of.result of c.number_of.ensures in
-    let told = sym c.if-not-branch.true ∙ (rw number at c.in_ok-add.ensures.is_new) in
-    record {
+    let told = sym c.if-not-branch.true ∙ (rw number at c.in_ok-add.ensures.is_new) in record {
       is_new = λ before is. told ∙ ap not (seen-is true c.args.self.now m before right is);
       holds = λ before is. tt;
     }
@@ -27,7 +23,7 @@ pub returns-clause-added : goal.returns-clause-added
 returns-clause-added c = λ m right of.
     let number = number_is true m c.args.row.now c.number_of.result of c.number_of.ensures in
     let told = sym c.if-not-branch.false ∙ (rw number at c.in_ok-add.ensures.is_new) in
-    let adds : NotesMonth c.args.self.now.seen c.add.new.self (month_count m) = rw number at c.in_ok-add.ensures.added in
+    let adds = rw number at c.in_ok-add.ensures.added in
     record {
       is_new = λ before is. told ∙ ap not (seen-is true c.args.self.now m before right is);
       holds = λ before is.

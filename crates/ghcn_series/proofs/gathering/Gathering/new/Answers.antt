@@ -1,8 +1,5 @@
-use Rattle.std.proofs.Common.{◌≡◌, Bool, true, false, List, [], refl, ap, ◌∙◌}
-use Rattle.std.specs.List.{IsDistinct}
-use Rattle.ghcn_series.specs.Meaning.Series.{DayValue, value_on}
-use Rattle.ghcn_series.specs.SeenMonths.{has_month}
-use Rattle.ghcn_series.specs.Gathered.{kept_days}
+use Rattle.ghcn_series.proofs.Cited.{◌≡◌, Bool, true, false, List, [], refl, ap, ◌∙◌, IsDistinct, DayValue, value_on}
+use Rattle.ghcn_series.proofs.Cited.{has_month, kept_days}
 use Rattle.ghcn_series.proofs.gathering.Gathering.new.Goals as goal
 
 -- no month has no days

@@ -1,8 +1,5 @@
-use Rattle.std.proofs.Common.{◌≡◌, ◌+◌, [], get_or, ap, sym, ◌∙◌, subst, arith}
-use Rattle.std.proofs.lemmas.Result.{IfOk-weaker}
-use Rattle.ghcn_series.specs.ByPlace.{GatheredByPlace}
-use Rattle.ghcn_series.specs.Gathered.{AreFiveOf}
-use Rattle.ghcn_series.specs.Steps.{TurnsTo}
+use Rattle.ghcn_series.proofs.Cited.{◌≡◌, ◌+◌, [], get_or, ap, sym, ◌∙◌, subst, arith, IfOk-weaker, GatheredByPlace}
+use Rattle.ghcn_series.proofs.Cited.{AreFiveOf, TurnsTo}
 use Rattle.ghcn_series.proofs.PlacedStations.{placed-set}
 use Rattle.ghcn_series.proofs.HeldStations.{here_now, gathered_here, month_added}
 use Rattle.ghcn_series.proofs.gatherings.Gatherings.add.Goals.{After-index_mut}
@@ -18,12 +15,10 @@ its_number c =
 -- its five gatherings have what was read of it
 pub add-requires-clause-gathered : goal.add-requires-clause-gathered
 add-requires-clause-gathered c =
-    let numbers = c.self.inside.numbers.items in
-    let held = c.self.inside.held.items in
     let here = its_number (goal.at.add-requires-clause-gathered c).After-index_mut in
     let own = ap (λ (v : GatheredByPlace). get_or v.stations c.args.place []) (sym c.self.view_is)
-    ∙ gathered_here numbers held c.args.place c.self.inside.at c.self.invariant.placed here c.index_mut.result.now
-    c.index_mut.ensures.value in (
+    ∙ gathered_here c.self.inside.numbers.items c.self.inside.held.items c.args.place c.self.inside.at
+    c.self.invariant.placed here c.index_mut.result.now c.index_mut.ensures.value in (
       c.requires.gathered.0,
       subst (AreFiveOf c.args.asked c.requires.gathered.0 c.args.row.now.id) own
           (c.in_ok-turn_to.ensures.turns.own.holds c.args.asked c.requires.gathered.0 c.args.row.now.id
@@ -42,12 +37,10 @@ invariant_of-self c = record {
 -- the month is added to its station's
 pub returns : goal.returns
 returns c =
-    let numbers = c.self.inside.numbers.items in
-    let held = c.self.inside.held.items in
     let here = its_number (goal.at.returns c).After-index_mut in
     let turns = subst (TurnsTo c.args.place c.args.self.now.stations)
     (ap (λ (v : GatheredByPlace). v.stations) (sym c.self.view_is)) c.in_ok-turn_to.ensures.turns in
     IfOk-weaker c.add.result _ _ (λ added adds m right of.
-    month_added numbers held c.args.place c.self.inside.at c.self.invariant.placed here c.index_mut.result.now
-    c.index_mut.ensures.value c.args.asked c.args.self.now.stations c.add.new.self m added turns (adds m right of))
-    c.add.ensures.added
+    month_added c.self.inside.numbers.items c.self.inside.held.items c.args.place c.self.inside.at
+    c.self.invariant.placed here c.index_mut.result.now c.index_mut.ensures.value c.args.asked
+    c.args.self.now.stations c.add.new.self m added turns (adds m right of)) c.add.ensures.added

@@ -1,6 +1,4 @@
-use Rattle.std.proofs.Common.{◌≡◌, suc, length, ap, arith}
-use Rattle.std.proofs.lemmas.List.{length_push}
-use Rattle.ghcn_series.specs.ByPlace.{GatheredByPlace}
+use Rattle.ghcn_series.proofs.Cited.{◌≡◌, suc, length, ap, arith, length_push, GatheredByPlace}
 use Rattle.ghcn_series.proofs.HeldStations.{is_held, not_held, still_here}
 use Rattle.ghcn_series.proofs.gatherings.Gatherings.hold.Goals as goal
 
@@ -8,8 +6,7 @@ use Rattle.ghcn_series.proofs.gatherings.Gatherings.hold.Goals as goal
 pub invariant_of-self-2 : goal.invariant_of-self-2
 invariant_of-self-2 c =
     let g = c.args.station in
-    let numbers = c.self.inside.numbers.items in
-    let held = c.self.inside.held.items in
+    let numbers = c.self.inside.numbers.items in let held = c.self.inside.held.items in
     let view = ap (λ (v : GatheredByPlace). v.stations) c.self.view_is in
     let last : c.len.result ≡ suc (length held) =
     omega (arith, c.len.ensures, c.push.new.self.ok.0, ap length c.in_ok-push.ensures.items, length_push held g) in
@@ -26,12 +23,10 @@ invariant_of-self-2 c =
 -- and its gatherings are at its place
 pub returns : goal.returns
 returns c =
-    let g = c.args.station in
-    let numbers = c.self.inside.numbers.items in
-    let held = c.self.inside.held.items in
-    let view = ap (λ (v : GatheredByPlace). v.stations) c.self.view_is in
+    let g = c.args.station in let held = c.self.inside.held.items in
     let last : c.len.result ≡ suc (length held) =
     omega (arith, c.len.ensures, c.push.new.self.ok.0, ap length c.in_ok-push.ensures.items, length_push held g) in
-    let is = is_held numbers held g c.len.result c.args.self.now.stations view c.requires.within c.requires.none
-    c.requires.number c.self.invariant.placed last in
+    let is = is_held c.self.inside.numbers.items held g c.len.result c.args.self.now.stations
+    (ap (λ (v : GatheredByPlace). v.stations) c.self.view_is) c.requires.within c.requires.none c.requires.number
+    c.self.invariant.placed last in
     rw (c.in_ok-push.ensures.items, c.place-place.ensures) is.1

@@ -1,8 +1,5 @@
-use Rattle.std.proofs.Common.{[], length, map, sym, ap, ◌∙◌, subst, arith}
-use Rattle.std.specs.List.{AllByRecursion}
-use Rattle.std.proofs.lemmas.List.{nil_from_length, length-map, map-set}
-use Rattle.ghcn_series.specs.ByPlace.{GatheredByPlace, numbered}
-use Rattle.ghcn_series.specs.Gathered.{IsReady}
+use Rattle.ghcn_series.proofs.Cited.{[], length, map, sym, ap, ◌∙◌, subst, arith, AllByRecursion, nil_from_length}
+use Rattle.ghcn_series.proofs.Cited.{length-map, map-set, GatheredByPlace, numbered, IsReady}
 use Rattle.ghcn_series.proofs.ListFacts.{all-at}
 use Rattle.ghcn_series.proofs.PlacedSeries.{none_have, next_within, next_gathered, one_has, all_have, empty_at}
 use Rattle.ghcn_series.proofs.Places.{station_there}
@@ -12,12 +9,11 @@ use Rattle.ghcn_series.proofs.gatherings.Gatherings.into_series.Goals as goal
 pub loop-gathered-init : goal.loop-gathered-init
 loop-gathered-init c =
     let view = ap (λ (v : GatheredByPlace). v.stations) c.self.view_is in
-    let long = ap length view ∙ c.requires.number in
     let series = length-map c.in_ok-series.series.items (λ s. s.items) ∙ c.in_ok-series.ensures.number in
     let numbers = length-map c.self.inside.numbers.items (numbered c.self.inside.held.items) in
     none_have c.args.stations.now _ (map (λ s. s.items) c.in_ok-series.series.items) c.self.inside.numbers.items
     c.self.inside.held.items _ c.self.invariant.placed view c.into_iter-gathered-iterator.ensures.into_iter_gives.0
-    (omega (arith, series, c.len.ensures, c.self.inside.numbers.ok.0, numbers, long))
+    (omega (arith, series, c.len.ensures, c.self.inside.numbers.ok.0, numbers, ap length view ∙ c.requires.number))
     (λ k. empty_at (λ s. s.items) c.in_ok-series.series.items k c.in_ok-series.ensures.none)
 
 -- the next is one of the list
@@ -46,15 +42,12 @@ pub loop-gathered-preserved : goal.loop-gathered-preserved
 loop-gathered-preserved c =
     let within = next_within _ _ _ c.in-Some.gathered _ _ c.loop-gathered.invariant c.in-Some.ensures.steps.0 in
     let there = station_there c.args.stations.now c.in-Some.gathered.place (omega (arith, c.requires.number, within)) in
-    rw (
-      map-set (λ s. s.items) c.loop-gathered.series.items c.place-place.result c.in_ok-series-2.field-0,
-      c.place-place.ensures,
-    )
+    rw (map-set (λ s. s.items) c.loop-gathered.series.items c.place-place.result c.in_ok-series-2.field-0)
+    (rw c.place-place.ensures
     (one_has _ _ _ c.in-Some.gathered _ _ c.loop-gathered.invariant c.in-Some.ensures.steps.0 there.0 _
-    c.requires.number there.1 (rw there.1 at c.in_ok-series-2.ensures))
+    c.requires.number there.1 (rw there.1 at c.in_ok-series-2.ensures)))
 
 -- and in the end all have
 pub returns : goal.returns
-returns c =
-    all_have _ _ _ _ c.loop-gathered.invariant
+returns c = all_have _ _ _ _ c.loop-gathered.invariant
     (nil_from_length _ (sym c.loop-gathered.gathered-iterator.rest.ok.0 ∙ c.in-None.ensures.steps.0)) c.requires.number

@@ -1,10 +1,8 @@
-use Rattle.std.proofs.Common.{map}
-use Rattle.std.specs.Vec.Iter.{into_iter_items}
+use Rattle.ghcn_series.proofs.Cited.{map, into_iter_items}
 use Rattle.ghcn_series.proofs.PlacedSeries.{HaveSeries}
 use Rattle.ghcn_series.proofs.gatherings.Gatherings.into_series.Given as goal
 
 -- the stations so far have their series
 abbrev pub invariant-loop-gathered : goal.invariant-loop-gathered
-invariant-loop-gathered l =
-    HaveSeries l.fn.stations l.fn.self.stations (map (λ s. s.items) l.series.items)
+invariant-loop-gathered l = HaveSeries l.fn.stations l.fn.self.stations (map (λ s. s.items) l.series.items)
     (into_iter_items l.gathered-iterator)

@@ -1,8 +1,5 @@
-use Rattle.std.proofs.Common.{[], List, get_or, sym, ap, ◌∙◌, subst, arith}
-use Rattle.std.specs.Vec.Iter.{into_iter_items}
-use Rattle.std.proofs.lemmas.List.{nil_from_length}
-use Rattle.ghcn_series.specs.declared.gathering.Gathering.{Gathering}
-use Rattle.ghcn_series.specs.ByPlace.{GatheredByPlace}
+use Rattle.ghcn_series.proofs.Cited.{[], List, get_or, sym, ap, ◌∙◌, subst, arith, into_iter_items, nil_from_length}
+use Rattle.ghcn_series.proofs.Cited.{Gathering, GatheredByPlace}
 use Rattle.ghcn_series.proofs.HeldStations.{none_if, some_if}
 use Rattle.ghcn_series.proofs.JoinedStations.{AreTaken, none_taken, next_within, next_five, one_taken, one_not_taken}
 use Rattle.ghcn_series.proofs.JoinedStations.{all_taken}
@@ -19,17 +16,15 @@ loop-station-init c =
 -- the next is one of the list
 pub holds-requires : goal.holds-requires
 holds-requires c =
-    let within =
-    next_within _ _ _ c.in-Some.station _ _ c.loop-station.invariant c.in-Some.ensures.steps.0 c.requires in
-    omega (arith, c.place.ensures, within)
+    let within = next_within _ _ _ c.in-Some.station _ _ c.loop-station.invariant c.in-Some.ensures.steps.0
+    c.requires in omega (arith, c.place.ensures, within)
 
 -- it may have months in both
 pub returns-then-holds-clause-apart : goal.returns-then-holds-clause-apart
 returns-then-holds-clause-apart c =
     let news = c.loop-station.self.stations in
     one_not_taken _ _ news c.in-Some.station _ _ c.loop-station.invariant c.in-Some.ensures.steps.0 c.requires
-    (some_if (get_or news c.in-Some.station.place [])
-    (rw c.place.ensures at (sym c.holds.ensures ∙ c.if-holds.true)))
+    (some_if (get_or news c.in-Some.station.place []) (rw c.place.ensures at (sym c.holds.ensures ∙ c.if-holds.true)))
 
 -- or it is held now
 pub hold-requires-clause-within : goal.hold-requires-clause-within
@@ -37,13 +32,11 @@ hold-requires-clause-within c =
     next_within _ _ _ c.in-Some.station _ _ c.loop-station.invariant c.in-Some.ensures.steps.0 c.requires
 
 pub hold-requires-clause-none : goal.hold-requires-clause-none
-hold-requires-clause-none c =
-    none_if (get_or c.loop-station.self.stations c.in-Some.station.place [])
+hold-requires-clause-none c = none_if (get_or c.loop-station.self.stations c.in-Some.station.place [])
     (rw c.place.ensures at (sym c.holds.ensures ∙ c.if-holds.false))
 
 pub hold-requires-clause-number : goal.hold-requires-clause-number
-hold-requires-clause-number c =
-    next_five _ _ _ c.in-Some.station _ _ c.loop-station.invariant c.in-Some.ensures.steps.0
+hold-requires-clause-number c = next_five _ _ _ c.in-Some.station _ _ c.loop-station.invariant c.in-Some.ensures.steps.0
 
 -- so it has been taken over
 pub loop-station-preserved : goal.loop-station-preserved
@@ -56,6 +49,5 @@ loop-station-preserved c =
 
 -- and in the end all have been
 pub returns-clause-joined : goal.returns-clause-joined
-returns-clause-joined c =
-    all_taken _ _ _ _ c.loop-station.invariant
+returns-clause-joined c = all_taken _ _ _ _ c.loop-station.invariant
     (nil_from_length _ (sym c.loop-station.station-iterator.rest.ok.0 ∙ c.in-None.ensures.steps.0))

@@ -1,5 +1,4 @@
-use Rattle.std.proofs.Common.{◌≡◌, length, ap, ◌∙◌}
-use Rattle.ghcn_series.specs.ByPlace.{by_place}
+use Rattle.ghcn_series.proofs.Cited.{◌≡◌, length, ap, ◌∙◌, by_place}
 use Rattle.ghcn_series.proofs.PlacedStations.{zeros, none_by_place}
 use Rattle.ghcn_series.proofs.gatherings.Gatherings.new.Goals as goal
 

@@ -1,6 +1,4 @@
-use Rattle.std.proofs.Common.{ap}
-use Rattle.std.proofs.lemmas.Result.{on_ok_weaker}
-use Rattle.ghcn_series.specs.ByPlace.{GatheredByPlace, by_place}
+use Rattle.ghcn_series.proofs.Cited.{ap, on_ok_weaker, GatheredByPlace, by_place}
 use Rattle.ghcn_series.proofs.PlacedStations.{placed-set}
 use Rattle.ghcn_series.proofs.HeldStations.{settled, none_settled}
 use Rattle.ghcn_series.proofs.gatherings.Gatherings.settle.Goals as goal
@@ -17,13 +15,10 @@ invariant_of-self c = record {
 
 -- and keep what they have
 pub returns-in-Some : goal.returns-in-Some
-returns-in-Some c =
-    let numbers = c.self.inside.numbers.items in
-    let held = c.self.inside.held.items in
-    on_ok_weaker c.shrink_to_fit.result (λ keeps.
-    settled numbers held c.self.inside.at c.in-Some.station.now c.shrink_to_fit.new.self c.args.self.now.stations
-    (ap (λ (v : GatheredByPlace). v.stations) c.self.view_is) c.in-Some.ensures.item.1 keeps)
-    c.shrink_to_fit.ensures.same
+returns-in-Some c = on_ok_weaker c.shrink_to_fit.result (λ keeps.
+    settled c.self.inside.numbers.items c.self.inside.held.items c.self.inside.at c.in-Some.station.now
+    c.shrink_to_fit.new.self c.args.self.now.stations (ap (λ (v : GatheredByPlace). v.stations) c.self.view_is)
+    c.in-Some.ensures.item.1 keeps) c.shrink_to_fit.ensures.same
 
 -- if there is one
 pub returns-in-None : goal.returns-in-None

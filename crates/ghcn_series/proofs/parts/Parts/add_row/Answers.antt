@@ -1,9 +1,5 @@
-use Rattle.std.proofs.Common.{rules, arith, ◌≡◌, ◌<◌, ℕ, List, get_or, take, drop, ℤ, pos, ◌+ℤ◌, w32, to_z, of_z}
-use Rattle.std.proofs.lemmas.Int.{ints, to_z-of_z}
-use Rattle.std.proofs.lemmas.Result.{on_ok_weaker}
-use Rattle.ghcn_fields.specs.Days.{IsBlock}
-use Rattle.ghcn_series.specs.Packed.{Block}
-use Rattle.ghcn_series.specs.Parts.{IsValueFrom, day_of, days_held}
+use Rattle.ghcn_series.proofs.Cited.{rules, arith, ◌≡◌, ◌<◌, ℕ, List, get_or, take, drop, ℤ, pos, ◌+ℤ◌, w32, to_z, of_z}
+use Rattle.ghcn_series.proofs.Cited.{ints, to_z-of_z, on_ok_weaker, IsBlock, Block, IsValueFrom, day_of, days_held}
 use Rattle.ghcn_series.proofs.RowParts.{IsPart, part-packed, new-one, new-two, joined-both}
 use Rattle.ghcn_series.proofs.RowParts.{zero_at, first-part, second-part}
 use Rattle.ghcn_series.proofs.parts.Parts.add_row.Goals as goal
@@ -52,9 +48,8 @@ put_row-requires-clause-zeros c = zero_at 64
 pub add_part-requires-clause-packed : goal.add_part-requires-clause-packed
 unfolding here
 add_part-requires-clause-packed c =
-    let parts = halves (goal.at.add_part-requires-clause-packed c).After-high_bits-high
-    c.put_row.new.both _ _ c.first_of-first.ensures c.second_of-second.ensures c.put_row.ensures in
-    part-packed _ _ _ _ _ _ parts.0 (search rules)
+    part-packed _ _ _ _ _ _ (halves (goal.at.add_part-requires-clause-packed c).After-high_bits-high
+    c.put_row.new.both _ _ c.first_of-first.ensures c.second_of-second.ensures c.put_row.ensures).0 (search rules)
 
 -- and new
 pub add_part-requires-clause-fresh : goal.add_part-requires-clause-fresh
@@ -68,9 +63,8 @@ add_part-requires-clause-fresh c =
 pub add_part-requires-2-clause-packed : goal.add_part-requires-2-clause-packed
 unfolding next
 add_part-requires-2-clause-packed c =
-    let parts = halves (goal.at.add_part-requires-2-clause-packed c).After-high_bits-high
-    c.put_row.new.both _ _ c.first_of-first.ensures c.second_of-second.ensures c.put_row.ensures in
-    part-packed _ _ _ _ _ _ parts.1 (search rules)
+    part-packed _ _ _ _ _ _ (halves (goal.at.add_part-requires-2-clause-packed c).After-high_bits-high
+    c.put_row.new.both _ _ c.first_of-first.ensures c.second_of-second.ensures c.put_row.ensures).1 (search rules)
 
 -- and new beside the first one
 pub add_part-requires-2-clause-fresh : goal.add_part-requires-2-clause-fresh

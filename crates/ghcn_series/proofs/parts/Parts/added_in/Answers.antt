@@ -1,8 +1,5 @@
-use Rattle.std.proofs.Common.{rules, arith, ◌≡◌, ◌∙◌, List, ℕ, ℤ, pos, get_or, [], sym, subst, w32, to_z, of_z}
-use Rattle.std.proofs.lemmas.Int.{to_z-of_z}
-use Rattle.std.proofs.lemmas.List.{get_or_default}
-use Rattle.ghcn_series.specs.Packed.{Block, IsPacked}
-use Rattle.ghcn_series.specs.Parts.{IsNewPart, JoinsPart, KeepsOrder}
+use Rattle.ghcn_series.proofs.Cited.{rules, arith, ◌≡◌, ◌∙◌, List, ℕ, ℤ, pos, get_or, [], sym, subst, w32, to_z, of_z}
+use Rattle.ghcn_series.proofs.Cited.{to_z-of_z, get_or_default, Block, IsPacked, IsNewPart, JoinsPart, KeepsOrder}
 use Rattle.ghcn_series.proofs.PartsInOrder.{StandsAt, part_in, stands, added-none, added-more, added-all, next-packed}
 use Rattle.ghcn_series.proofs.PartsInOrder.{next-new}
 use Rattle.ghcn_series.proofs.parts.Parts.added_in.Goals as goal
@@ -10,8 +7,7 @@ use Rattle.ghcn_series.proofs.parts.Parts.added_in.Goals.{After-index-in-loop-nu
 
 -- nothing is added yet
 pub loop-number-init : goal.loop-number-init
-loop-number-init c =
-    added-none _ _ c.requires.parts c.requires.order c.new-ordered.result c.new-ordered.ensures
+loop-number-init c = added-none _ _ c.requires.parts c.requires.order c.new-ordered.result c.new-ordered.ensures
 
 -- the number is at its place
 pub index-requires : goal.index-requires
@@ -32,14 +28,12 @@ the-part : (c : After-index-in-loop-number)
       (c.index.result.now, c.index-in-loop-number.result.now),
     ) (part_in c.args.self.now c.args.order.now c.loop-number.number-index)
 the-part c =
-    let ws : List ℕ = c.args.self.now.words.items in
-    let vs : List (List ℤ) = c.args.self.now.values.items in
+    let ws : List ℕ = c.args.self.now.words.items in let vs : List (List ℤ) = c.args.self.now.values.items in
     let at : ℤ × ℕ = get_or c.args.order.now c.loop-number.number-index (pos 0, 0) in
     let there : StandsAt c.args.self.now.numbers.items at =
     stands _ _ c.requires.order c.loop-number.number-index c.loop-number-test.true in
     let near : to_z w32 (of_z w32 at.0) ≡ at.0 = to_z-of_z w32 at.0 (search rules) in
-    let word : c.index.result.now ≡ get_or ws at.1 0 = c.index.ensures
-    ∙ get_or_default ws at.1 c.index.result.now 0
+    let word : c.index.result.now ≡ get_or ws at.1 0 = c.index.ensures ∙ get_or_default ws at.1 c.index.result.now 0
     (omega (arith, there.in_range, c.requires.parts.blocks.enough_words)) in
     let row : c.index-in-loop-number.result.now ≡ get_or vs at.1 [] = c.index-in-loop-number.ensures
     ∙ get_or_default vs at.1 c.index-in-loop-number.result.now []
@@ -54,8 +48,7 @@ add_part-requires-clause-packed c = λ some.
 
 -- and new
 pub add_part-requires-clause-fresh : goal.add_part-requires-clause-fresh
-add_part-requires-clause-fresh c =
-    subst (IsNewPart c.loop-number.ordered)
+add_part-requires-clause-fresh c = subst (IsNewPart c.loop-number.ordered)
     (sym (the-part (goal.at.add_part-requires-clause-fresh c).After-index-in-loop-number))
     (next-new _ _ c.requires.parts c.requires.order _ _ c.loop-number-test.true c.loop-number.invariant)
 
@@ -71,6 +64,5 @@ loop-number-preserved c =
 
 -- all are
 pub returns-clause-days : goal.returns-clause-days
-returns-clause-days c =
-    added-all _ _ c.requires.parts c.requires.order c.loop-number.number-index c.loop-number.ordered
+returns-clause-days c = added-all _ _ c.requires.parts c.requires.order c.loop-number.number-index c.loop-number.ordered
     (omega (arith, c.loop-number-test.false, c.loop-number.auto.number-index-end)) c.loop-number.invariant

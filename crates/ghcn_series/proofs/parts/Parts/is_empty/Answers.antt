@@ -1,5 +1,4 @@
-use Rattle.std.proofs.Common.{rules, ◌≡◌, length, ◌∙◌}
-use Rattle.std.specs.Prelude.{◌==◌}
+use Rattle.ghcn_series.proofs.Cited.{rules, ◌≡◌, length, ◌∙◌, ◌==◌}
 use Rattle.ghcn_series.proofs.Nexts.{no-days}
 use Rattle.ghcn_series.proofs.parts.Parts.is_empty.Goals as goal
 

@@ -1,7 +1,5 @@
-use Rattle.std.proofs.Common.{arith, ◌≡◌, ◌∙◌, ◌-◌, List, ℤ, get_or, length, []}
-use Rattle.std.proofs.lemmas.List.{get_or_default}
-use Rattle.ghcn_series.specs.Parts.{JoinsValues}
-use Rattle.ghcn_series.specs.Packed.{AreBlocks}
+use Rattle.ghcn_series.proofs.Cited.{arith, ◌≡◌, ◌∙◌, ◌-◌, List, ℤ, get_or, length, [], get_or_default, JoinsValues}
+use Rattle.ghcn_series.proofs.Cited.{AreBlocks}
 use Rattle.ghcn_series.proofs.PartsAdded.{join-days, join-blocks, IsJoin}
 use Rattle.ghcn_series.proofs.ApartParts.{join-apart}
 use Rattle.ghcn_series.proofs.parts.Parts.join.Goals as goal
@@ -21,8 +19,7 @@ joins c r row =
     let at : c.len-last.result ≡ length c.args.self.now.numbers.items =
     omega (arith, c.len-last.ensures, c.args.self.now.numbers.ok.0) in
     let values : c.index.result.now ≡ get_or vs (c.len-last.result - 1) [] = c.index.ensures
-    ∙ get_or_default vs _ c.index.result.now [] (omega (arith, bs.enough_values, c.requires.some)) in
-    record {
+    ∙ get_or_default vs _ c.index.result.now [] (omega (arith, bs.enough_values, c.requires.some)) in record {
       blocks = bs;
       last = omega (arith, c.requires.some);
       one = rw (place c) at c.requires.packed;
@@ -42,8 +39,7 @@ word c =
 pub returns-clause-parts : goal.returns-clause-parts
 returns-clause-parts c =
     let own = (goal.at.returns-clause-parts c).After-index in
-    let join = joins own c.joined.result c.joined.ensures in
-    record {
+    let join = joins own c.joined.result c.joined.ensures in record {
       blocks = rw (word own) (join-blocks _ _ _ _ _ _ _ join);
       apart = rw (word own) (join-apart _ _ _ _ _ _ _ join c.requires.parts.apart);
       rise = c.requires.parts.rise;

@@ -1,6 +1,4 @@
-use Rattle.std.proofs.Common.{List, refl, ◌∙◌}
-use Rattle.ghcn_series.specs.Meaning.Series.{DayValue}
-use Rattle.ghcn_series.specs.Parts.{days_held}
+use Rattle.ghcn_series.proofs.Cited.{List, refl, ◌∙◌, DayValue, days_held}
 use Rattle.ghcn_series.proofs.ApartParts.{apart-distinct}
 use Rattle.ghcn_series.proofs.PartsInOrder.{ordered-rise}
 use Rattle.ghcn_series.proofs.SortedDays.{sorted-are}

@@ -1,8 +1,5 @@
-use Rattle.std.proofs.Common.{◌≡◌, false, refl, sym, ap, ◌∙◌}
-use Rattle.std.proofs.lemmas.Result.{IfOk-weaker}
-use Rattle.std.specs.List.{filter_map}
-use Rattle.ghcn_files.specs.Listed.{place_of}
-use Rattle.ghcn_series.specs.DailyFaults.{is_listed, month_on}
+use Rattle.ghcn_series.proofs.Cited.{◌≡◌, false, refl, sym, ap, ◌∙◌, IfOk-weaker, filter_map, place_of, is_listed}
+use Rattle.ghcn_series.proofs.Cited.{month_on}
 use Rattle.ghcn_series.proofs.MonthRows.{for-own}
 use Rattle.ghcn_series.proofs.Places.{unlisted-is}
 use Rattle.ghcn_series.proofs.ReadMonths.{read-listed, read-unlisted, within_gathered, own_months}
@@ -24,16 +21,14 @@ add-requires-clause-gathered c = (
 
 -- a month of a listed station is added to its own
 pub returns-in-Some-clause-added : goal.returns-in-Some-clause-added
-returns-in-Some-clause-added c =
-    IfOk-weaker c.add.result _ _ (λ added adds m right of.
+returns-in-Some-clause-added c = IfOk-weaker c.add.result _ _ (λ added adds m right of.
     let place = ap (place_of c.args.self.now.stations) (sym (for-own _ m c.args.row.now of).0) ∙ sym c.place.ensures
     ∙ c.in-Some.is in
     read-listed c.args.self.now _ m c.in-Some.place added place (adds m right of) refl refl refl right) c.add.ensures
 
 -- a month of another station is counted
 pub returns-in-None-clause-added : goal.returns-in-None-clause-added
-returns-in-None-clause-added c = λ m right of.
-    let own = sym (for-own _ m c.args.row.now of).0 in
+returns-in-None-clause-added c = λ m right of. let own = sym (for-own _ m c.args.row.now of).0 in
     let none : is_listed c.args.self.now.stations m.id ≡ false = unlisted-is c.args.self.now.stations m.id
     (ap (place_of c.args.self.now.stations) own ∙ sym c.place.ensures ∙ c.in-None.is) in
     read-unlisted c.args.self.now _ m none refl refl refl c.saturating_add-self.ensures right

@@ -1,7 +1,5 @@
-use Rattle.std.proofs.Common.{sym, ap, ◌∙◌}
-use Rattle.std.specs.Option.{option_copied}
+use Rattle.ghcn_series.proofs.Cited.{sym, ap, ◌∙◌, option_copied, same_id-is}
 use Rattle.ghcn_series.proofs.Places.{place_of-at}
-use Rattle.ghcn_files.proofs.IdLaws.{same_id-is}
 use Rattle.ghcn_series.proofs.reader.Reader.place.Goals as goal
 
 -- the place of the line before is the station's

@@ -5,8 +5,7 @@ use Rattle.ghcn_series.proofs.reader.ReaderJoinLines.join.Goals as goal
 
 -- both have the same stations
 pub join-requires : goal.join-requires
-join-requires c =
-    as_many c.args.self c.args.next c.requires.stations c.requires.keep c.requires.lines c.requires.more
+join-requires c = as_many c.args.self c.args.next c.requires.stations c.requires.keep c.requires.lines c.requires.more
     c.requires.of_first c.requires.of_next
 
 -- one of them has months in both
@@ -16,6 +15,5 @@ returns-then-not-is_joined-clause-apart c =
 
 -- or what both have read is read
 pub returns-clause-joined : goal.returns-clause-joined
-returns-clause-joined c =
-    reads_joined c.args.self c.args.next _ refl refl c.saturating_add.ensures
+returns-clause-joined c = reads_joined c.args.self c.args.next _ refl refl c.saturating_add.ensures
     (OnTrue_at c.if-not-is_joined.false c.in_ok-is_joined.ensures.joined)

@@ -1,16 +1,12 @@
-use Rattle.std.proofs.Common.{◌≡◌, Ok, None, inr, ◌∙◌}
-use Rattle.ghcn_files.specs.Months.{read_month}
-use Rattle.ghcn_series.specs.DailyFaults.{file_line}
+use Rattle.ghcn_series.proofs.Cited.{◌≡◌, Ok, None, inr, ◌∙◌, read_month, file_line}
 use Rattle.ghcn_series.proofs.AlikeMonths.{same_read}
-use Rattle.ghcn_series.proofs.ReadLines.{read-passed, read-month, refused-month, refused-line}
-use Rattle.ghcn_series.proofs.ReadLines.{other_code, element_code}
+use Rattle.ghcn_series.proofs.ReadLines.{read-passed, read-month, refused-month, refused-line, other_code, element_code}
 use Rattle.ghcn_series.proofs.reader.ReaderLineReader.add.Goals as goal
 
 -- a line of none of the elements is skipped
 pub returns-in-Ok-None-clause-read : goal.returns-in-Ok-None-clause-read
 returns-in-Ok-None-clause-read c =
-    let is : read_month c.args.bytes.now ≡ Ok None = rw c.in-Ok-None.field-0-is at c.in-Ok-None.ensures in
-    record {
+    let is : read_month c.args.bytes.now ≡ Ok None = rw c.in-Ok-None.field-0-is at c.in-Ok-None.ensures in record {
       holds = λ like alike. record {
         holds = read-passed c.args.self.now (file_line c.args.file (c.args.line, like))
             (same_read like c.args.bytes.now alike ∙ is);
@@ -19,15 +15,13 @@ returns-in-Ok-None-clause-read c =
 
 -- which has another code
 pub returns-in-Ok-None-clause-element : goal.returns-in-Ok-None-clause-element
-returns-in-Ok-None-clause-element c =
-    other_code c.args.bytes.now (rw c.in-Ok-None.field-0-is at c.in-Ok-None.ensures)
+returns-in-Ok-None-clause-element c = other_code c.args.bytes.now (rw c.in-Ok-None.field-0-is at c.in-Ok-None.ensures)
 
 -- a new month is read
 pub returns-in-Ok-true-clause-read : goal.returns-in-Ok-true-clause-read
 returns-in-Ok-true-clause-read c =
     let is = rw c.in-Ok-Some.field-0-is at c.in-Ok-Some.ensures in
-    let adds = rw c.in-Ok-true.field-0-test at c.in-Ok-true.ensures.added in
-    record {
+    let adds = rw c.in-Ok-true.field-0-test at c.in-Ok-true.ensures.added in record {
       holds = λ like alike. record {
         holds = read-month c.args.self.now c.add_month.new.self (file_line c.args.file (c.args.line, like))
             is.month (same_read like c.args.bytes.now alike ∙ is.read) c.add_month.ensures.stations
@@ -56,10 +50,9 @@ returns-in-Ok-false-clause-fault c =
 
 -- so is a line that fails a test
 pub returns-in-Err-clause-fault : goal.returns-in-Err-clause-fault
-returns-in-Err-clause-fault c =
-    rw c.refused.ensures (record {
-      holds = λ like alike. record {
-        first = refused-line c.args.self.now (file_line c.args.file (c.args.line, like)) c.in-Err.why
-            (same_read like c.args.bytes.now alike ∙ c.in-Err.ensures);
-      };
-    })
+returns-in-Err-clause-fault c = rw c.refused.ensures (record {
+  holds = λ like alike. record {
+    first = refused-line c.args.self.now (file_line c.args.file (c.args.line, like)) c.in-Err.why
+        (same_read like c.args.bytes.now alike ∙ c.in-Err.ensures);
+  };
+})

@@ -1,5 +1,4 @@
-use Rattle.ghcn_series.specs.DailyFaults.{daily_lines}
-use Rattle.ghcn_series.specs.Says.{contents}
+use Rattle.ghcn_series.proofs.Cited.{daily_lines, contents}
 use Rattle.ghcn_series.proofs.CountedLines.{warned}
 use Rattle.ghcn_series.proofs.ReadFiles.{data_of-right}
 use Rattle.ghcn_series.proofs.reader.ReaderLineReader.finish.Goals as goal

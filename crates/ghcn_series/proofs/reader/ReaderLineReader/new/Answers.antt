@@ -1,6 +1,5 @@
-use Rattle.std.proofs.Common.{refl}
+use Rattle.ghcn_series.proofs.Cited.{refl, daily_fault}
 use Rattle.ghcn_files.proofs.FaultLaws.{no_fault-nil}
-use Rattle.ghcn_series.specs.DailyFaults.{daily_fault}
 use Rattle.ghcn_series.proofs.ReadMonths.{none_read}
 use Rattle.ghcn_series.proofs.reader.ReaderLineReader.new.Goals as goal
 

@@ -1,8 +1,4 @@
-use Rattle.std.proofs.Common.{◌≡◌, true, false, sym, ◌∙◌, arith}
-use Rattle.std.proofs.lemmas.Result.{IfOk-weaker}
-use Rattle.std.proofs.lemmas.Slice.Zip.{AllZip-long}
-use Rattle.ghcn_files.specs.Meaning.Elements.{elements}
-use Rattle.ghcn_files.specs.Elements.{is_kept}
+use Rattle.ghcn_series.proofs.Cited.{◌≡◌, true, false, sym, ◌∙◌, arith, IfOk-weaker, AllZip-long, elements, is_kept}
 use Rattle.ghcn_series.proofs.MonthRows.{for-own, for-kept}
 use Rattle.ghcn_series.proofs.StationMonths.{station-more, some_at, element_within}
 use Rattle.ghcn_series.proofs.station.StationGathering.add.Goals as goal
@@ -22,8 +18,7 @@ add-requires-clause-gathered c =
 
 -- and without their days, if these aren't kept
 pub note-requires : goal.note-requires
-note-requires c =
-    some_at c.args.asked false c.args.self.now.by_element.items c.requires.gathered.0 c.args.row.now.id
+note-requires c = some_at c.args.asked false c.args.self.now.by_element.items c.requires.gathered.0 c.args.row.now.id
     c.args.row.now.element c.index_mut-gathering.result.now (sym c.is_kept.ensures ∙ c.if-is_kept.false)
     c.requires.gathered.1 (rw (← c.place_of.ensures) c.index_mut-gathering.ensures.value)
 
@@ -35,8 +30,7 @@ add-requires-clause-right c =
 
 -- the month is added to the gathering of its element
 pub returns-then-is_kept-clause-added : goal.returns-then-is_kept-clause-added
-returns-then-is_kept-clause-added c =
-    IfOk-weaker c.add.result _ _ (λ added adds m right of.
+returns-then-is_kept-clause-added c = IfOk-weaker c.add.result _ _ (λ added adds m right of.
     let is : is_kept c.args.asked c.args.row.now.element ≡ true = sym c.is_kept.ensures ∙ c.if-is_kept.true in
     station-more c.args.asked m c.args.self.now.by_element.items c.place_of.result c.index_mut-gathering.result.now
     c.add.new.self added true c.args.row.now.element c.place_of.ensures (for-own _ m c.args.row.now of).1 is
@@ -45,8 +39,7 @@ returns-then-is_kept-clause-added c =
 
 -- or noted there
 pub returns-else-is_kept-clause-added : goal.returns-else-is_kept-clause-added
-returns-else-is_kept-clause-added c =
-    IfOk-weaker c.note.result _ _ (λ added adds m right of.
+returns-else-is_kept-clause-added c = IfOk-weaker c.note.result _ _ (λ added adds m right of.
     let is : is_kept c.args.asked c.args.row.now.element ≡ false = sym c.is_kept.ensures ∙ c.if-is_kept.false in
     station-more c.args.asked m c.args.self.now.by_element.items c.place_of.result c.index_mut-gathering.result.now
     c.note.new.self added false c.args.row.now.element c.place_of.ensures (for-own _ m c.args.row.now of).1 is

@@ -1,7 +1,5 @@
-use Rattle.std.proofs.Common.{◌≡◌, ◌++◌}
-use Rattle.std.specs.List.{AllByRecursion, filter_map}
-use Rattle.std.specs.Vec.Iter.{into_iter_items}
-use Rattle.ghcn_series.specs.Gathered.{IsReady, gathered_series, station_series}
+use Rattle.ghcn_series.proofs.Cited.{◌≡◌, ◌++◌, AllByRecursion, filter_map, into_iter_items, IsReady, gathered_series}
+use Rattle.ghcn_series.proofs.Cited.{station_series}
 use Rattle.ghcn_series.proofs.station.StationGathering.into_series.Given as goal
 
 -- the gatherings so far are series, and the others can become so

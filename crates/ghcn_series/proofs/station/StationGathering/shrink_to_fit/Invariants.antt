@@ -1,7 +1,4 @@
-use Rattle.std.proofs.Common.{◌≡◌, length}
-use Rattle.std.specs.List.{AllByRecursion}
-use Rattle.ghcn_series.specs.Parts.{AreEmpty}
-use Rattle.ghcn_series.specs.Steps.{KeepsStation}
+use Rattle.ghcn_series.proofs.Cited.{◌≡◌, length, AllByRecursion, AreEmpty, KeepsStation}
 use Rattle.ghcn_series.proofs.station.StationGathering.shrink_to_fit.Given as goal
 
 -- the station has the months that it had, and no days are in the memory that is spare
