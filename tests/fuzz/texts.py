@@ -34,7 +34,7 @@ GROUP_BAD_WORDS = (*NEWEST_BAD_WORDS, b"per", b"per", b"year", b"day")
 DEGREES = (b"30", b"0", b"-0", b"0.9", b"1.0", b"020.5", b"-10.0", b"-29.9", b"100", b"-100")
 KINDS = (b"highest", b"highest", b"lowest", b"sum", b"dry", b"wet", b"hot")
 NEW_KINDS = (*KINDS, b"cold", b"cold")
-# The scores of spells whose days are told by degrees, and their elements.
+# The scores of spells whose days a number of degrees selects, and their elements.
 DEGREES_OF = {b"hot": b"TMAX", b"cold": b"TMIN"}
 GROUPS = ([], [b"per", b"station"], [b"per", b"year"], [b"per", b"year"])
 GUESSES = (0, 1, 55, -100, 300, 2**31, -2**31)

@@ -60,7 +60,7 @@ whole_count = Unsigned 0 18446744073709551615
 abbrev pub few_readers : ValueParser
 few_readers = Unsigned 1 64
 
--- what comes after them under a name, as many as there are
+-- what comes after them, any number, under a name
 abbrev pub many_of : Text → Rule
 many_of name = record (new_rule name) {
   range = Some (record { start_inclusive = 0; end_inclusive = usize_max });

@@ -15,7 +15,7 @@ four a b c d = sym (append_assoc (a ++ b) c d ∙ append_assoc a b (c ++ d))
 five : (a b c d e : List ℕ) → a ++ (b ++ (c ++ (d ++ e))) ≡ a ++ b ++ c ++ d ++ e
 five a b c d e = four a b c (d ++ e) ∙ sym (append_assoc (a ++ b ++ c) d e)
 
--- a word that is none of some words
+-- a word that some words don't include
 pub is_none_of : (w : WrongWord) (words : Bor (List ℕ)) → w.wanted ≡ OneOf words
     → shown w.query.now ++ (codes ": " ++ (shown w.word.now ++ (codes " is none of " ++ words.now))) ≡ wrong_word_text w
 is_none_of w words is = five (shown w.query.now) (codes ": ") (shown w.word.now) (codes " is none of ") words.now

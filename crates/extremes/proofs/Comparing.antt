@@ -21,7 +21,7 @@ module _ {X : Type 0} (P : X → Type 0) where
   pub any-here : (xs : List X) (i : ℕ) (x : X) → i < length xs → get_or xs i x ≡ x → P x → Any P xs
   any-here xs i x lt at is = (i, x, lt, at, is)
 
-  -- as many as there are, or more, are all
+  -- the first of them, at least as many as the list has, are all
   pub take-whole : (xs : List X) (i : ℕ) → length xs ≤ i → take i xs ≡ xs
   take-whole [] zero le = refl
   take-whole [] (suc i) le = refl

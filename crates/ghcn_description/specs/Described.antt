@@ -92,7 +92,7 @@ pub record CountSmallest (lines_of : List ℕ → ℕ) (all : ℕ) (counts : Lis
   pub few : length counts ≤ most_codes
   pub codes : CountCodes lines_of all counts further
 
--- the smallest codes that are none of the five elements' are counted so, and that many lines have further ones
+-- the smallest codes that aren't those of the five elements are counted so, and that many lines have further ones
 abbrev pub AreOthers : List FileLine → List CodeCount → ℕ → Type 0
 AreOthers ls counts further = CountSmallest (lines_with ls) (other_lines ls) counts further
 

@@ -23,7 +23,7 @@ lines_of_element stations ls e = count_by (is_listed_of stations e) (filter_map 
 abbrev pub unlisted_lines : List Station → List FileLine → ℕ
 unlisted_lines stations ls = count_by (λ m. not (is_listed stations m.id)) (filter_map month_on ls)
 
--- the line has a code that is none of the five elements'
+-- the line has a code that isn't one of the five elements'
 abbrev pub is_other : FileLine → Bool
 is_other l = not (has_element l.bytes)
 

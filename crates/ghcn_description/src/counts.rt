@@ -18,7 +18,7 @@ pub struct Description {
     pub lines: u64,
     /// Of the five elements, in their order.
     pub elements: [ElementCounts; 5],
-    /// The smallest codes that are none of the five elements', by increasing bytes.
+    /// The smallest codes that aren't those of the five elements, by increasing bytes.
     pub others: Vec<CodeCount>,
     /// How many lines have a code after those.
     pub further: u64,
@@ -53,7 +53,7 @@ pub struct Span {
     pub last: Day,
 }
 
-/// A code of columns 18 to 21 that is none of the five elements', and how many lines have it.
+/// A code of columns 18 to 21 that isn't one of the five elements', and how many lines have it.
 #[derive(Clone, Copy, Debug)]
 pub struct CodeCount {
     /// The code, with `?` for each byte that can't be seen.

@@ -1,4 +1,4 @@
-//! Counts lines of codes that are none of the five elements'.
+//! Counts lines whose codes aren't those of the five elements.
 
 ghost use Rattle.std.specs.Prelude.{◌≡◌, ◌<◌, ◌≤◌, ◌+◌, length, map, [], OnOk};
 ghost use Rattle.std.specs.Cmp.Lexicographic.{slice_cmp};

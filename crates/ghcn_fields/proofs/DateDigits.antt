@@ -1,4 +1,4 @@
--- Digits in the places of a date: as many as there are places, and what they write.
+-- Digits in the places of a date: one for each place, and what they write.
 use Rattle.std.proofs.Common.{◌≡◌, ℕ, zero, suc, ◌+◌, ◌/◌, ◌%◌, ◌<◌, ◌≤◌, true, List, [], ◌∷◌, length, Some, None}
 use Rattle.std.proofs.Common.{refl, arith}
 use Rattle.std.specs.Prelude.{◌^◌, ◌&&◌}

@@ -80,12 +80,12 @@ lookup-is q [] = refl
 lookup-is q (x ∷ xs) = rw (int_eq_equiv.symm q x.0)
     (elim (cases_Bool (int_eq x.0 q)) [ inl here ↦ rw here | inr other ↦ rw other (lookup-is q xs) ])
 
--- a day without a value is none of the days
+-- a day without a value isn't one of the days
 none-is : (xs : List DayValue) (d : ℤ) → value_on xs d ≡ None → AllByRecursion (λ k. int_eq d k ≡ false) (keys_of xs)
 none-is xs d none = each-map (λ (x : DayValue). x.0) (λ (k : ℤ). int_eq d k ≡ false) xs
     (none_passes_from_lookup (int_eq d) xs (lookup-is d xs ∙ none))
 
--- and a day that is none of them has no value
+-- and a day that isn't one of them has no value
 pub none-from : (xs : List DayValue) (d : ℤ) → AllByRecursion (λ k. int_eq d k ≡ false) (keys_of xs)
     → value_on xs d ≡ None
 none-from xs d all = sym (lookup-is d xs)

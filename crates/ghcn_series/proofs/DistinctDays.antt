@@ -47,7 +47,7 @@ is_day_of m j r d e = (parts_of m r.flagged (day_number m.year m.month j) r.valu
 abbrev AreFrom : Month → ℕ → List ℤ → Type 0
 AreFrom m low days = AllByRecursion (λ n. (j : ℕ) × (low ≤ j) × IsDayOf m j n) days
 
--- a day is none of those of other dates
+-- a day isn't one of those of other dates
 apart_from : (a b : Month) (i low : ℕ) (n : ℤ) (days : List ℤ)
     → ((j : ℕ) → low ≤ j → a.year ≡ b.year → a.month ≡ b.month → i ≡ j → ⊥) → IsDayOf a i n → AreFrom b low days
     → AllByRecursion (λ k. int_eq n k ≡ false) days
@@ -76,7 +76,7 @@ usable_from m low (r ∷ rs) =
           (((low, omega arith, own), later), (other, both.1))
     ] refl
 
--- a day is none of those of months of other times
+-- a day isn't one of those of months of other times
 apart_from_others : (a : Month) (i : ℕ) (n : ℤ) (ms : List Month) → AllByRecursion (λ b. same_time a b ≡ false) ms
     → IsDayOf a i n → AllByRecursion (λ k. int_eq n k ≡ false) (keys_of (flat_map usable_days ms))
 apart_from_others a i n [] all is = tt

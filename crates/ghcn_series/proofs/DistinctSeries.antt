@@ -15,7 +15,7 @@ elements_apart facts s = let no = and_right (same_id s.id s.id) false refl in
 abbrev pub all_said : List Fact → List Station → List Series
 all_said facts ss = flat_map (λ s. map (usable_of facts s) elements) ss
 
--- a series is none of those of stations with other IDs
+-- a series isn't one of those of stations with other IDs
 ids_apart : (facts : List Fact) (u : Series) (ss : List Station) → AllByRecursion (λ i. same_id u.id i ≡ false) (ids ss)
     → AllByRecursion (λ v. same_series u v ≡ false) (all_said facts ss)
 ids_apart facts u [] other = tt

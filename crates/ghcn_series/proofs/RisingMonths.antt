@@ -19,7 +19,7 @@ no_month (x ∷ xs) m less = ap (λ (b : Bool). b || has_month xs m) (other_mont
 last_less : (n last m : ℕ) → (n == 0 || nat_lt last m) ≡ true → 0 < n → last < m
 last_less n last m e some = grind (arith, nat_tests)
 
--- a month after rising ones is none of them
+-- a month after rising ones isn't one of them
 pub fresh-after : (months : List ℕ) → ((i j : ℕ) → i < j → j < length months → get_or months i 0 < get_or months j 0)
     → (m : ℕ)
     → (length months == 0 || nat_lt (slice_index months (length months - 1)) m) ≡ true → has_month months m ≡ false

@@ -88,8 +88,8 @@ impl<'a> BlockDays<'a> {
         Some((first, last))
     }
 
-    /// Takes the days before the last run, and returns how many runs these are. A run is days that follow one another,
-    /// as many as there are.
+    /// Takes the days before the last run, and returns how many runs these are. A run is days that follow one another, with no day
+    /// just before or after them.
     ///
     /// A caller that needs only the number of short runs needs no look at each of them.
     #[inline(always)]

@@ -79,7 +79,7 @@ end 1
 ",
 );
 
-/// Two more stations, of which the last is none of the three highest.
+/// Two more stations, of which the last isn't one of the three highest.
 const OTHERS: (&[u8], &[u8]) = (
     b"extremes report 1
 query top 3 highest TMAX

@@ -21,7 +21,7 @@ or_or : (o p r : Option HeadFault) → option_or (option_or o p) r ≡ option_or
 or_or None p r = refl
 or_or (Some w) p r = refl
 
--- no error of two is none of the second
+-- if two have no error, the second has none
 pub none_behind : (o p : Option HeadFault) → is_some (option_or o p) ≡ false → p ≡ None
 none_behind None None e = refl
 none_behind None (Some w) e = absurd cc

@@ -70,7 +70,7 @@ neighbours-zip [] = refl
 neighbours-zip (x ∷ []) = refl
 neighbours-zip (x ∷ y ∷ xs) = ap (λ l. (x, y) ∷ l) (neighbours-zip (y ∷ xs))
 
--- those after the first, as many as there are
+-- all that come after the first
 pub behind_first : {A : Type 0} (xs : List A) → take (length xs - 1) (drop 1 xs) ≡ drop 1 xs
 behind_first [] = refl
 behind_first (x ∷ xs) =

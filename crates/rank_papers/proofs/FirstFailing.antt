@@ -67,7 +67,7 @@ module _ {W : Type 0} where
       → first_failing us ≡ first_failing (ts ++ us)
   none_decides ts us seen e none = sym (behind_none ts us (sym e ∙ not_some seen none))
 
-  -- no error of two is none of each
+  -- if two have no error, neither has one
   both_none : (o p : Option W) → option_or o p ≡ None → (o ≡ None) × (p ≡ None)
   both_none None p e = (refl, e)
   both_none (Some why) p e = absurd cc

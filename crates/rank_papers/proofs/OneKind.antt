@@ -25,7 +25,7 @@ module _ {A : Type 0} (line : ℕ → A → List ℕ) where
 
 module _ {A : Type 0} (first : ℕ) (value_in : ℕ → List ℕ → Option A) (end : ℕ → List ℕ) (line : ℕ → A → List ℕ)
     (CanBe : A → Type 0) where
-  -- if an end line is none of the kind and a line is read as its value, values are read of their lines
+  -- if an end line isn't of the kind and a line is read as its value, values are read of their lines
   pub values-read : (m : ℕ) → ((n : ℕ) → value_in n (end m) ≡ None)
       → ((n : ℕ) (x : A) → CanBe x → n < m → value_in n (line n x) ≡ Some x) → (xs : List A) (n : ℕ)
       → AllByRecursion CanBe xs → m ≡ n + length xs

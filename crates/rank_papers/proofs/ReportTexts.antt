@@ -117,7 +117,7 @@ starts_by_digit bytes = is_ascii_digit (slice_index_or bytes 0 0)
 digit_is : (d : ℕ) → d < 10 → is_ascii_digit (digit_glyph false d) ≡ true
 digit_is d low = grind (arith, nat_tests)
 
--- the digits of a number, as many as there may be, begin by a digit
+-- the digits of a number, however many, begin with a digit
 onto_starts : (k n : ℕ) (behind rest : List ℕ)
     → starts_by_digit (digits_onto (suc k) 10 false n behind ++ rest) ≡ true
 onto_starts zero n behind rest =

@@ -19,7 +19,7 @@ keywords =
     codes "box" ∷ codes "from" ∷ codes "top" ∷ codes "sum" ∷ codes "hot" ∷ codes "cold" ∷ codes "months" ∷ codes "days"
     ∷ []
 
--- a word is none of them
+-- a word isn't one of them
 abbrev pub IsNoKeyword : List ℕ → Type 0
 IsNoKeyword w = AllByRecursion (λ text. same_bytes w text ≡ false) keywords
 

@@ -49,7 +49,7 @@ unfolding score_at says
 score_on =
     record { tail = (0, codes "dry") ∷ []; clean = (refl, tt); value = (Dry, []); good = refl; reads = refl }
 
--- a first word that is none of a score is wrong, and its row determines what comes after one
+-- a first word that no score has is wrong, and its row determines what comes after one
 score_stops : (ws : List Word) (fault : QueryFault) → score_at ws ≡ Err fault
     → Stops (Score × List Word) Ended score_at fault ws
 unfolding score_at no_score_at

@@ -32,7 +32,7 @@ module _ {X : Type 0} (first : X → X → Bool) where
   placed-front x [] h = refl
   placed-front x (y ∷ ys) h = ap (λ (b : Bool). cond b (x ∷ y ∷ ys) (y ∷ placed first x ys)) h.0
 
-  -- what fails a test is none of those that pass, wherever it is placed
+  -- what fails a test isn't one of those that pass, wherever it is placed
   filter-placed_failing : (p : X → Bool) (x : X) (ys : List X) → p x ≡ false
       → filter p (placed first x ys) ≡ filter p ys
   filter-placed_failing p x [] failing = ap (λ (b : Bool). cond b (x ∷ []) []) failing
