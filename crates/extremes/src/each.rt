@@ -15,12 +15,17 @@ use crate::target::Target;
 use ghcn_fields::Memory;
 use ghcn_series::{Data, RowReader, Warnings};
 use rank_crew::Open;
-use rank_input::{Fault, Intake};
+use rank_input::{Fault, Intake, needed_by};
 use rank_papers::{papers_are_said, papers_of_one_element};
-use rank_query::Query;
+use rank_query::{Query, Score};
 use rank_scores::{one_element_is_enough, own_element_among_others};
+use std::alloc::Global;
 use std::sync::Wait;
 use std::thread::Threads;
+
+/// If extremes are held, there are at least this many queries that read them for each element that is ranked. To hold
+/// those of an element takes as many instructions as eight of its queries save by them.
+const WORTH_HOLDING: usize = 10;
 
 /// What the rankings of some queries return, and the data that they rank.
 #[derive(Drop)]
@@ -54,6 +59,7 @@ pub(crate) fn rank_each<R: Threads + Wait + AllocGlobal + Sync, T: Target>(
 {
     match intake.finish() {
         Ok((dataset, warnings)) => {
+            let dataset = with_extremes(rt.alloc(), dataset, queries);
             // The data hold the elements of all queries alone: what is right for them is so for all
             // lines.
             own_element_among_others();
@@ -69,6 +75,27 @@ pub(crate) fn rank_each<R: Threads + Wait + AllocGlobal + Sync, T: Target>(
         }
         Err(fault) => none_ranked(fault),
     }
+}
+
+/// The data, which hold the least and the greatest value of each block if there are enough queries to make up
+/// for it. Without memory for these, bounds are found by the values.
+fn with_extremes(alloc: Global, dataset: Data, queries: &[Query]) -> Data
+    ensures { result ≡ dataset }
+{
+    let mut dataset = dataset;
+    let keep = needed_by(queries);
+    let ranked = [keep.prcp, keep.snow, keep.snwd, keep.tmax, keep.tmin];
+    let elements = ranked.iter().filter(|is_ranked| **is_ranked).count();
+    let reading = queries.iter().filter(|query| reads_extremes(query)).count();
+    if reading / WORTH_HOLDING >= elements {
+        let _ = dataset.hold_extremes(alloc);
+    }
+    dataset
+}
+
+/// Whether the bounds of a query are found by extremes of blocks. Those of dry and wet spells are found by each day.
+fn reads_extremes(query: &Query) -> bool {
+    !matches!(query.score(), Score::Dry | Score::Wet)
 }
 
 /// What is returned if nothing is ranked.

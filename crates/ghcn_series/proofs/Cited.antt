@@ -1,6 +1,7 @@
 -- The names that the proofs cite, passed on from one place.
-pub use Rattle.std.proofs.Common.{Bool, Bor, Err, FitsSigned, IsSome, List, None, Ok, Option, Result, Some, []}
-pub use Rattle.std.proofs.Common.{add-zero, ap, append_assoc, ap₂, arith, cond, drop, false, filter, get_or, inl, inr}
+pub use Rattle.std.proofs.Common.{Bool, Bor, Err, FitsSigned, IfSome, IsSome, List, None, Ok, Option, Result, SFits}
+pub use Rattle.std.proofs.Common.{Some, [], add-zero, ap, append_assoc, ap₂, arith, below_more, cond, drop, false}
+pub use Rattle.std.proofs.Common.{filter, get_or, inl, inr}
 pub use Rattle.std.proofs.Common.{length, length-append, length-drop, length-take, map, min, not, of_z, pos, refl}
 pub use Rattle.std.proofs.Common.{rules, subst, subst₂, suc, sym, take, to_z, true, w32, zero, zero-add, ℕ, ℤ, ◌%◌, ◌*◌}
 pub use Rattle.std.proofs.Common.{◌++◌, ◌+ℤ◌, ◌+◌, ◌-◌, ◌/◌, ◌<ℤ◌, ◌<◌, ◌^◌, ◌∙◌, ◌∷◌, ◌≡◌, ◌≢◌, ◌≤ℤ◌, ◌≤◌, ◌⊎◌}
@@ -26,7 +27,7 @@ pub use Rattle.std.proofs.lemmas.List.Folds.{find-append, flat_map-map, list_all
 pub use Rattle.std.proofs.lemmas.List.Sorted.{All-permutation, Contains-permutation, IsPermutation-sym}
 pub use Rattle.std.proofs.lemmas.List.Sums.{sum_by-append, sum_by-cons, sum_by_push}
 pub use Rattle.std.proofs.lemmas.Nat.Bits.{bit_at-lt, bit_at-suc, bit_at-trailing_zeros, bit_at-zero, bit_at_above}
-pub use Rattle.std.proofs.lemmas.Nat.Bits.{bit_at_and, bit_at_lowest, bit_at_not, bit_at_ones, bit_at_or}
+pub use Rattle.std.proofs.lemmas.Nat.Bits.{bit_at_and, bit_at_lowest, bit_at_not, bit_at_ones, bit_at_or, shr_and_one}
 pub use Rattle.std.proofs.lemmas.Option.{cond_some, get_or_from_slice_get, none-some, same_Some, slice_get-get_or}
 pub use Rattle.std.proofs.lemmas.Option.{slice_get-map, slice_get_past, slice_get_within}
 pub use Rattle.std.proofs.lemmas.Result.{IfErr-weaker, IfOk-weaker, err_from_is_err_and, on_ok_weaker}
@@ -99,6 +100,8 @@ pub use Rattle.ghcn_series.specs.Cut.{LooksAtLines, lines_to}
 pub use Rattle.ghcn_series.specs.DailyFaults.{FileLine, daily_fault, daily_lines, daily_why, file_line, file_lines}
 pub use Rattle.ghcn_series.specs.DailyFaults.{is_listed, is_memory, month_if_ok, month_on, not_blank, repeats}
 pub use Rattle.ghcn_series.specs.DailyFaults.{same_month}
+pub use Rattle.ghcn_series.specs.Extremes.{AreExtremes, AreExtremesOf, AreHeldColumns, HasUsableAlone, HasZeros}
+pub use Rattle.ghcn_series.specs.Extremes.{HaveDays, IsGreatest, IsHeldBlock, IsScoreAmong, IsUsableScore, StandsFor}
 pub use Rattle.ghcn_series.specs.Fed.{Fed, Files, and_current, ended_files, files_of, followed_by, going_on, more}
 pub use Rattle.ghcn_series.specs.Fed.{nothing_fed, with_end, with_files}
 pub use Rattle.ghcn_series.specs.Gathered.{AreByElement, AreFiveOf, HasRead, HasReadFor, IsGathering, IsGatheringOf}
@@ -134,6 +137,7 @@ pub use Rattle.ghcn_series.specs.declared.counts.LineCounts.{LineCounts}
 pub use Rattle.ghcn_series.specs.declared.counts.LineKind.TheVariants.{Blank, Odd, OfElement, Other}
 pub use Rattle.ghcn_series.specs.declared.counts.LinePlace.{LinePlace}
 pub use Rattle.ghcn_series.specs.declared.cutter.Cutter.{Cutter}
+pub use Rattle.ghcn_series.specs.declared.extremes.Extremes.{Extremes}
 pub use Rattle.ghcn_series.specs.declared.fault.DailyWhy.TheVariants.{DuplicateMonth, Line}
 pub use Rattle.ghcn_series.specs.declared.fault.DataFault.{DataFault}
 pub use Rattle.ghcn_series.specs.declared.fault.DataFault.TheVariants.{DailyLine, Memory, TooManyFiles}

@@ -9,6 +9,7 @@ pub mod Nexts
 pub mod Searches
 pub mod RisingDays
 pub mod PartsAdded
+pub mod BlockExtremes
 pub mod RowParts
 pub mod ApartParts
 pub mod PartsInOrder

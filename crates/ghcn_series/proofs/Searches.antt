@@ -93,6 +93,7 @@ module _ (ns : List ℤ) (ws : List ℕ) (vs : List (List ℤ)) (cols : AreColum
       let is : get_or bs i no_block ≡ (get_or ns i (pos 0), (get_or ws i 0, get_or vs i [])) = here i less in
       let packed = packed-at ns ws vs cols.blocks i at.in_range in record {
         present = packed.present;
+        fits = packed.fits;
         holds = λ j lt. sym (days-at bs i n j lt less (ap (λ (b : Block). b.0) is ∙ at.is)
             (λ k below e. same_place ns cols.rise i k n at (at-number k n below e))
             ∙ ap (λ (b : Block). value_at b.1.0 b.1.1 j) is);

@@ -81,10 +81,10 @@ none-unlisted id e ss lists apart own none =
     ∙ found_by_place id e ss lists apart own
 
 -- a list ends before a place at which it has nothing
-none_past : {A : Type 0} (xs : List A) (k : ℕ) → slice_get xs k ≡ None → length xs ≤ k
-none_past [] k none = omega arith
-none_past (x ∷ xs) zero none = absurd cc
-none_past (x ∷ xs) (suc k) none = omega (arith, none_past xs k none)
+pub past_end : {A : Type 0} (xs : List A) (k : ℕ) → slice_get xs k ≡ None → length xs ≤ k
+past_end [] k none = omega arith
+past_end (x ∷ xs) zero none = absurd cc
+past_end (x ∷ xs) (suc k) none = omega (arith, past_end xs k none)
 
 -- the series of the station at a place are in the list there
 pub found-at : (e : Element) (ss : List Station) (lists : List (List Series)) (k : ℕ) (us : Option (List Series))
@@ -94,7 +94,7 @@ pub found-at : (e : Element) (ss : List Station) (lists : List (List Series)) (k
 found-at e ss lists k us apart own is =
     elim (slice_get ss k) as (λ o. slice_get ss k ≡ o → option_and_then (find (is_of_element e)) us
     ≡ option_and_then (λ (s : Station). find (is_series_of s.id e) (all_of lists)) o) [
-      | None ↦ λ none. rw (is, slice_get_past lists k (omega (arith, AllZip-long _ ss lists own, none_past ss k none)))
+      | None ↦ λ none. rw (is, slice_get_past lists k (omega (arith, AllZip-long _ ss lists own, past_end ss k none)))
       | Some s ↦ λ at. ap (option_and_then (find (is_of_element e)))
           (is ∙ ap (slice_get lists) (sym (first_place ss k s apart at).0)) ∙ found_by_place s.id e ss lists apart own
     ] refl

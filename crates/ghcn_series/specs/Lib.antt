@@ -15,6 +15,7 @@ pub mod Counted
 pub mod LinesRead
 pub mod Cut
 pub mod Packed
+pub mod Extremes
 pub mod Parts
 pub mod JoinedFiles
 pub mod SaidLists

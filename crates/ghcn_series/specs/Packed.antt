@@ -76,6 +76,7 @@ place_in_block day = int_rem_euclid day (pos 32)
 -- this block of some days: its word isn't 0, and each place has its day's value, and 0 if that is absent
 pub record IsBlockOf (days : List DayValue) (number : ℤ) (word : ℕ) (values : List ℤ) : Type 0 where
   pub present : 0 < word
+  pub fits : word < 2 ^ 32
   pub holds : (j : ℕ) → j < 32 → value_at word values j ≡ value_on days (block_start number +ℤ pos j)
   pub zeros : (j : ℕ) → j < 32 → bit_at word j ≡ 0 → get_or values j (pos 0) ≡ pos 0
 

@@ -1,14 +1,19 @@
 //! Packed columns.
 
-ghost use Rattle.std.specs.Prelude.{◌≡◌, ◌-◌, ◌<◌, ◌≤◌, ◌*◌, ◌^◌, length, slice_get, IfSome, IfNone, pos, int_le, ◌+ℤ◌};
+ghost use Rattle.std.specs.Prelude.{◌≡◌, ◌-◌, ◌<◌, ◌≤◌, ◌*◌, ◌^◌, ℕ, ℤ, List, [], get_or, length, slice_get};
+ghost use Rattle.std.specs.Prelude.{IfSome, IfNone, IfOk, pos, int_le, ◌+ℤ◌};
 ghost use Rattle.std.specs.List.{find};
 ghost use Rattle.std.specs.Option.{option_map};
 ghost use Rattle.ghcn_fields.specs.Days.{IsBlock, day_if};
 ghost use Rattle.ghcn_series.specs.Meaning.Series.{value_on};
+ghost use Rattle.ghcn_series.specs.Extremes as of_block;
 ghost use Rattle.ghcn_series.specs.Packed as packed;
 
+use crate::block::Block;
 use crate::days::{Days, day_at};
-use ghcn_fields::Day;
+use crate::extremes::Extremes;
+use ghcn_fields::{Day, Memory};
+use std::alloc::Global;
 use std::marker::Model;
 
 /// Days with their values, as blocks of 32 days that hold one.
@@ -17,18 +22,21 @@ pub(crate) struct Columns {
     numbers: Vec<i32>,
     words: Vec<u32>,
     values: Vec<[i32; 32]>,
+    /// The least and the greatest value of each block, if they are held.
+    extremes: Option<Vec<Extremes>>,
 }
 
 impl Model for Columns {
     ghost use Rattle.std.specs.Prelude.{List};
     ghost use Rattle.ghcn_series.specs.Meaning.Series.{DayValue};
-    ghost use Rattle.ghcn_series.specs.Packed.{days_of_blocks, blocks_of, AreColumns};
+    ghost use Rattle.ghcn_series.specs.Packed.{days_of_blocks, blocks_of};
+    ghost use Rattle.ghcn_series.specs.Extremes.{AreHeldColumns};
 
     ghost Value = { List DayValue };
 
     ghost view = { λ c. days_of_blocks (blocks_of c.numbers.items c.words.items c.values.items) };
 
-    ghost invariant = { λ c. AreColumns c.numbers.items c.words.items c.values.items };
+    ghost invariant = { λ c. AreHeldColumns c.numbers.items c.words.items c.values.items c.extremes };
 }
 
 impl Columns {
@@ -41,7 +49,16 @@ impl Columns {
             numbers,
             words,
             values,
+            extremes: None,
         }
+    }
+
+    /// Holds the least and the greatest value of each block. No day changes.
+    pub(crate) fn hold_extremes(&mut self, alloc: Global) -> Result<(), Memory>
+        ensures { self.new ≡ self.old }
+    {
+        self.extremes = Some(extremes_of(alloc, &self.words, &self.values)?);
+        Ok(())
     }
 
     /// The block of this number, if a day of it is present.
@@ -49,16 +66,18 @@ impl Columns {
         ensures some { IfSome result (λ x. packed.IsBlockOf self.now number x.0 x.1.now) }
         ensures none { IfNone result (packed.HasNone self.now number) }
     {
-        self.block_near(0, number)
+        let block = self.block_near(0, number)?;
+        Some((block.word(), block.values()))
     }
 
     /// The same, looked for first after that many blocks.
-    pub(crate) fn block_near(&self, before: usize, number: i32) -> Option<(u32, &[i32; 32])>
-        ensures some { IfSome result (λ x. packed.IsBlockOf self.now number x.0 x.1.now) }
+    pub(crate) fn block_near(&self, before: usize, number: i32) -> Option<Block<'_>>
+        ensures some { IfSome result (λ b. packed.IsBlockOf self.now number b.0 b.1) }
         ensures none { IfNone result (packed.HasNone self.now number) }
     {
         let at = place_near(&self.numbers, before, number)?;
-        Some((self.words[at], &self.values[at]))
+        let held = extremes_at(&self.extremes, at);
+        Some(Block::of(self.words[at], &self.values[at], held))
     }
 
     /// The first block from a number on that has a day.
@@ -99,6 +118,30 @@ impl Columns {
     {
         let (word, values) = self.block(day.block())?;
         value_at(word, values, day.number().rem_euclid(32) as u32)
+    }
+}
+
+/// The least and the greatest value of each block, by their words and values.
+fn extremes_of(alloc: Global, words: &[u32], values: &[[i32; 32]]) -> Result<Vec<Extremes>, Memory>
+    requires { of_block.HaveDays words.now values.now }
+    ensures { IfOk result (λ es. of_block.AreExtremesOf words.now values.now es.items) }
+{
+    let mut extremes = Vec::with_capacity(alloc, words.len())?;
+    for place in 0..words.len() {
+        extremes.push(Extremes::of(words[place], &values[place]))?;
+    }
+    Ok(extremes)
+}
+
+/// The extremes of the block at a place, if they are held.
+fn extremes_at(held: &Option<Vec<Extremes>>, place: usize) -> Option<Extremes>
+    ensures { (words : List ℕ) (values : List (List ℤ))
+        → IfSome held.now (λ es. of_block.AreExtremesOf words values es.items)
+        → IfSome result (of_block.AreExtremes (get_or words place 0) (get_or values place [])) }
+{
+    match held {
+        Some(extremes) => extremes.get(place).copied(),
+        None => None,
     }
 }
 

@@ -12,6 +12,7 @@ ghost use Rattle.ghcn_series.specs.Held.{IsContents, AreByStation, contents_of, 
 use crate::cutter::Cutter;
 use crate::rows::RowReader;
 use crate::{DataFault, Series};
+use ghcn_fields::Memory;
 use ghcn_files::{Element, Keep, StationId, Stations};
 use std::alloc::Global;
 use std::marker::Model;
@@ -75,6 +76,15 @@ impl Data {
         }
     }
 
+    /// Holds the least and the greatest value of each block of 32 days beside its values, 8 bytes
+    /// for each block, so that bounds of the series are found without a look at these. No series
+    /// changes. If memory runs out, some series have them.
+    pub fn hold_extremes(&mut self, alloc: Global) -> Result<(), Memory>
+        ensures { self.new ≡ self.old }
+    {
+        hold_in_lists(alloc, &mut self.series)
+    }
+
     /// The listed stations.
     pub fn stations(&self) -> &Stations
         ensures stations { result.now ≡ self.now.stations }
@@ -112,4 +122,24 @@ fn of_element(series: &[Series], element: Element) -> Option<&Series>
     ensures { option_copied result ≡ find (is_of_element element) series.now }
 {
     series.iter().find(|series| series.element() == element)
+}
+
+/// Holds the extremes of the series of some lists.
+fn hold_in_lists(alloc: Global, lists: &mut Vec<Vec<Series>>) -> Result<(), Memory>
+    ensures { map (λ s. s.items) lists.new.items ≡ map (λ s. s.items) lists.old.items }
+{
+    for place in 0..lists.len() {
+        hold_in_list(alloc, &mut lists[place])?;
+    }
+    Ok(())
+}
+
+/// Holds the extremes of some series.
+fn hold_in_list(alloc: Global, series: &mut Vec<Series>) -> Result<(), Memory>
+    ensures { series.new.items ≡ series.old.items }
+{
+    for place in 0..series.len() {
+        series[place].hold_extremes(alloc)?;
+    }
+    Ok(())
 }

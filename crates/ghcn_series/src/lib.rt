@@ -5,11 +5,13 @@
 #![tactic(auto)]
 
 mod beginning;
+mod block;
 mod columns;
 mod counts;
 mod cutter;
 mod data;
 mod days;
+mod extremes;
 mod fault;
 mod form;
 mod gathering;
@@ -22,6 +24,7 @@ mod rows;
 mod series;
 mod station;
 
+pub use block::Block;
 pub use counts::{Foreign, LineCounts, LineKind, LinePlace, OddLines, Warnings};
 pub use cutter::{Cutter, JoinLines, LineReader};
 pub use data::Data;

@@ -6,10 +6,12 @@ ghost use Rattle.ghcn_series.specs.Meaning.Series.{value_on};
 ghost use Rattle.ghcn_series.specs.Series.{IsSeries};
 ghost use Rattle.ghcn_series.specs.Packed.{IsBlockOf, HasNone, IsNextBlock, next_block};
 
+use crate::block::Block;
 use crate::columns::Columns;
 use crate::days::Days;
-use ghcn_fields::Day;
+use ghcn_fields::{Day, Memory};
 use ghcn_files::{Element, StationId};
+use std::alloc::Global;
 use std::marker::Model;
 
 /// The usable days of one station and element, each with its value.
@@ -47,6 +49,14 @@ impl Series {
         }
     }
 
+    /// Holds the least and the greatest value of each block, so that `block_near` needn't look for
+    /// them among the values. No day changes.
+    pub(crate) fn hold_extremes(&mut self, alloc: Global) -> Result<(), Memory>
+        ensures { self.new ≡ self.old }
+    {
+        self.columns.hold_extremes(alloc)
+    }
+
     /// The station's ID.
     pub fn id(&self) -> StationId
         ensures id { result ≡ self.now.id }
@@ -79,10 +89,10 @@ impl Series {
         self.columns.block(number)
     }
 
-    /// The same. The block is looked for first after that many others, and is found there at once
-    /// if these are the blocks before it.
-    pub fn block_near(&self, before: usize, number: i32) -> Option<(u32, &[i32; 32])>
-        ensures some { IfSome result (λ x. IsBlockOf self.now.days number x.0 x.1.now) }
+    /// The same, with the least and the greatest value. The block is looked for first after that
+    /// many others, and is found there at once if these are the blocks before it.
+    pub fn block_near(&self, before: usize, number: i32) -> Option<Block<'_>>
+        ensures some { IfSome result (λ b. IsBlockOf self.now.days number b.0 b.1) }
         ensures none { IfNone result (HasNone self.now.days number) }
     {
         self.columns.block_near(before, number)

@@ -11,7 +11,7 @@ use Rattle.rank_blocks.proofs.Members.{any_in, any_of, total-wider, total-cons}
 use Rattle.rank_blocks.proofs.DaysInBlocks.{distance}
 use Rattle.rank_blocks.proofs.PossibleBlocks.{no_block, block_at, sorted-behind, sorted-tail, possible-at}
 use Rattle.rank_blocks.proofs.PossibleBlocks.{possible-drop, AreBehind, AreFalls}
-use Rattle.rank_blocks.proofs.ValueSteps.{max-one}
+use Rattle.ghcn_series.proofs.BlockExtremes.{max-one}
 
 -- what is left from a place on is the summary there and what is left after it
 pub left-at : (ms : List Summary) (i : ℕ) → i < length ms → drop i ms ≡ block_at ms i ∷ drop (i + 1) ms

@@ -29,6 +29,7 @@ pub use Rattle.ghcn_fields.specs.Sorting.{greatest}
 pub use Rattle.ghcn_files.specs.declared.element.Element.{Element}
 pub use Rattle.ghcn_series.proofs.ListFacts.{each-append}
 pub use Rattle.ghcn_series.proofs.Lookups.{block-holds, block-of_place, int_eq-no, int_eq-yes}
+pub use Rattle.ghcn_series.specs.Extremes.{HasZeros, IsUsableScore}
 pub use Rattle.ghcn_series.specs.Meaning.Series.{DayValue, Series, value_on}
 pub use Rattle.ghcn_series.specs.Packed.{AreRising, HasNone, IsBlockOf, block_days, day_from, next_block}
 unfoldable pub use Rattle.ghcn_series.specs.Packed.{days_from}
@@ -57,8 +58,7 @@ pub use Rattle.rank_blocks.specs.Reached.{IsNear, IsRangeOf, IsTotalFrom, counts
 pub use Rattle.rank_blocks.specs.Reached.{summaries_total}
 pub use Rattle.rank_blocks.specs.Summaries.{AreOfBlocks, ArePossible, AreSummaries, AreSummariesTo, AreSummariesUpTo}
 pub use Rattle.rank_blocks.specs.Summaries.{HasDay, HasDays, HasSum, IsPossible, IsSummary, numbers_left}
-pub use Rattle.rank_blocks.specs.Values.{HasUsableAlone, HasZeros, IsPlacesOf, IsScoreAmong, IsUsableScore, IsWordOf}
-pub use Rattle.rank_blocks.specs.Values.{StandsFor}
+pub use Rattle.rank_blocks.specs.Values.{IsPlacesOf, IsWordOf}
 pub use Rattle.rank_blocks.specs.declared.range.BlockRange.{BlockRange}
 pub use Rattle.rank_blocks.specs.declared.runs.Runs.{Runs}
 pub use Rattle.rank_blocks.specs.declared.summary.Summary.{Summary}

@@ -1,7 +1,8 @@
 -- The bound of a series by what it is greatest of, and not by how it is found; and all that is true of the bound.
-use Rattle.std.specs.Prelude.{◌≡◌, ℕ, ◌*◌, ◌<◌, Bool, true, List, map, Option, ℤ, pos, neg_ℤ, ◌+ℤ◌, ◌*ℤ◌, ◌≤ℤ◌}
+use Rattle.std.specs.Prelude.{◌≡◌, ℕ, ◌*◌, ◌<◌, Bool, true, List, map, Option, ℤ, pos, neg_ℤ, ◌+ℤ◌, ◌*ℤ◌}
 use Rattle.std.specs.List.{Contains}
 use Rattle.std.specs.Int.{int_min}
+pub use Rattle.ghcn_series.specs.Extremes.{IsGreatest}
 use Rattle.ghcn_series.specs.Meaning.Series.{DayValue, Series}
 use Rattle.rank_query.specs.declared.score.Score.{Score}
 use Rattle.rank_query.specs.declared.score.Score.TheVariants.{Highest, Lowest, Sum, Dry, Wet, Hot, Cold}
@@ -12,11 +13,6 @@ use Rattle.rank_scores.specs.declared.spell.Spell.TheVariants as spells
 use Rattle.rank_scores.specs.Morsels.{IsAbove}
 use Rattle.rank_blocks.specs.Blocks.{is_reached, days_reached, blocks_total}
 use Rattle.rank_blocks.specs.Bounds.{blocks_of_window, holds_such, bound}
-
--- z is the greatest of the numbers that have a property
-pub record IsGreatest (P : ℤ → Type 0) (z : ℤ) : Type 0 where
-  pub is_one : P z
-  pub is_most : (y : ℤ) → P y → y ≤ℤ z
 
 -- a measure makes this number of the value of one of these days
 abbrev pub IsDayScore : (ℤ → ℤ) → List DayValue → ℤ → Type 0

@@ -114,8 +114,8 @@ fn add_block(
     ensures later { IfOk result (λ next. numbers_left next < numbers_left (Some number)) }
 {
     match series.block_near(summaries.len(), number) {
-        Some((word, values)) => {
-            summaries.push(Summary::of_block(number, word, values, score))?;
+        Some(block) => {
+            summaries.push(Summary::of_block(number, &block, score))?;
             Ok(Some(number + 1))
         }
         None => Ok(series.next_block(number)),

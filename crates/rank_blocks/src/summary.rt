@@ -1,17 +1,17 @@
 //! What a query asks of the days of one block.
 
-ghost use Rattle.std.specs.Prelude.{◌≡◌, ◌<◌, ◌+ℤ◌, FitsSigned, List};
+ghost use Rattle.std.specs.Prelude.{◌≡◌, ◌+ℤ◌, FitsSigned, List};
 ghost use Rattle.std.specs.Int.{w64};
 ghost use Rattle.ghcn_fields.specs.Days.{IsBlock};
 ghost use Rattle.ghcn_series.specs.Packed.{AreRising, IsBlockOf};
 ghost use Rattle.ghcn_series.specs.Meaning.Series.{DayValue};
 ghost use Rattle.rank_blocks.specs.Reached.{in_range, IsNear, IsTotal};
 ghost use Rattle.rank_blocks.specs.Summaries.{IsPossible, IsSummary};
-ghost use Rattle.rank_blocks.specs.Values.{HasZeros};
 
 use crate::range::BlockRange;
-use crate::values::{all_or_none, dry_days, greatest_value, least_value, total, wet_days};
+use crate::values::{all_or_none, dry_days, total, wet_days};
 use crate::window::Window;
+use ghcn_series::Block;
 use rank_query::Score;
 
 /// How many days a block has.
@@ -31,29 +31,23 @@ pub(crate) struct Summary {
 }
 
 impl Summary {
-    /// What a score asks of a block that holds a usable day, by the word of its usable days and its
-    /// values.
-    pub(crate) fn of_block(number: i32, word: u32, values: &[i32; 32], score: Score) -> Self
+    /// What a score asks of the block of a number.
+    pub(crate) fn of_block(number: i32, block: &Block<'_>, score: Score) -> Self
         requires number { IsBlock number }
-        requires present { 0 < word }
-        requires zeros { HasZeros word values.now }
-        ensures summary { (days : List DayValue) → AreRising days → IsBlockOf days number word values.now →
+        ensures summary { (days : List DayValue) → AreRising days → IsBlockOf days number block.now.0 block.now.1 →
             IsSummary score days result }
         ensures number { result.number ≡ number }
         ensures possible { IsPossible result }
     {
         match score {
-            Score::Highest(_) => of_day(number, greatest_value(word, values) as i64),
-            Score::Lowest(_) => of_day(number, -(least_value(word, values) as i64)),
-            Score::Sum(..) => of_sum(number, greatest_value(word, values) as i64, total(values)),
-            Score::Dry => of_days(number, dry_days(word, values)),
-            Score::Wet => of_days(number, wet_days(word, values)),
+            Score::Highest(_) => of_day(number, block.greatest() as i64),
+            Score::Lowest(_) => of_day(number, -(block.least() as i64)),
+            Score::Sum(..) => of_sum(number, block.greatest() as i64, total(block.values())),
+            Score::Dry => of_days(number, dry_days(block.word(), block.values())),
+            Score::Wet => of_days(number, wet_days(block.word(), block.values())),
             // Which days are hot or cold isn't kept: a block with such a day has 32.
-            Score::Hot(least) => of_days(
-                number,
-                all_or_none(greatest_value(word, values) >= least),
-            ),
-            Score::Cold(most) => of_days(number, all_or_none(least_value(word, values) <= most)),
+            Score::Hot(least) => of_days(number, all_or_none(block.greatest() >= least)),
+            Score::Cold(most) => of_days(number, all_or_none(block.least() <= most)),
         }
     }
 

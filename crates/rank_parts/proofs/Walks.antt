@@ -2,19 +2,13 @@
 use Rattle.rank_parts.proofs.Cited.{get_or_from_slice_get, IsBinarySearchResult, length_permutation, sorted-permutation}
 use Rattle.rank_parts.proofs.Cited.{slice_get_within, IsPartitionPoint, admitted_series, IsSearchInRange, option_map_or}
 use Rattle.rank_parts.proofs.Cited.{admits_station, id_comes_first, list_all_more, score_element, list_any_none, length}
-use Rattle.rank_parts.proofs.Cited.{has_admitted, cons_option, list_all_at, sum_by_more, is_count_by, list_any_at, zero}
+use Rattle.rank_parts.proofs.Cited.{has_admitted, cons_option, list_all_at, sum_by_more, is_count_by, list_any_at}
 use Rattle.rank_parts.proofs.Cited.{filter_map, by_station, have_lines, searchable, slice_get, series_of, morsel_at, []}
 use Rattle.rank_parts.proofs.Cited.{is_morsel, ltb-false, StationId, list_all, count_by, and_from, take_all, Data}
 use Rattle.rank_parts.proofs.Cited.{has_line, ltb-true, by_bytes, Element, Station, morsels, passing, or_made, Greater}
 use Rattle.rank_parts.proofs.Cited.{same_id, IdsRise, same_by, filter, Option, get_or, Series, is_own, Result, nat_lt}
 use Rattle.rank_parts.proofs.Cited.{false, arith, Query, is_ok, Equal, Bool, true, cond, List, take, Some, None, refl}
-use Rattle.rank_parts.proofs.Cited.{◌||◌, ◌&&◌, Line, Less, ◌≡◌, suc, ◌+◌, ◌≤◌, not, ◌∷◌, sym, ◌∙◌, ◌<◌, Err, ap, Ok, ℕ}
-
--- a place where nothing is is past the end
-pub past_end : {X : Type 0} (xs : List X) (i : ℕ) → slice_get xs i ≡ None → length xs ≤ i
-past_end [] i e = omega arith
-past_end (x ∷ xs) zero e = absurd cc
-past_end (x ∷ xs) (suc i) e = omega (arith, past_end xs i e)
+use Rattle.rank_parts.proofs.Cited.{◌||◌, ◌&&◌, Line, Less, ◌≡◌, ◌+◌, ◌≤◌, not, ◌∷◌, sym, ◌∙◌, ◌<◌, Err, ap, Ok, ℕ}
 
 module _ (q : Query) (d : Data) where
   -- a station with a morsel is one more

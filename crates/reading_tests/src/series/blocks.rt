@@ -3,7 +3,7 @@
 use super::{A, counts_in, read};
 use crate::lines::line_of;
 use ghcn_files::Element;
-use ghcn_series::{DataFault, Series};
+use ghcn_series::{Block as Near, Data, DataFault, Series};
 use std::alloc::Global;
 
 /// A block: its number, its word, and its values by their places.
@@ -24,12 +24,25 @@ fn is_block(found: Option<(u32, &[i32; 32])>, block: &Block) -> bool {
     }
 }
 
+/// Whether this is what a series lends of a block, with its least and its greatest value.
+fn is_block_near(found: Option<Near<'_>>, block: &Block) -> bool {
+    let (_, _, [(_, first), (_, second), (_, third)]) = *block;
+    match found {
+        Some(found) => {
+            is_block(Some((found.word(), found.values())), block)
+                && found.greatest() == first.max(second).max(third)
+                && found.least() == first.min(second).min(third)
+        }
+        None => is_block(None, block),
+    }
+}
+
 /// The first block of a table that the series lacks, wherever it is looked for first.
 fn first_wrong_block(series: &Series, blocks: &[Block]) -> Option<i32> {
     for (at, block) in blocks.iter().enumerate() {
         let (number, _, _) = *block;
         let near = series.block_near(at, number);
-        if !is_block(series.block(number), block) || !is_block(near, block) {
+        if !is_block(series.block(number), block) || !is_block_near(near, block) {
             return Some(number);
         }
     }
@@ -46,21 +59,31 @@ fn first_wrong_next(series: &Series, cases: &[(i32, Option<i32>)]) -> Option<i32
     None
 }
 
-/// The first row of each table that the first station's highest temperatures don't meet, and their span.
-fn wrong_blocks(
-    alloc: Global,
-    files: &[&[u8]],
-    blocks: &[Block],
-    nexts: &[(i32, Option<i32>)],
-) -> Result<Option<(Option<i32>, Option<i32>)>, DataFault> {
-    let data = read(alloc, files)?;
-    Ok(match data.series(&A, Element::Tmax) {
+/// The first row of each table that the first station's highest temperatures don't meet.
+type Wrong = Option<(Option<i32>, Option<i32>)>;
+
+/// What is wrong by the tables.
+fn wrong_in(data: &Data, blocks: &[Block], nexts: &[(i32, Option<i32>)]) -> Wrong {
+    match data.series(&A, Element::Tmax) {
         Some(series) => Some((
             first_wrong_block(series, blocks),
             first_wrong_next(series, nexts),
         )),
         None => None,
-    })
+    }
+}
+
+/// What is wrong by the tables before extremes are held, and after that.
+fn wrong_blocks(
+    alloc: Global,
+    files: &[&[u8]],
+    blocks: &[Block],
+    nexts: &[(i32, Option<i32>)],
+) -> Result<(Wrong, Wrong), DataFault> {
+    let mut data = read(alloc, files)?;
+    let before = wrong_in(&data, blocks, nexts);
+    data.hold_extremes(alloc)?;
+    Ok((before, wrong_in(&data, blocks, nexts)))
 }
 
 /// The blocks that the lines below have, and some that they lack.
@@ -116,7 +139,7 @@ fn blocks_of_a_series(rt: HostRuntime) {
         ),
     ];
     let found = wrong_blocks(rt.alloc(), &lines, &BLOCKS, &NEXTS);
-    assert_eq!(rt; found, Ok(Some((None, None))));
+    assert_eq!(rt; found, Ok((Some((None, None)), Some((None, None)))));
     let ends = (A, Element::Tmax, -719_162, 2_932_896);
     assert_eq!(rt; counts_in(rt.alloc(), &lines), Ok(Some((ends, 2, 0))));
 }

@@ -14,13 +14,15 @@ returns-in-Ok-clause-ends g c =
     c.args.intake (c.in-Ok.dataset, c.in-Ok.warnings) c.in-Ok.ensures.ok c.args.queries.now c.args.workers
     (option_map (λ f. f.now) c.args.folder)
     (ArePut g.T.Target.creates g.T.Target.abandons g.T.Write.contents c.args.target.now c.answer_each.new.target)
-    c.answer_each.result c.answer_each.ensures.ok c.answer_each.ensures.stopped
+    c.answer_each.result (rw c.with_extremes-dataset.ensures at c.answer_each.ensures.ok)
+    (rw c.with_extremes-dataset.ensures at c.answer_each.ensures.stopped)
 
 -- and this is what is warned of
 pub returns-in-Ok-clause-warnings : goal.returns-in-Ok-clause-warnings
 returns-in-Ok-clause-warnings g c =
     IfOk-weaker c.answer_each.result _ _ (λ text has.
-    warns_of_taken c.args.intake (c.in-Ok.dataset, c.in-Ok.warnings) _ _ c.in-Ok.ensures.ok refl c.unlisted.ensures)
+    warns_of_taken c.args.intake (c.in-Ok.dataset, c.in-Ok.warnings) _ _ c.in-Ok.ensures.ok refl
+    (rw c.with_extremes-dataset.ensures at c.unlisted.ensures))
     c.answer_each.ensures.ok
 
 -- or the files have an error, and nothing is put

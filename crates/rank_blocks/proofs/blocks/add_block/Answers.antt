@@ -1,12 +1,14 @@
-use Rattle.rank_blocks.proofs.Cited.{◌≡◌, ◌<◌, ◌^◌, to_z, of_z, w32, sym, arith, rules, to_z-of_z, rise-from_by_day}
+use Rattle.rank_blocks.proofs.Cited.{◌≡◌, to_z, of_z, w32, sym, arith, rules, to_z-of_z, rise-from_by_day}
 use Rattle.rank_blocks.proofs.ReadBlocks.{block-IsBlock, read-more, read-next}
 use Rattle.rank_blocks.proofs.blocks.add_block.Goals as goal
 
 -- a block that holds a day is one of the calendar
-pub of_block-requires-clause-number : goal.of_block-requires-clause-number
-of_block-requires-clause-number c =
-    let fits : c.in-Some.word < 2 ^ 32 = search rules in
-    block-IsBlock c.args.series.now _ c.in-Some.word c.in-Some.values.now c.requires.series fits c.in-Some.ensures.some
+pub of_block-requires : goal.of_block-requires
+of_block-requires c =
+    let is = c.in-Some.ensures.some in
+    record {
+      number = block-IsBlock c.args.series.now _ c.in-Some.block.0 c.in-Some.block.1 c.requires.series is.fits is;
+    }
 
 -- the summary of the block is added
 pub returns-in_ok-push-in-Some-clause-read : goal.returns-in_ok-push-in-Some-clause-read

@@ -1,6 +1,7 @@
 use Rattle.rank_parts.proofs.Cited.{◌≡◌, ℕ, ◌≤◌, cond, List, Option, Some, None, length, sym, ap, ◌∙◌, arith, true}
 use Rattle.rank_parts.proofs.Cited.{false, Bool, false≢true, slice_get, option_copied, Station, morsels, is_own}
-use Rattle.rank_parts.proofs.Walks.{past_end, walked_on, walked_all, not_listed, own_is}
+use Rattle.ghcn_series.proofs.SeriesPlaces.{past_end}
+use Rattle.rank_parts.proofs.Walks.{walked_on, walked_all, not_listed, own_is}
 use Rattle.rank_parts.proofs.series.series_with_lines.Goals as goal
 use Rattle.rank_parts.proofs.series.series_with_lines.Goals.{in-Some+then-is_own+else-not-has_line, in-Some+else-is_own}
 use Rattle.rank_parts.proofs.series.series_with_lines.Goals.{in_default}

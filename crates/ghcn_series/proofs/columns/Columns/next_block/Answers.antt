@@ -7,4 +7,4 @@ pub returns : goal.returns
 returns c =
     let b : ℤ = c.args.number in
     rw (← c.self.view_is) ((rw (to_z-of_z w32 b c.ranges.number, c.deref.ensures.value) at c.first_from.ensures)
-    ∙ sym (next-of_columns _ _ _ c.self.invariant b))
+    ∙ sym (next-of_columns _ _ _ c.self.invariant.columns b))

@@ -1,6 +1,6 @@
-use Rattle.rank_blocks.proofs.Cited.{arith, rules, ints, ◌≡◌, to_z, of_z, w32, neg_ℤ}
-use Rattle.rank_blocks.proofs.ValueSteps.{greatest-shown, greatest-alone}
-use Rattle.rank_blocks.proofs.values.least_value.Goals as goal
+use Rattle.ghcn_series.proofs.Cited.{arith, rules, ints, ◌≡◌, to_z, of_z, w32, neg_ℤ}
+use Rattle.ghcn_series.proofs.BlockExtremes.{greatest-shown, greatest-alone}
+use Rattle.ghcn_series.proofs.extremes.least_value.Goals as goal
 
 -- no 0 is the least, or each day is usable
 pub returns-then-word-eq4294967295 : goal.returns-then-word-eq4294967295

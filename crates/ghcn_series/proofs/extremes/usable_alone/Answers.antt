@@ -1,7 +1,7 @@
-use Rattle.rank_blocks.proofs.Cited.{ints, get_or, pos, to_z, SFits, w32, sym, ◌∙◌, arith, rules, trailing_zeros}
-use Rattle.rank_blocks.proofs.Cited.{to_z-of_z, length-set, bit_at-trailing_zeros, shr_and_one, StandsFor}
-use Rattle.rank_blocks.proofs.ValueSteps.{row-more}
-use Rattle.rank_blocks.proofs.values.usable_alone.Goals as goal
+use Rattle.ghcn_series.proofs.Cited.{ints, get_or, pos, to_z, SFits, w32, sym, ◌∙◌, arith, rules, trailing_zeros}
+use Rattle.ghcn_series.proofs.Cited.{to_z-of_z, length-set, bit_at-trailing_zeros, shr_and_one, StandsFor}
+use Rattle.ghcn_series.proofs.BlockExtremes.{row-more}
+use Rattle.ghcn_series.proofs.extremes.usable_alone.Goals as goal
 
 -- the value of the first usable day
 pub loop-place-init : goal.loop-place-init

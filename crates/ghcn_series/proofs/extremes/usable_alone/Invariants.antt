@@ -1,5 +1,5 @@
-use Rattle.rank_blocks.proofs.Cited.{◌≡◌, ℕ, ◌<◌, length, get_or, pos, IsUsableScore, StandsFor}
-use Rattle.rank_blocks.proofs.values.usable_alone.Given as goal
+use Rattle.ghcn_series.proofs.Cited.{◌≡◌, ℕ, ◌<◌, length, get_or, pos, IsUsableScore, StandsFor}
+use Rattle.ghcn_series.proofs.extremes.usable_alone.Given as goal
 
 -- each place so far has a value that stands for its own
 abbrev pub invariant-loop-place : goal.invariant-loop-place

@@ -1,5 +1,5 @@
-use Rattle.rank_blocks.proofs.Cited.{ℕ, ◌<◌, get_or, pos, ◌≤ℤ◌, IsScoreAmong}
-use Rattle.rank_blocks.proofs.values.least_number.Given as goal
+use Rattle.ghcn_series.proofs.Cited.{ℕ, ◌<◌, get_or, pos, ◌≤ℤ◌, IsScoreAmong}
+use Rattle.ghcn_series.proofs.extremes.least_number.Given as goal
 
 -- the least so far
 abbrev pub invariant-loop-value : goal.invariant-loop-value

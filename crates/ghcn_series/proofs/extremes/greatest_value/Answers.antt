@@ -1,6 +1,6 @@
-use Rattle.rank_blocks.proofs.Cited.{arith, rules, ints, ◌≡◌, to_z, of_z, w32}
-use Rattle.rank_blocks.proofs.ValueSteps.{greatest-shown, greatest-alone}
-use Rattle.rank_blocks.proofs.values.greatest_value.Goals as goal
+use Rattle.ghcn_series.proofs.Cited.{arith, rules, ints, ◌≡◌, to_z, of_z, w32}
+use Rattle.ghcn_series.proofs.BlockExtremes.{greatest-shown, greatest-alone}
+use Rattle.ghcn_series.proofs.extremes.greatest_value.Goals as goal
 
 -- no 0 is the greatest, or each day is usable
 pub returns-then-word-eq4294967295 : goal.returns-then-word-eq4294967295

@@ -1,0 +1,6 @@
+use Rattle.ghcn_series.proofs.Cited.{◌≡◌}
+use Rattle.ghcn_series.proofs.data.hold_in_list.Given as goal
+
+-- no series changed
+abbrev pub invariant-loop-place : goal.invariant-loop-place
+invariant-loop-place l = l.series.items ≡ l.fn.series.items

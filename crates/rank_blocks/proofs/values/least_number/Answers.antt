@@ -1,7 +1,0 @@
-use Rattle.rank_blocks.proofs.Cited.{get_or, to_z, of_z, SFits, w32, arith, rules, below_more, to_z-of_z}
-use Rattle.rank_blocks.proofs.ValueSteps.{min-one}
-use Rattle.rank_blocks.proofs.values.least_number.Goals as goal
-
--- with one more value
-pub loop-value-preserved : goal.loop-value-preserved
-loop-value-preserved c = search (rules, arith, SFits, w32, get_or, to_z, of_z, to_z-of_z, min-one, below_more)
