@@ -41,6 +41,8 @@ GUESSES = (0, 1, 55, -100, 300, 2**31, -2**31)
 
 # A run starts threads from that many bytes of daily files on.
 WORTH_THREADS = 1 << 24
+# A station list of that many bytes or more is read piece by piece, and by two threads if several may read.
+WORTH_PIECES = 1 << 21
 
 # The smallest and the largest value of a month, and whether days are missing or flagged.
 SHAPES = ((-300, 400, True), (0, 30, True), (0, 30, False), (0, 12, False), (-5, 5, True), (0, 0, False),
@@ -52,6 +54,12 @@ def padding():
     """Enough blank lines that a run which has them too starts its threads."""
     line = b" " * 269 + b"\n"
     return line * (WORTH_THREADS // len(line) + 1)
+
+
+def long_list(stations):
+    """The stations of a list, and others after them, so many that the list is read piece by piece."""
+    first = stations.splitlines(keepends=True)[0]
+    return stations + b"".join(b"ZZZ%08d%s" % (it, first[11:]) for it in range(WORTH_PIECES // len(first) + 1))
 
 
 def station_line(rng, name):

@@ -12,7 +12,8 @@ use ghcn_fields::Memory;
 use ghcn_series::RowReader;
 use progress::{Watch, Watched};
 use rank_input::{
-    Archive, Daily, Fault, Intake, needed_by, piece_room, read_whole, take_files, workers_for,
+    Archive, Daily, Fault, Intake, needed_by, piece_room, read_station_list, take_files,
+    workers_for,
 };
 use rank_query::Query;
 use std::sync::Wait;
@@ -84,7 +85,8 @@ fn rank_each_files<
     ensures kept { OnErr result (target.new ≡ target.old) }
 {
     let alloc = rt.alloc();
-    let Ok(stations) = read_whole(alloc, archive, &ranking.stations) else {
+    let Ok(stations) = read_station_list(rt, alloc, archive, &ranking.stations, ranking.workers)
+    else {
         return Err(&ranking.stations);
     };
     let Ok(mut room) = piece_room(alloc) else {

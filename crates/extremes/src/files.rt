@@ -24,8 +24,8 @@ use ghcn_files::Keep;
 use ghcn_series::Warnings;
 use rank_crew::Open;
 use rank_input::{
-    Archive, Daily, Fault, Intake, Question, check_words, list_path, piece_room, read_whole,
-    take_files, workers_for,
+    Archive, Daily, Fault, Intake, Question, check_words, list_path, piece_room, read_station_list,
+    read_whole, take_files, workers_for,
 };
 use rank_merge::MergeFault;
 use rank_table::TableFault;
@@ -77,7 +77,8 @@ pub(crate) fn rank_files<'p, R: Threads + Wait + AllocGlobal + Sync, A: Archive<
     ensures stopped { IfErr result (λ path. StopsAt (A.opens archive.now) (ranking_paths ranking.now) path.now) }
 {
     let alloc = rt.alloc();
-    let Ok(stations) = read_whole(alloc, archive, &ranking.stations) else {
+    let Ok(stations) = read_station_list(rt, alloc, archive, &ranking.stations, ranking.workers)
+    else {
         return Err(&ranking.stations);
     };
     let Ok(mut room) = piece_room(alloc) else {
@@ -190,7 +191,8 @@ pub(crate) fn judge_files<'p, R: Threads + AllocGlobal + Sync, A: Archive<File: 
     ensures stopped { IfErr result (λ path. StopsAt (A.opens archive.now) (judging_paths judging.now) path.now) }
 {
     let alloc = rt.alloc();
-    let Ok(stations) = read_whole(alloc, archive, &judging.stations) else {
+    let Ok(stations) = read_station_list(rt, alloc, archive, &judging.stations, judging.workers)
+    else {
         return Err(&judging.stations);
     };
     let papers = read_part(alloc, archive, &judging.papers)?;
@@ -226,7 +228,13 @@ pub(crate) fn describe_files<'p, R: Threads + AllocGlobal + Sync, A: Archive<Fil
     ensures stopped { IfErr result (λ path. StopsAt (A.opens archive.now) (describing_paths describing.now) path.now) }
 {
     let alloc = rt.alloc();
-    let Ok(stations) = read_whole(alloc, archive, &describing.stations) else {
+    let Ok(stations) = read_station_list(
+        rt,
+        alloc,
+        archive,
+        &describing.stations,
+        describing.workers,
+    ) else {
         return Err(&describing.stations);
     };
     let Ok(mut room) = piece_room(alloc) else {

@@ -10,7 +10,9 @@ use crate::judge_each::{PapersToCheck, Verdicts, judge_each};
 use ghcn_fields::Memory;
 use ghcn_series::{RowReader, Warnings};
 use progress::{Watch, Watched};
-use rank_input::{Archive, Daily, Fault, Intake, needed_by, piece_room, read_whole, take_files};
+use rank_input::{
+    Archive, Daily, Fault, Intake, needed_by, piece_room, read_station_list, take_files,
+};
 use rank_query::Query;
 use std::thread::Threads;
 use std::time::Clock;
@@ -74,7 +76,8 @@ fn judge_each_files<'p, R: Threads + AllocGlobal + Sync, A: Archive<File: Send> 
     ensures stopped { IfErr result (λ path. StopsAt (A.opens archive.now) (data_paths judging.now) path.now) }
 {
     let alloc = rt.alloc();
-    let Ok(stations) = read_whole(alloc, archive, &judging.stations) else {
+    let Ok(stations) = read_station_list(rt, alloc, archive, &judging.stations, judging.workers)
+    else {
         return Err(&judging.stations);
     };
     let Ok(mut room) = piece_room(alloc) else {

@@ -1,28 +1,28 @@
 -- A list that is read at once: the stations of lines that have no error by themselves, and the keys of their IDs.
 use Rattle.std.proofs.Common.{◌≡◌, ℕ, suc, ◌+◌, ◌<◌, ◌≤◌, ◌^◌, Bool, true, false, List, [], ◌∷◌, ◌++◌, length, map, take}
 use Rattle.std.proofs.Common.{get_or, Option, None, Ok, refl, sym, ap, subst, ◌∙◌, arith, is_some, length-append}
-use Rattle.std.proofs.Common.{true≢false}
+use Rattle.std.proofs.Common.{true≢false, append_assoc}
 use Rattle.std.specs.Prelude.{◌&&◌}
 use Rattle.std.specs.List.{All, IsDistinct, list_all}
 use Rattle.std.specs.List.Sorted.{IsPermutation}
 use Rattle.std.specs.Ordering.{eq_by_cmp, is_eq}
 use Rattle.std.proofs.lemmas.Bool.{lt-ltb}
-use Rattle.std.proofs.lemmas.List.{append-nil, get_or-map, get_or_append_left, length-map, length_push, take_all}
+use Rattle.std.proofs.lemmas.List.{append-nil, get_or-map, get_or_append_left, length-map, length_push}
 use Rattle.std.proofs.lemmas.List.Elements.{All-head, All-push, All-tail}
 use Rattle.std.proofs.lemmas.List.Sorted.{IsPermutation-map, IsPermutation-sym}
 use Rattle.std.proofs.lemmas.Map.Keys.{IsDistinct-from_apart, IsDistinct-from_sorted, IsDistinct-IsPermutation}
 use Rattle.std.proofs.lemmas.Map.Keys.{apart_from_distinct, sorted_from_all_adjacent}
 use Rattle.ghcn_fields.specs.Meaning.Bytes.{is_blank}
-use Rattle.ghcn_fields.specs.Lines.{numbered_lines}
 use Rattle.ghcn_fields.specs.Faults.{first_fault, HaveNoFault}
 use Rattle.ghcn_files.specs.declared.station.StationId.{StationId}
 use Rattle.ghcn_files.specs.declared.station.Station.{Station}
 use Rattle.ghcn_files.specs.declared.fault.StationsFault.{StationsFault}
 use Rattle.ghcn_files.specs.Meaning.Ids.{same_id}
 use Rattle.ghcn_files.specs.StationLines.{id_of, is_station, line_why, station_of}
-use Rattle.ghcn_files.specs.Listed.{AreListed, Numbered, listed, listed_unless, place_of, station_fault}
+use Rattle.ghcn_files.specs.Listed.{AreListed, ListLines, Numbered, listed_unless, place_of, station_fault}
 use Rattle.ghcn_files.specs.Listed.{station_lines, stations_of}
-use Rattle.ghcn_files.specs.KeptStations.{AreOrdered, Rise, id_key, key_cmp, key_of, key_with_place, keys_from}
+use Rattle.ghcn_files.specs.KeptStations.{AreOrdered, AreTaken, IsAdded, Rise, id_key, key_cmp, key_of, key_with_place}
+use Rattle.ghcn_files.specs.KeptStations.{keys_from}
 use Rattle.ghcn_files.proofs.FaultLaws.{first_fault-none}
 use Rattle.ghcn_files.proofs.IdLaws.{same_id-is}
 use Rattle.ghcn_files.proofs.ById.{has_place, key_itself}
@@ -34,57 +34,61 @@ use Rattle.ghcn_files.proofs.ReadLines.{lines_more, not_blank, not_blank-blank, 
 abbrev pub IsRight : Numbered → Type 0
 IsRight l = line_why l.1 ≡ None
 
--- how far a loop has come: the first k lines have no error by themselves, and their stations are held with their keys
-pub record HasGathered (all : List Numbered) (k : ℕ) (held : List Station) (keys : List (ℕ × ℕ × ℕ)) : Type 0 where
-  pub held_is : held ≡ stations_of (not_blank (take k all))
+-- how far a loop has come: the first k lines have no error by themselves, and their stations are held after others, with
+-- the keys of all
+pub record HasGathered (before : List Station) (all : List Numbered) (k : ℕ) (held : List Station)
+    (keys : List (ℕ × ℕ × ℕ)) : Type 0 where
+  pub held_is : held ≡ before ++ stations_of (not_blank (take k all))
   pub right : All IsRight (not_blank (take k all))
   pub few : length held ≤ 2 ^ 20
   pub own : keys ≡ keys_from 0 held
 
--- nothing is held before the first line
-pub none_gathered : (all : List Numbered) (held : List Station) (keys : List (ℕ × ℕ × ℕ)) → held ≡ [] → keys ≡ []
-    → HasGathered all 0 held keys
-none_gathered all held keys none empty = record {
-  held_is = none;
+-- the others alone are held before the first line
+pub none_gathered : (before : List Station) (all : List Numbered) (keys : List (ℕ × ℕ × ℕ)) → AreTaken before keys
+    → HasGathered before all 0 before keys
+none_gathered before all keys taken = record {
+  held_is = sym (append-nil before);
   right = λ k d lt. absurd (omega (arith, lt));
-  few = omega (arith, ap (λ (ss : List Station). length ss) none);
-  own = empty ∙ ap (keys_from 0) (sym none);
+  few = taken.few;
+  own = taken.own;
 }
 
 -- past a blank line as much is held
-pub past_blank : (all : List Numbered) (k : ℕ) (held more : List Station) (keys longer : List (ℕ × ℕ × ℕ)) (l : Numbered)
-    → k < length all → l ≡ get_or all k l → is_blank l.1 ≡ true → more ≡ held → longer ≡ keys
-    → HasGathered all k held keys → HasGathered all (k + 1) more longer
-past_blank all k held more keys longer l lt is blank stay keep h =
+pub past_blank : (before : List Station) (all : List Numbered) (k : ℕ) (held more : List Station)
+    (keys longer : List (ℕ × ℕ × ℕ)) (l : Numbered) → k < length all → l ≡ get_or all k l → is_blank l.1 ≡ true
+    → more ≡ held → longer ≡ keys → HasGathered before all k held keys → HasGathered before all (k + 1) more longer
+past_blank before all k held more keys longer l lt is blank stay keep h =
     let same : not_blank (take (k + 1) all) ≡ not_blank (take k all) =
     lines_more all k l lt is ∙ ap (λ (zs : List Numbered). not_blank (take k all) ++ zs) (not_blank-blank l blank)
     ∙ append-nil (not_blank (take k all)) in
     record {
-      held_is = stay ∙ h.held_is ∙ ap stations_of (sym same);
+      held_is = stay ∙ h.held_is ∙ ap (λ (ls : List Numbered). before ++ stations_of ls) (sym same);
       right = subst (All IsRight) (sym same) h.right;
       few = omega (arith, h.few, ap (λ (ss : List Station). length ss) stay);
       own = keep ∙ h.own ∙ ap (keys_from 0) (sym stay);
     }
 
 -- past any other line its station is held too
-pub past_line : (all : List Numbered) (k : ℕ) (held more : List Station) (keys longer : List (ℕ × ℕ × ℕ)) (l : Numbered)
-    → k < length all → l ≡ get_or all k l → is_blank l.1 ≡ false → line_why l.1 ≡ None → length held < 2 ^ 20
-    → more ≡ held ++ station_of l.1 ∷ [] → longer ≡ keys ++ key_with_place (id_of l.1) (length held) ∷ []
-    → HasGathered all k held keys → HasGathered all (k + 1) more longer
-past_line all k held more keys longer l lt is shown right room added pushed h =
+pub past_line : (before : List Station) (all : List Numbered) (k : ℕ) (held more : List Station)
+    (keys longer : List (ℕ × ℕ × ℕ)) (l : Numbered) → k < length all → l ≡ get_or all k l → is_blank l.1 ≡ false
+    → IsAdded l.1 held keys more longer → HasGathered before all k held keys
+    → HasGathered before all (k + 1) more longer
+past_line before all k held more keys longer l lt is shown adds h =
     let next : not_blank (take (k + 1) all) ≡ not_blank (take k all) ++ l ∷ [] = lines_more all k l lt is
     ∙ ap (λ (zs : List Numbered). not_blank (take k all) ++ zs) (not_blank-line l [] shown) in
     let place : 0 + length held ≡ length held = omega arith in
     record {
-      held_is = added ∙ ap (λ (ss : List Station). ss ++ station_of l.1 ∷ []) h.held_is
-          ∙ sym (stations-push (not_blank (take k all)) l) ∙ ap stations_of (sym next);
-      right = subst (All IsRight) (sym next) (All-push IsRight (not_blank (take k all)) l h.right right);
-      few = omega (arith, ap (λ (ss : List Station). length ss) added, length_push held (station_of l.1));
-      own = pushed
+      held_is = adds.station ∙ ap (λ (ss : List Station). ss ++ station_of l.1 ∷ []) h.held_is
+          ∙ append_assoc before (stations_of (not_blank (take k all))) (station_of l.1 ∷ [])
+          ∙ ap (λ (ss : List Station). before ++ ss)
+          (sym (stations-push (not_blank (take k all)) l) ∙ ap stations_of (sym next));
+      right = subst (All IsRight) (sym next) (All-push IsRight (not_blank (take k all)) l h.right adds.right);
+      few = omega (arith, ap (λ (ss : List Station). length ss) adds.station, length_push held (station_of l.1), adds.room);
+      own = adds.key
           ∙ ap (λ (ks : List (ℕ × ℕ × ℕ)). ks ++ key_with_place (id_of l.1) (length held) ∷ []) h.own
           ∙ ap (λ (n : ℕ). keys_from 0 held ++ key_with_place (id_of l.1) n ∷ []) (sym place)
           ∙ sym (keys_from-push 0 held (station_of l.1))
-          ∙ ap (keys_from 0) (sym added);
+          ∙ ap (keys_from 0) (sym adds.station);
     }
 
 -- ---- no two stations have one ID
@@ -143,7 +147,7 @@ ids_differ ss keys own rise =
 -- ---- no line has an error
 
 -- the stations of right lines are right
-right_stations : (ls : List Numbered) → All IsRight ls → list_all is_station (stations_of ls) ≡ true
+pub right_stations : (ls : List Numbered) → All IsRight ls → list_all is_station (stations_of ls) ≡ true
 right_stations [] right = refl
 right_stations (l ∷ ls) right =
     ap (λ (b : Bool). b && list_all is_station (stations_of ls))
@@ -188,36 +192,24 @@ no_faults ls right listed = record {
       (lt-ltb (length held) (2 ^ 20) (omega (arith, long, all.few)));
 }
 
--- lines that are all right by themselves, whose keys differ, list their stations
-pub gathered : (text : List ℕ) (k : ℕ) (held : List Station) (keys sorted : List (ℕ × ℕ × ℕ))
-    → k ≡ length (numbered_lines text) → HasGathered (numbered_lines text) k held keys → IsPermutation keys sorted
-    → Rise sorted → AreOrdered held sorted × (listed text ≡ Ok held)
-gathered text k held keys sorted e h moved rise =
-    let all : take k (numbered_lines text) ≡ numbered_lines text =
-    take_all k (numbered_lines text) (omega (arith, e)) in
-    let held_is : held ≡ stations_of (station_lines text) =
-    h.held_is ∙ ap (λ (ls : List Numbered). stations_of (not_blank ls)) all in
-    let right : All IsRight (station_lines text) =
-    subst (λ (ls : List Numbered). All IsRight (not_blank ls)) all h.right in
-    let own : IsPermutation (keys_from 0 held) sorted =
-    subst (λ (ks : List (ℕ × ℕ × ℕ)). IsPermutation ks sorted) h.own moved in
-    let are : AreListed held = record {
-      distinct = ids_differ held sorted own rise;
-      few = h.few;
-      right = ap (list_all is_station) held_is ∙ right_stations (station_lines text) right;
-    } in
+-- listed stations are the list of each text of whose lines they are
+pub list_lines : (held : List Station) → AreListed held → ListLines held
+list_lines held are text of =
     let none : first_fault station_fault (station_lines text) ≡ None = first_fault-none station_fault (station_lines text)
-    (no_faults (station_lines text) right (subst AreListed held_is are)) in (
-      record { list = are; rise = rise; own = own },
-      ap (λ (o : Option (Numbered × StationsFault)). listed_unless o (station_lines text)) none
-          ∙ ap (λ (ss : List Station). Ok ss) (sym held_is),
-    )
+    (no_faults (station_lines text) of.right (subst AreListed of.all are)) in
+    ap (λ (o : Option (Numbered × StationsFault)). listed_unless o (station_lines text)) none
+    ∙ ap (λ (ss : List Station). Ok ss) (sym of.all)
 
--- so they do if nothing was joined to them
-pub gathered_alone : (text : List ℕ) (k : ℕ) (held rest : List Station) (keys sorted : List (ℕ × ℕ × ℕ)) → rest ≡ []
-    → k ≡ length (numbered_lines text) → HasGathered (numbered_lines text) k held keys → IsPermutation keys sorted
-    → Rise sorted → AreOrdered (held ++ rest) sorted × (listed text ≡ Ok (held ++ rest))
-gathered_alone text k held rest keys sorted none e h moved rise =
-    subst (λ (ss : List Station). AreOrdered ss sorted × (listed text ≡ Ok ss))
+-- stations that were taken, whose keys rise in some order, are kept with these
+pub ordered_taken : (held rest : List Station) (keys sorted : List (ℕ × ℕ × ℕ)) → rest ≡ [] → AreTaken held keys
+    → IsPermutation keys sorted → Rise sorted → AreOrdered (held ++ rest) sorted
+ordered_taken held rest keys sorted none taken moved rise =
+    let own : IsPermutation (keys_from 0 held) sorted =
+    subst (λ (ks : List (ℕ × ℕ × ℕ)). IsPermutation ks sorted) taken.own moved in
+    subst (λ (ss : List Station). AreOrdered ss sorted)
     (sym (ap (λ (ss : List Station). held ++ ss) none ∙ append-nil held))
-    (gathered text k held keys sorted e h moved rise)
+    (record {
+      list = record { distinct = ids_differ held sorted own rise; few = taken.few; right = taken.right };
+      rise = rise;
+      own = own;
+    })

@@ -21,6 +21,7 @@ pub mod OrderedKeys
 pub mod Gathered
 pub mod ReadLines
 pub mod Together
+pub mod Following
 pub mod JoinedKeys
 pub mod GroupValues
 pub mod Rows

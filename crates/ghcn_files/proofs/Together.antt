@@ -60,7 +60,7 @@ listed_means text held e = by (first_fault station_fault (station_lines text)) r
 -- ---- lines with other numbers
 
 -- lines that are right stay so
-right_again : (n m : ℕ) (ls : List (List ℕ)) → AllByRecursion IsRight (not_blank (enumerate_from n ls))
+pub right_again : (n m : ℕ) (ls : List (List ℕ)) → AllByRecursion IsRight (not_blank (enumerate_from n ls))
     → AllByRecursion IsRight (not_blank (enumerate_from m ls))
 right_again n m [] right = tt
 right_again n m (l ∷ ls) right =
@@ -73,7 +73,7 @@ right_again n m (l ∷ ls) right =
     by false xs ys more h = more h
 
 -- and have the same stations
-stations_again : (n m : ℕ) (ls : List (List ℕ))
+pub stations_again : (n m : ℕ) (ls : List (List ℕ))
     → stations_of (not_blank (enumerate_from n ls)) ≡ stations_of (not_blank (enumerate_from m ls))
 stations_again n m [] = refl
 stations_again n m (l ∷ ls) =

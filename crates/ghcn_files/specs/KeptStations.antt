@@ -1,9 +1,9 @@
 -- How stations are kept: with the places of their IDs while a list is read line by line, and with their keys in order.
 use Rattle.std.specs.Prelude.{◌≡◌, ℕ, suc, ◌+◌, ◌<◌, ◌^◌, take, drop, get_or, List, [], ◌∷◌, ◌++◌, length, map}
-use Rattle.std.specs.Prelude.{Option, None, Some}
+use Rattle.std.specs.Prelude.{Option, None, Some, is_some, IsTrue, ◌≤◌, ◌⊎◌}
 use Rattle.std.specs.declared.cmp.Ordering.{Ordering}
 use Rattle.std.specs.declared.cmp.Ordering.TheVariants.{Less}
-use Rattle.std.specs.List.{AllAdjacentBelow, IsDistinct}
+use Rattle.std.specs.List.{AllAdjacentBelow, IsDistinct, list_all}
 use Rattle.std.specs.List.Sorted.{IsPermutation}
 use Rattle.std.specs.Ordering.{eq_by_cmp, nat_cmp, ordering_then}
 use Rattle.std.specs.Int.{from_be_bytes, w32, w64}
@@ -12,7 +12,7 @@ use Rattle.std.specs.Map.{lookup}
 use Rattle.ghcn_files.specs.declared.station.StationId.{StationId}
 use Rattle.ghcn_files.specs.declared.station.Station.{Station}
 use Rattle.ghcn_files.specs.declared.fault.StationsFault.{StationsFault}
-use Rattle.ghcn_files.specs.StationLines.{id_of, line_why, station_of}
+use Rattle.ghcn_files.specs.StationLines.{id_of, is_station, line_why, station_of}
 use Rattle.ghcn_fields.specs.Refusals.{OrMemory}
 use Rattle.ghcn_files.specs.Listed.{Numbered, stations_of, station_fault, place_of, AreListed, is_memory}
 
@@ -67,6 +67,16 @@ pub record AreOrdered (stations : List Station) (keys : List (ℕ × ℕ × ℕ)
   pub list : AreListed stations
   pub rise : Rise keys
   pub own : IsPermutation (keys_from 0 stations) keys
+
+-- stations of lines, with the keys of their IDs: there aren't too many, and each has its fields in range
+pub record AreTaken (stations : List Station) (keys : List (ℕ × ℕ × ℕ)) : Type 0 where
+  pub own : keys ≡ keys_from 0 stations
+  pub few : length stations ≤ 2 ^ 20
+  pub right : IsTrue (list_all is_station stations)
+
+-- a line has an error by itself, or as many stations as there may be are held
+abbrev pub IsRefusedLine : List ℕ → List Station → Type 0
+IsRefusedLine line held = IsTrue (is_some (line_why line)) ⊎ (2 ^ 20 ≤ length held)
 
 -- a line adds its station and its key: it has no error by itself, and there is room for one station more
 pub record IsAdded (line : List ℕ) (held : List Station) (keys : List (ℕ × ℕ × ℕ)) (more : List Station)

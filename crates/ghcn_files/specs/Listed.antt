@@ -1,8 +1,8 @@
 -- The listed stations of a text, or the first line with an error.
 use Rattle.std.specs.Prelude.{◌≡◌, ◌⊎◌, ℕ, ◌+◌, ◌<◌, ◌≤◌, ◌^◌, Bool, true, false, not, nat_lt, if◌then◌else◌}
 use Rattle.std.specs.Prelude.{List, ◌++◌, length, map}
-use Rattle.std.specs.Prelude.{Option, None, Some, Result, Ok, Err, filter, IsTrue}
-use Rattle.std.specs.List.{list_all, list_any, IsDistinct, position}
+use Rattle.std.specs.Prelude.{Option, None, Some, Result, Ok, Err, filter, is_some, IsTrue}
+use Rattle.std.specs.List.{All, list_all, list_any, IsDistinct, position}
 use Rattle.std.specs.Option.{option_or, option_map}
 use Rattle.ghcn_fields.specs.Meaning.Bytes.{is_blank}
 use Rattle.ghcn_fields.specs.Lines.{numbered_lines, EndsLine}
@@ -68,6 +68,25 @@ pub record AreListed (stations : List Station) : Type 0 where
 pub record ListTogether (first next both : List Station) : Type 0 where
   pub holds : (text rest : List ℕ) → EndsLine text → listed text ≡ Ok first → listed rest ≡ Ok next
       → listed (text ++ rest) ≡ Ok both
+
+-- no line of a text has an error by itself, and these are the stations of its lines
+pub record AreOfLines (text : List ℕ) (stations : List Station) : Type 0 where
+  pub right : All (λ l. line_why l.1 ≡ None) (station_lines text)
+  pub all : stations ≡ stations_of (station_lines text)
+
+-- if some stations are of whole lines, these are of those lines and a text after them
+pub record FollowLines (stations : List Station) (text : List ℕ) (more : List Station) : Type 0 where
+  pub holds : (before : List ℕ) → EndsLine before → AreOfLines before stations → AreOfLines (before ++ text) more
+
+-- a line of a text has an error by itself, or its stations are too many after some others
+abbrev pub AreRefusedAfter : List Station → List ℕ → Type 0
+AreRefusedAfter stations text =
+    IsTrue (list_any (λ l. is_some (line_why l.1)) (station_lines text))
+    ⊎ (2 ^ 20 < length stations + length (station_lines text))
+
+-- stations are the list of each text of whose lines they are
+abbrev pub ListLines : List Station → Type 0
+ListLines stations = (text : List ℕ) → AreOfLines text stations → listed text ≡ Ok stations
 
 -- an ID is in both of two lists
 abbrev pub have_one_id : List Station → List Station → Bool

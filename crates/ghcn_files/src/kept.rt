@@ -1,21 +1,18 @@
 //! How the stations of a list are kept.
 
-ghost use Rattle.std.specs.Prelude.{◌≡◌, ◌≤◌, ◌<◌, ◌^◌, ◌++◌, ◌∷◌, [], length, slice_get, Ok, IfOk, IfSome, true, false};
-ghost use Rattle.std.specs.Prelude.{IfNone, OnOk, IfErr};
+ghost use Rattle.std.specs.Prelude.{◌≡◌, ◌++◌, length, slice_get, Ok, IfOk, IfErr, IfSome, IfNone};
 ghost use Rattle.std.specs.List.{find};
 ghost use Rattle.std.specs.Option.{option_copied};
-ghost use Rattle.ghcn_files.specs.StationLines.{id_of, numbers_of, station_of};
 ghost use Rattle.ghcn_files.specs.Meaning.Listed.{is_station_of};
-ghost use Rattle.ghcn_files.specs.Listed.{AreListed, place_of, listed};
+ghost use Rattle.ghcn_files.specs.Listed.{AreListed, ListLines, place_of, listed};
 ghost use Rattle.ghcn_files.specs.Listed.{is_memory, IsFirstRefusal, ListTogether, StayApart};
-ghost use Rattle.ghcn_files.specs.KeptStations.{IsAdded, key_with_place};
 ghost use Rattle.ghcn_fields.specs.Refusals.{IsRefusal};
 
-use crate::keys::{add_keys, key_of_line, keys_of, place_among, put_in_order};
+use crate::keys::{add_keys, keys_of, place_among, put_in_order};
 use crate::listing::Listing;
-use crate::station::Numbers;
+use crate::reader::StationsReader;
 use crate::{Station, StationId, StationsFault};
-use ghcn_fields::{Memory, is_blank, lines};
+use ghcn_fields::Memory;
 use std::alloc::Global;
 use std::marker::Model;
 
@@ -45,9 +42,6 @@ impl Model for KeptStations {
 /// The most stations that a list may have.
 pub(crate) const MOST_STATIONS: usize = 1 << 20;
 
-/// The columns of a line up to the last one that is read.
-const READ_COLUMNS: usize = 71;
-
 impl KeptStations {
     /// Reads a station list, whose lines are those of the readme's `ghcnd-stations.txt`. Blank lines
     /// are skipped; the first line with an error decides.
@@ -63,24 +57,29 @@ impl KeptStations {
         }
     }
 
-    /// Reads a list without an error, or returns nothing if it has one. The keys of all IDs are put in order once,
-    /// at the end of the list.
+    /// Reads a list without an error, or returns nothing if it has one.
     fn read_at_once(alloc: Global, text: &[u8]) -> Result<Option<Self>, Memory>
         ensures { IfOk result (λ read. IfSome read (λ stations. listed text.now ≡ Ok stations)) }
     {
-        let mut list = Vec::new(alloc);
-        let mut keys = Vec::new(alloc);
-        for (_, line) in lines(text) {
-            // A blank line has an error by itself, and is found so.
-            if !add(&mut list, &mut keys, line)? && !is_blank(line) {
-                return Ok(None);
-            }
+        match StationsReader::new(alloc).with_lines(text)? {
+            Some(reader) => Ok(Self::of_reader(alloc, reader)),
+            None => Ok(None),
         }
+    }
+
+    /// Keeps the stations that a reader took, or returns nothing if two have one ID. The keys of all IDs are put in
+    /// order once, after the last line.
+    pub(crate) fn of_reader(alloc: Global, reader: StationsReader) -> Option<Self>
+        ensures stations { IfSome result (λ stations. stations ≡ reader) }
+        ensures listed { IfSome result ListLines }
+        ensures repeated { IfNone result (AreListed reader → ⊥) }
+    {
+        let StationsReader { list, mut keys } = reader;
         if !put_in_order(&mut keys) {
-            return Ok(None);
+            return None;
         }
         let rest = Vec::new(alloc);
-        Ok(Some(KeptStations { list, rest, keys }))
+        Some(KeptStations { list, rest, keys })
     }
 
     /// Reads a list line by line, so that the first error is found.
@@ -199,85 +198,4 @@ fn followed_by(mut first: Vec<Station>, mut next: Vec<Station>) -> Result<Vec<St
     }
     first.append(&mut next)?;
     Ok(first)
-}
-
-/// Adds the station of a line and its key, or returns false if the line has an error by itself or there is no room.
-/// If the line has all columns that are read, the compiler knows so, and no place in it is tested again.
-#[inline(always)]
-fn add(
-    list: &mut Vec<Station>,
-    keys: &mut Vec<(u64, u32, u32)>,
-    line: &[u8],
-) -> Result<bool, Memory>
-    ensures added { IfOk result (λ added. added ≡ true →
-        IsAdded line.now list.old.items keys.old.items list.new.items keys.new.items) }
-    ensures list { IfOk result (λ added. added ≡ false → list.new.items ≡ list.old.items) }
-    ensures keys { IfOk result (λ added. added ≡ false → keys.new.items ≡ keys.old.items) }
-{
-    if line.len() < READ_COLUMNS {
-        return add_short(list, keys, line);
-    }
-    add_line(list, keys, line)
-}
-
-/// The same of a line that lacks some of these columns.
-#[inline(never)]
-fn add_short(
-    list: &mut Vec<Station>,
-    keys: &mut Vec<(u64, u32, u32)>,
-    line: &[u8],
-) -> Result<bool, Memory>
-    ensures added { IfOk result (λ added. added ≡ true →
-        IsAdded line.now list.old.items keys.old.items list.new.items keys.new.items) }
-    ensures list { IfOk result (λ added. added ≡ false → list.new.items ≡ list.old.items) }
-    ensures keys { IfOk result (λ added. added ≡ false → keys.new.items ≡ keys.old.items) }
-{
-    add_line(list, keys, line)
-}
-
-/// The same of any line.
-#[inline(always)]
-fn add_line(
-    list: &mut Vec<Station>,
-    keys: &mut Vec<(u64, u32, u32)>,
-    line: &[u8],
-) -> Result<bool, Memory>
-    ensures added { IfOk result (λ added. added ≡ true →
-        IsAdded line.now list.old.items keys.old.items list.new.items keys.new.items) }
-    ensures list { IfOk result (λ added. added ≡ false → list.new.items ≡ list.old.items) }
-    ensures keys { IfOk result (λ added. added ≡ false → keys.new.items ≡ keys.old.items) }
-{
-    let Ok(numbers) = Numbers::of_line(line) else {
-        return Ok(false);
-    };
-    if list.len() >= MOST_STATIONS {
-        return Ok(false);
-    }
-    push(list, keys, line, numbers)?;
-    Ok(true)
-}
-
-/// Puts the station of a line after the others, and its key after theirs. It is made once there is room for it, and
-/// so in the place in which it is kept.
-#[inline(always)]
-fn push(
-    list: &mut Vec<Station>,
-    keys: &mut Vec<(u64, u32, u32)>,
-    line: &[u8],
-    numbers: Numbers,
-) -> Result<(), Memory>
-    requires numbers { numbers ≡ numbers_of line.now }
-    requires long { 11 ≤ length line.now }
-    requires room { length list.old.items < 2 ^ 20 }
-    ensures list { OnOk result (list.new.items ≡ list.old.items ++ station_of line.now ∷ []) }
-    ensures keys { OnOk result (keys.new.items
-        ≡ keys.old.items ++ key_with_place (id_of line.now) (length list.old.items) ∷ []) }
-{
-    let place = list.len() as u32;
-    list.reserve(1)?;
-    keys.reserve(1)?;
-    list.push_reserved(Station::of_numbers(line, numbers));
-    let (front, back) = key_of_line(line);
-    keys.push_reserved((front, back, place));
-    Ok(())
 }

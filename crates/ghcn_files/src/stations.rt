@@ -41,10 +41,19 @@ impl Stations {
         ensures first { IfErr result (λ fault. IsFirstRefusal fault text.now) }
     {
         let kept = KeptStations::read(alloc, text)?;
-        match Arc::new(alloc, kept) {
-            Ok(kept) => Ok(Stations { kept }),
-            Err(_) => Err(StationsFault::Memory(Memory)),
+        match Self::of_kept(alloc, kept) {
+            Ok(stations) => Ok(stations),
+            Err(memory) => Err(StationsFault::Memory(memory)),
         }
+    }
+
+    /// The stations that are kept.
+    pub(crate) fn of_kept(alloc: Global, kept: KeptStations) -> Result<Self, Memory>
+        ensures { IfOk result (λ stations. stations ≡ kept) }
+    {
+        Ok(Stations {
+            kept: Arc::new(alloc, kept)?,
+        })
     }
 
     /// The same stations for another owner. Their memory is shared.
@@ -67,9 +76,7 @@ impl Stations {
     {
         let first = owned(alloc, self.kept)?;
         match first.join(owned(alloc, next.kept)?)? {
-            Some(all) => Ok(Some(Stations {
-                kept: Arc::new(alloc, all)?,
-            })),
+            Some(all) => Ok(Some(Self::of_kept(alloc, all)?)),
             None => Ok(None),
         }
     }

@@ -16,12 +16,12 @@ pub record IsFedTo {L : Type 0} (has_read : Reading L) (old new : Intake L) (all
   pub taken : (s : FileInput) → HasTaken has_read old s → HasTaken has_read new (with_bytes s bytes)
 
 -- nothing is read at first
-consumes-nil : (all : Option (List ℕ)) → Consumes all all []
+pub consumes-nil : (all : Option (List ℕ)) → Consumes all all []
 consumes-nil None = tt
 consumes-nil (Some xs) = refl
 
 -- more bytes are read
-consumes-more : (all left next : Option (List ℕ)) (bytes more : List ℕ) → Consumes all left bytes
+pub consumes-more : (all left next : Option (List ℕ)) (bytes more : List ℕ) → Consumes all left bytes
     → Consumes left next more
     → Consumes all next (bytes ++ more)
 consumes-more None left next bytes more was is = tt
@@ -31,7 +31,7 @@ consumes-more (Some xs) (Some ys) (Some zs) bytes more was is =
     was ∙ ap (λ (t : List ℕ). bytes ++ t) is ∙ sym (append_assoc bytes more zs)
 
 -- nothing more is read
-consumes-kept : (all left next : Option (List ℕ)) (bytes : List ℕ) → Consumes all left bytes → Keeps left next
+pub consumes-kept : (all left next : Option (List ℕ)) (bytes : List ℕ) → Consumes all left bytes → Keeps left next
     → Consumes all next bytes
 consumes-kept None left next bytes was is = tt
 consumes-kept (Some xs) None next bytes was is = absurd was
@@ -39,7 +39,7 @@ consumes-kept (Some xs) (Some ys) None bytes was is = absurd is
 consumes-kept (Some xs) (Some ys) (Some zs) bytes was is = was ∙ ap (λ (t : List ℕ). bytes ++ t) (sym is)
 
 -- at the end all is read
-all-read : (all left next : Option (List ℕ)) (bytes : List ℕ) → Consumes all left bytes → Consumes left next []
+pub all-read : (all left next : Option (List ℕ)) (bytes : List ℕ) → Consumes all left bytes → Consumes left next []
     → IsAtEnd next → AreAllOf all bytes
 all-read None left next bytes was is ends = tt
 all-read (Some xs) None next bytes was is ends = absurd was

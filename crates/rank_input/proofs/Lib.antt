@@ -14,3 +14,4 @@ pub mod QueryLists
 pub mod QueryElements
 pub mod QueryData
 pub mod Halves
+pub mod ListPieces

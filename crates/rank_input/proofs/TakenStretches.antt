@@ -23,7 +23,7 @@ bytes_taken remaining t file count limit inner =
     ∙ ap (λ (r : _). option_map (λ (bytes : List ℕ). take count bytes) (remaining r)) inner
 
 -- what is known of a text, twice in another form
-mapped_twice : {A B C : Type 0} (f : A → B) (g : B → C) (o : Option A)
+pub mapped_twice : {A B C : Type 0} (f : A → B) (g : B → C) (o : Option A)
     → option_map g (option_map f o) ≡ option_map (λ x. g (f x)) o
 mapped_twice f g None = refl
 mapped_twice f g (Some x) = refl
@@ -37,7 +37,7 @@ cut_bytes (Some until) cut None bytes rests = absurd rests
 cut_bytes (Some until) cut (Some count) bytes rests = rw rests (sym (take-add cut count bytes))
 
 -- so it is with what is known of them
-cut_known : (until : Option ℕ) (cut : ℕ) (count : Option ℕ) (known : Option (List ℕ)) (one two : List ℕ)
+pub cut_known : (until : Option ℕ) (cut : ℕ) (count : Option ℕ) (known : Option (List ℕ)) (one two : List ℕ)
     → RestsFrom until cut count → AreAllOf (option_map (λ bytes. stretch_of 0 (Some cut) bytes) known) one
     → AreAllOf (option_map (λ bytes. stretch_of cut count bytes) known) two
     → AreAllOf (option_map (λ bytes. stretch_of 0 until bytes) known) (one ++ two)

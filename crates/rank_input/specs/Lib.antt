@@ -7,3 +7,4 @@ pub mod Named
 pub mod NamingStops
 pub mod Queries
 pub mod Shares
+pub mod Lists

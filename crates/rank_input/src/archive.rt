@@ -13,8 +13,8 @@ use std::io::{Read, Seek, SeekFrom};
 use std::rt::Files;
 use std::{fs, io};
 
-/// How many bytes of a daily file are read at once.
-const PIECE: usize = 1 << 16;
+/// How many bytes of a file are read at once.
+pub(crate) const PIECE: usize = 1 << 16;
 
 /// What is at a path.
 #[derive(Clone, Copy, Debug, PartialEq, Eq)]

@@ -4,6 +4,7 @@ ghost use Rattle.std.specs.Prelude.{◌≡◌, ◌+◌, ℕ, List, [], Ok, IfOk,
 ghost use Rattle.std.specs.Result.{result_transpose};
 ghost use Rattle.ghcn_files.specs.Listed.{listed};
 ghost use Rattle.ghcn_series.specs.Says.{in_64_bits};
+ghost use Rattle.rank_input.specs.Lists.{IsListText};
 ghost use Rattle.rank_input.specs.Takes.{FileInput, file_input};
 ghost use Rattle.rank_input.specs.Takes.{HasTaken, HasTakenSome, IsRead, TakesBytes, TakesFileEnd};
 ghost use Rattle.rank_input.specs.Takes.{MakesTaken, RefusesTaken};
@@ -11,6 +12,7 @@ ghost use Rattle.rank_input.specs.Takes.{WereGivenAlike, JoinsFiles, StayApart};
 ghost use Rattle.rank_input.specs.Takes.{AreReadAlike, JoinsReadings, AreApart};
 
 use crate::fault::Fault;
+use crate::list::{ListForm, StationList};
 use ghcn_fields::Memory;
 use ghcn_files::{Keep, Stations};
 use ghcn_series::{Cutter, JoinLines, LineReader};
@@ -47,6 +49,22 @@ impl<L: LineReader> Intake<L> {
         Intake {
             bytes: 0,
             read: open_over(alloc, stations, keep),
+        }
+    }
+
+    /// Takes a station list that was read; no byte of a daily file came yet, so `bytes` is 0. The values of a set of
+    /// elements are kept. An error of the list is kept, and reported at the end.
+    pub(crate) fn of_list(alloc: Global, list: &StationList, keep: Keep) -> Self
+        ensures taken { (text : List ℕ) → IsListText list.now text
+            → HasTaken L.has_read result (file_input keep text []) }
+        ensures going { HasTakenSome L.has_read result }
+    {
+        match &list.form {
+            ListForm::Text(text) => Self::new(alloc, text, keep),
+            ListForm::Stations(stations) => match stations.share() {
+                Ok(stations) => Self::over(alloc, stations, keep),
+                Err(_) => Self::closed(),
+            },
         }
     }
 

@@ -18,6 +18,7 @@ pub use archive::{Archive, Place, System, feed, feed_files, piece_room, read_who
 pub use fault::Fault;
 pub use intake::Intake;
 pub use limits::{check_words, workers_for};
+pub use list::{StationList, read_station_list};
 pub use named::{NotNamed, below, list_path, name_files};
 pub use queries::{QueriesFault, needed_by, read_queries};
 pub use question::{Question, TakenInput};

@@ -1,9 +1,10 @@
 //! What a run is asked, beside the files that it is asked of.
 
-ghost use Rattle.std.specs.Prelude.{◌≡◌, [], IfOk, IfErr, map, string_bytes};
+ghost use Rattle.std.specs.Prelude.{◌≡◌, ℕ, List, [], IfOk, IfErr, map, string_bytes};
 ghost use Rattle.ghcn_files.specs.Elements.{only};
 ghost use Rattle.rank_query.specs.Meaning.Asked.{score_element};
 ghost use Rattle.rank_input.specs.Feeding.{StopsAt};
+ghost use Rattle.rank_input.specs.Lists.{IsListText};
 ghost use Rattle.rank_input.specs.Shares.{AsksWhole};
 ghost use Rattle.rank_input.specs.Taken.{given, HasTaken, HasTakenSome};
 ghost use Rattle.rank_input.specs.Taken.{AreWarningsOf, HoldsInput, RefusesInput, ReportsQuery};
@@ -11,6 +12,7 @@ ghost use Rattle.rank_input.specs.Taken.{AreWarningsOf, HoldsInput, RefusesInput
 use crate::archive::{Archive, feed_files};
 use crate::fault::Fault;
 use crate::intake::Intake;
+use crate::list::StationList;
 use crate::shares::{Daily, take_files};
 use ghcn_files::Keep;
 use ghcn_series::{Data, RowReader, Warnings};
@@ -78,13 +80,13 @@ impl Question {
         rt: &R,
         archive: &A,
         query: &str,
-        stations: &[u8],
+        stations: &StationList,
         paths: &'p [String],
         readers: u64,
         buffer: &mut [u8],
     ) -> Result<Self, &'p str>
-        ensures asked { IfOk result (AsksWhole (A.bytes_of archive.now) (A.opens archive.now)
-            query.now stations.now paths.now) }
+        ensures asked { (text : List ℕ) → IsListText stations.now text
+            → IfOk result (AsksWhole (A.bytes_of archive.now) (A.opens archive.now) query.now text paths.now) }
         ensures going { IfOk result HasTakenSome }
         ensures stopped { IfErr result (λ path.
             StopsAt (A.opens archive.now) (map string_bytes paths.now) path.now) }

@@ -1,15 +1,17 @@
 //! Daily files that are read in shares, side by side.
 
-ghost use Rattle.std.specs.Prelude.{◌≡◌, ◌≤◌, [], length, Ok, IfOk, IfErr, IfSome, map, string_bytes};
+ghost use Rattle.std.specs.Prelude.{◌≡◌, ◌≤◌, ℕ, List, [], length, Ok, IfOk, IfErr, IfSome, map, string_bytes};
 ghost use denote.Param.Send.{IsSync};
+ghost use Rattle.ghcn_files.specs.declared.element.Keep.{Keep};
 ghost use Rattle.ghcn_files.specs.Listed.{listed};
 ghost use Rattle.rank_input.specs.Feeding.{StopsAt};
+ghost use Rattle.rank_input.specs.Lists.{IsListText, IsSomeList};
 ghost use Rattle.rank_input.specs.Shares.{TakesWhole};
-ghost use Rattle.rank_input.specs.Takes.{file_input, HasTaken};
+ghost use Rattle.rank_input.specs.Takes.{file_input, HasTaken, HasTakenSome};
 
 use crate::archive::{Archive, Place, feed_files, piece_room};
 use crate::intake::Intake;
-use crate::list::read_list;
+use crate::list::StationList;
 use crate::stretches::{WORTH_A_CUT, id_on, take_one};
 use ghcn_files::{Keep, Stations};
 use ghcn_series::{JoinLines, LineReader};
@@ -27,8 +29,8 @@ const MOST_SHARES: u64 = 64;
 /// Daily files, named by their paths, and what they are read for.
 #[derive(Clone, Copy)]
 pub struct Daily<'s, 'p> {
-    /// The whole station list.
-    pub stations: &'s [u8],
+    /// The station list.
+    pub stations: &'s StationList,
     /// The elements whose values are kept.
     pub keep: Keep,
     /// Their paths, in the order in which they are read.
@@ -53,8 +55,10 @@ pub fn take_files<
     readers: u64,
     buffer: &mut [u8],
 ) -> Result<Intake<L>, &'p str>
-    ensures taken { IfOk result (TakesWhole L.has_read (A.bytes_of archive.now) (A.opens archive.now)
-        daily.entry.keep daily.entry.stations.now daily.entry.paths.now) }
+    ensures taken { (text : List ℕ) → IsListText daily.entry.stations.now text
+        → IfOk result (TakesWhole L.has_read (A.bytes_of archive.now) (A.opens archive.now)
+        daily.entry.keep text daily.entry.paths.now) }
+    ensures going { IfOk result (HasTakenSome L.has_read) }
     ensures stopped { IfErr result (λ path.
         StopsAt (A.opens archive.now) (map string_bytes daily.entry.paths.now) path.now) }
 {
@@ -71,29 +75,31 @@ fn take_in_order<'s, 'p, A: Archive, L: LineReader>(
     daily: Daily<'s, 'p>,
     buffer: &mut [u8],
 ) -> Result<Intake<L>, &'p str>
-    ensures taken { IfOk result (TakesWhole L.has_read (A.bytes_of archive.now) (A.opens archive.now)
-        daily.entry.keep daily.entry.stations.now daily.entry.paths.now) }
+    ensures taken { (text : List ℕ) → IsListText daily.entry.stations.now text
+        → IfOk result (TakesWhole L.has_read (A.bytes_of archive.now) (A.opens archive.now)
+        daily.entry.keep text daily.entry.paths.now) }
+    ensures going { IfOk result (HasTakenSome L.has_read) }
     ensures stopped { IfErr result (λ path.
         StopsAt (A.opens archive.now) (map string_bytes daily.entry.paths.now) path.now) }
 {
-    let intake = Intake::new(alloc, daily.stations, daily.keep);
-    fill(archive, intake, daily, buffer)
+    let intake = Intake::of_list(alloc, daily.stations, daily.keep);
+    fill(archive, intake, daily.paths, buffer)
 }
 
-/// Feeds them one after the other to an intake that was given the station list.
-fn fill<'s, 'p, A: Archive, L: LineReader>(
+/// Feeds the daily files of some paths one after the other to an intake that was given the station list.
+fn fill<'p, A: Archive, L: LineReader>(
     archive: &A,
     mut intake: Intake<L>,
-    daily: Daily<'s, 'p>,
+    paths: &'p [String],
     buffer: &mut [u8],
 ) -> Result<Intake<L>, &'p str>
-    requires { HasTaken L.has_read intake (file_input daily.keep daily.stations.now []) }
-    ensures taken { IfOk result (TakesWhole L.has_read (A.bytes_of archive.now) (A.opens archive.now)
-        daily.entry.keep daily.entry.stations.now daily.entry.paths.now) }
-    ensures stopped { IfErr result (λ path.
-        StopsAt (A.opens archive.now) (map string_bytes daily.entry.paths.now) path.now) }
+    requires { HasTakenSome L.has_read intake }
+    ensures taken { (keep : Keep) (text : List ℕ) → HasTaken L.has_read intake (file_input keep text [])
+        → IfOk result (TakesWhole L.has_read (A.bytes_of archive.now) (A.opens archive.now) keep text paths.now) }
+    ensures going { IfOk result (HasTakenSome L.has_read) }
+    ensures stopped { IfErr result (λ path. StopsAt (A.opens archive.now) (map string_bytes paths.now) path.now) }
 {
-    feed_files(archive, &mut intake, daily.paths, buffer)?;
+    feed_files(archive, &mut intake, paths, buffer)?;
     Ok(intake)
 }
 
@@ -108,15 +114,17 @@ fn take_shares<R: Threads + Sync, A: Archive<File: Send> + Sync, L: JoinLines<Do
     daily: Daily<'_, '_>,
     readers: u64,
 ) -> Option<Intake<L>>
-    ensures { IfSome result (TakesWhole L.has_read (A.bytes_of archive.now) (A.opens archive.now)
-        daily.entry.keep daily.entry.stations.now daily.entry.paths.now) }
+    ensures taken { (text : List ℕ) → IsListText daily.entry.stations.now text
+        → IfSome result (TakesWhole L.has_read (A.bytes_of archive.now) (A.opens archive.now)
+        daily.entry.keep text daily.entry.paths.now) }
+    ensures going { IfSome result (HasTakenSome L.has_read) }
 {
     if readers < 2 {
         return None;
     }
     let sizes = sizes_of(alloc, archive, daily.paths)?;
     let size = sum_of(&sizes);
-    let worth = WORTH_A_SHARE.max(daily.stations.len() as u64);
+    let worth = WORTH_A_SHARE.max(daily.stations.size());
     // If all files have less, none is cut, so there are at most as many shares as files.
     let most = if size < WORTH_A_CUT {
         daily.paths.len() as u64
@@ -127,8 +135,18 @@ fn take_shares<R: Threads + Sync, A: Archive<File: Send> + Sync, L: JoinLines<Do
     if shares < 2 || has_one_twice(alloc, daily.paths)? {
         return None;
     }
-    let list = read_list(rt, alloc, daily.stations)?;
-    take_parts(rt, alloc, archive, &list, daily, &sizes, size, shares)
+    let list = daily.stations.stations(rt, alloc)?;
+    take_parts(
+        rt,
+        alloc,
+        archive,
+        &list,
+        daily.keep,
+        daily.paths,
+        &sizes,
+        size,
+        shares,
+    )
 }
 
 /// How many bytes the files of some paths seem to have, if all are regular files.
@@ -177,53 +195,58 @@ fn take_parts<R: Threads + Sync, A: Archive<File: Send> + Sync, L: JoinLines<Don
     alloc: Global,
     archive: &A,
     list: &Stations,
-    daily: Daily<'_, '_>,
+    keep: Keep,
+    paths: &[String],
     sizes: &[u64],
     size: u64,
     shares: u64,
 ) -> Option<Intake<L>>
-    requires listed { listed daily.stations.now ≡ Ok list.now }
-    requires sizes { length sizes.now ≡ length daily.paths.now }
-    ensures { IfSome result (TakesWhole L.has_read (A.bytes_of archive.now) (A.opens archive.now)
-        daily.entry.keep daily.entry.stations.now daily.entry.paths.now) }
+    requires sizes { length sizes.now ≡ length paths.now }
+    requires list { IsSomeList list.now }
+    ensures { (text : List ℕ) → listed text ≡ Ok list.now
+        → IfSome result (TakesWhole L.has_read (A.bytes_of archive.now) (A.opens archive.now) keep text paths.now) }
 {
     if shares < 2 {
-        return take_part(alloc, archive, list, daily);
+        return take_part(alloc, archive, list, keep, paths);
     }
-    if let [path] = daily.paths {
-        return take_one(rt, alloc, archive, list, daily, path, size, shares);
+    if let [path] = paths {
+        return take_one(rt, alloc, archive, list, keep, path, size, shares);
     }
     let (from, share) = cut(sizes, size / shares);
     let after = (share / (size / shares).max(1)).clamp(1, shares - 1);
     let before = shares - after;
-    let (front_paths, own_paths) = daily.paths.split_at(from);
-    if begin_alike(archive, front_paths, own_paths) {
+    let (front, own) = paths.split_at(from);
+    if begin_alike(archive, front, own) {
         return None;
     }
     let (front_sizes, own_sizes) = sizes.split_at(from);
-    let front = Daily {
-        paths: front_paths,
-        ..daily
-    };
-    let own = Daily {
-        paths: own_paths,
-        ..daily
-    };
     let rest = size.saturating_sub(share);
     let (last, first) = join(
         rt,
         move ||
-            requires { IsSync R.row × IsSync A.row × (length own_sizes.now ≡ length own.paths.now)
-                × (listed own.stations.now ≡ Ok list.now) }
-            ensures { IfSome result (TakesWhole L.has_read (A.bytes_of archive.entry.now) (A.opens archive.entry.now)
-                own.entry.keep own.entry.stations.now own.entry.paths.now) }
-        { take_parts(rt, alloc, archive, list, own, own_sizes, share, after) },
+            requires { IsSync R.row × IsSync A.row × (length own_sizes.now ≡ length own.now) × IsSomeList list.now }
+            ensures { (text : List ℕ) → listed text ≡ Ok list.entry.now
+                → IfSome result (TakesWhole L.has_read (A.bytes_of archive.entry.now) (A.opens archive.entry.now)
+                keep text own.entry.now) }
+        { take_parts(rt, alloc, archive, list, keep, own, own_sizes, share, after) },
         move ||
-            requires { IsSync R.row × IsSync A.row × (length front_sizes.now ≡ length front.paths.now)
-                × (listed front.stations.now ≡ Ok list.now) }
-            ensures { IfSome result (TakesWhole L.has_read (A.bytes_of archive.entry.now) (A.opens archive.entry.now)
-                front.entry.keep front.entry.stations.now front.entry.paths.now) }
-        { take_parts(rt, alloc, archive, list, front, front_sizes, rest, before) },
+            requires { IsSync R.row × IsSync A.row × (length front_sizes.now ≡ length front.now) × IsSomeList list.now }
+            ensures { (text : List ℕ) → listed text ≡ Ok list.entry.now
+                → IfSome result (TakesWhole L.has_read (A.bytes_of archive.entry.now) (A.opens archive.entry.now)
+                keep text front.entry.now) }
+        {
+            take_parts(
+                rt,
+                alloc,
+                archive,
+                list,
+                keep,
+                front,
+                front_sizes,
+                rest,
+                before,
+            )
+        },
     );
     first?.join(last?)
 }
@@ -233,18 +256,19 @@ fn take_part<A: Archive, L: LineReader>(
     alloc: Global,
     archive: &A,
     list: &Stations,
-    daily: Daily<'_, '_>,
+    keep: Keep,
+    paths: &[String],
 ) -> Option<Intake<L>>
-    requires { listed daily.stations.now ≡ Ok list.now }
-    ensures { IfSome result (TakesWhole L.has_read (A.bytes_of archive.now) (A.opens archive.now)
-        daily.entry.keep daily.entry.stations.now daily.entry.paths.now) }
+    requires list { IsSomeList list.now }
+    ensures { (text : List ℕ) → listed text ≡ Ok list.now
+        → IfSome result (TakesWhole L.has_read (A.bytes_of archive.now) (A.opens archive.now) keep text paths.now) }
 {
     let mut room = piece_room(alloc).ok()?;
     let Ok(stations) = list.share() else {
         return None;
     };
-    let intake = Intake::over(alloc, stations, daily.keep);
-    fill(archive, intake, daily, &mut room).ok()
+    let intake = Intake::over(alloc, stations, keep);
+    fill(archive, intake, paths, &mut room).ok()
 }
 
 /// Whether the last of some files and the first of those after them begin with one station, as files by year do. Then

@@ -1,15 +1,16 @@
 //! Stretches of one large daily file that are read side by side.
 
-ghost use Rattle.std.specs.Prelude.{◌≡◌, ◌<◌, [], None, Some, Ok, IfOk, IfSome};
+ghost use Rattle.std.specs.Prelude.{◌≡◌, ◌<◌, ℕ, List, [], None, Some, Ok, IfOk, IfSome};
 ghost use denote.Param.Send.{IsSync};
+ghost use Rattle.ghcn_files.specs.declared.element.Keep.{Keep};
 ghost use Rattle.ghcn_files.specs.Listed.{listed};
+ghost use Rattle.rank_input.specs.Lists.{IsSomeList};
 ghost use Rattle.rank_input.specs.Shares.{RestsFrom, TakesStretch};
-ghost use Rattle.rank_input.specs.Takes.{file_input, HasTaken};
+ghost use Rattle.rank_input.specs.Takes.{file_input, HasTaken, HasTakenSome};
 
 use crate::archive::{Archive, Place, feed, feed_bytes, piece_room};
 use crate::intake::Intake;
-use crate::shares::Daily;
-use ghcn_files::{Stations, are_visible};
+use ghcn_files::{Keep, Stations, are_visible};
 use ghcn_series::{JoinLines, LineReader};
 use std::alloc::Global;
 use std::io;
@@ -34,19 +35,20 @@ pub(crate) fn take_one<
     alloc: Global,
     archive: &A,
     list: &Stations,
-    daily: Daily<'_, '_>,
+    keep: Keep,
     path: &str,
     size: u64,
     shares: u64,
 ) -> Option<Intake<L>>
-    requires listed { listed daily.stations.now ≡ Ok list.now }
-    ensures { IfSome result (TakesStretch L.has_read (A.bytes_of archive.now) (A.opens archive.now)
-        daily.entry.keep daily.entry.stations.now path.now 0 None) }
+    requires list { IsSomeList list.now }
+    ensures { (text : List ℕ) → listed text ≡ Ok list.now
+        → IfSome result (TakesStretch L.has_read (A.bytes_of archive.now) (A.opens archive.now)
+        keep text path.now 0 None) }
 {
     if size < WORTH_A_CUT {
-        return take_stretch(alloc, archive, list, daily, path, 0, None);
+        return take_stretch(alloc, archive, list, keep, path, 0, None);
     }
-    let intake = take_stretches(rt, alloc, archive, list, daily, path, None, size, shares)?;
+    let intake = take_stretches(rt, alloc, archive, list, keep, path, None, size, shares)?;
     match archive.look(path) {
         Place::File(length) if length == size => Some(intake),
         _ => None,
@@ -65,44 +67,35 @@ fn take_stretches<
     alloc: Global,
     archive: &A,
     list: &Stations,
-    daily: Daily<'_, '_>,
+    keep: Keep,
     path: &str,
     until: Option<u64>,
     size: u64,
     shares: u64,
 ) -> Option<Intake<L>>
-    requires listed { listed daily.stations.now ≡ Ok list.now }
-    ensures { IfSome result (TakesStretch L.has_read (A.bytes_of archive.now) (A.opens archive.now)
-        daily.entry.keep daily.entry.stations.now path.now 0 until) }
+    requires list { IsSomeList list.now }
+    ensures { (text : List ℕ) → listed text ≡ Ok list.now
+        → IfSome result (TakesStretch L.has_read (A.bytes_of archive.now) (A.opens archive.now)
+        keep text path.now 0 until) }
 {
     let Some((cut, count)) = cut_within(alloc, archive, path, until, size, shares) else {
-        return take_stretch(alloc, archive, list, daily, path, 0, until);
+        return take_stretch(alloc, archive, list, keep, path, 0, until);
     };
     let before = shares - 1;
     let (rest, begun) = join(
         rt,
         move ||
-            requires { IsSync A.row × (listed daily.stations.now ≡ Ok list.now) }
-            ensures { IfSome result (TakesStretch L.has_read (A.bytes_of archive.entry.now) (A.opens archive.entry.now)
-                daily.entry.keep daily.entry.stations.now path.entry.now cut count) }
-        { take_stretch(alloc, archive, list, daily, path, cut, count) },
+            requires { IsSync A.row × IsSomeList list.now }
+            ensures { (text : List ℕ) → listed text ≡ Ok list.entry.now
+                → IfSome result (TakesStretch L.has_read (A.bytes_of archive.entry.now) (A.opens archive.entry.now)
+                keep text path.entry.now cut count) }
+        { take_stretch(alloc, archive, list, keep, path, cut, count) },
         move ||
-            requires { IsSync R.row × IsSync A.row × (listed daily.stations.now ≡ Ok list.now) }
-            ensures { IfSome result (TakesStretch L.has_read (A.bytes_of archive.entry.now) (A.opens archive.entry.now)
-                daily.entry.keep daily.entry.stations.now path.entry.now 0 (Some cut)) }
-        {
-            take_stretches(
-                rt,
-                alloc,
-                archive,
-                list,
-                daily,
-                path,
-                Some(cut),
-                cut,
-                before,
-            )
-        },
+            requires { IsSync R.row × IsSync A.row × IsSomeList list.now }
+            ensures { (text : List ℕ) → listed text ≡ Ok list.entry.now
+                → IfSome result (TakesStretch L.has_read (A.bytes_of archive.entry.now) (A.opens archive.entry.now)
+                keep text path.entry.now 0 (Some cut)) }
+        { take_stretches(rt, alloc, archive, list, keep, path, Some(cut), cut, before) },
     );
     begun?.join(rest?)
 }
@@ -112,21 +105,22 @@ fn take_stretch<A: Archive, L: LineReader>(
     alloc: Global,
     archive: &A,
     list: &Stations,
-    daily: Daily<'_, '_>,
+    keep: Keep,
     path: &str,
     from: u64,
     count: Option<u64>,
 ) -> Option<Intake<L>>
-    requires { listed daily.stations.now ≡ Ok list.now }
-    ensures { IfSome result (TakesStretch L.has_read (A.bytes_of archive.now) (A.opens archive.now)
-        daily.entry.keep daily.entry.stations.now path.now from count) }
+    requires list { IsSomeList list.now }
+    ensures { (text : List ℕ) → listed text ≡ Ok list.now
+        → IfSome result (TakesStretch L.has_read (A.bytes_of archive.now) (A.opens archive.now)
+        keep text path.now from count) }
 {
     let mut room = piece_room(alloc).ok()?;
     let Ok(stations) = list.share() else {
         return None;
     };
-    let intake = Intake::over(alloc, stations, daily.keep);
-    fill_stretch(archive, intake, daily, path, from, count, &mut room).ok()
+    let intake = Intake::over(alloc, stations, keep);
+    fill_stretch(archive, intake, path, from, count, &mut room).ok()
 }
 
 /// Feeds them to an intake that was given the station list, or returns why a read failed. It is an error if the file
@@ -134,15 +128,15 @@ fn take_stretch<A: Archive, L: LineReader>(
 fn fill_stretch<A: Archive, L: LineReader>(
     archive: &A,
     mut intake: Intake<L>,
-    daily: Daily<'_, '_>,
     path: &str,
     from: u64,
     count: Option<u64>,
     buffer: &mut [u8],
 ) -> io::Result<Intake<L>>
-    requires { HasTaken L.has_read intake (file_input daily.keep daily.stations.now []) }
-    ensures { IfOk result (TakesStretch L.has_read (A.bytes_of archive.now) (A.opens archive.now)
-        daily.entry.keep daily.entry.stations.now path.now from count) }
+    requires { HasTakenSome L.has_read intake }
+    ensures { (keep : Keep) (text : List ℕ) → HasTaken L.has_read intake (file_input keep text [])
+        → IfOk result (TakesStretch L.has_read (A.bytes_of archive.now) (A.opens archive.now)
+        keep text path.now from count) }
 {
     let mut file = archive.open_at(path, from)?;
     match count {

@@ -76,7 +76,7 @@ pub(crate) fn beside(texts: Texts, path: &str) -> Option<&'static [u8]>
 }
 
 /// The bytes of a text from one on.
-pub(crate) fn bytes_from(text: &'static [u8], byte: u64) -> &'static [u8]
+pub(crate) fn bytes_from(text: &[u8], byte: u64) -> &[u8]
     ensures { result.now ≡ drop byte text.now }
 {
     if byte < text.len() as u64 {

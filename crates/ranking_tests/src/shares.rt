@@ -5,7 +5,7 @@ use crate::names::{Texts, beside, bytes_from};
 use ghcn_fields::Day;
 use ghcn_files::{Element, StationId};
 use ghcn_series::Data;
-use rank_input::{Archive, Place, Question, piece_room};
+use rank_input::{Archive, Place, Question, StationList, piece_room, read_station_list};
 use std::alloc::{AllocError, Global};
 use std::fmt::Write;
 use std::io;
@@ -126,14 +126,23 @@ pub(crate) fn held_in<R: Threads + AllocGlobal + Sync, A: Archive<File: Send> + 
     names: &[&str],
     readers: u64,
 ) -> Result<String, Fail> {
-    held_for(rt, archive, STATIONS, query, names, readers)
+    let mut text = Vec::new(rt.alloc());
+    text.extend_from_slice(STATIONS)?;
+    held_for(
+        rt,
+        archive,
+        &StationList::of_text(text),
+        query,
+        names,
+        readers,
+    )
 }
 
 /// The same for the stations of a list.
 fn held_for<R: Threads + AllocGlobal + Sync, A: Archive<File: Send> + Sync>(
     rt: &R,
     archive: &A,
-    stations: &[u8],
+    stations: &StationList,
     query: &str,
     names: &[&str],
     readers: u64,
@@ -307,9 +316,112 @@ fn long_list(alloc: Global, first: &[u8], last: &[u8]) -> Result<Vec<u8>, AllocE
     Ok(text)
 }
 
-/// Two threads read a long list, and its first error is the same.
+/// A station list in memory, and how often it was opened. Each time it may get longer.
+#[derive(Drop)]
+struct Listed<'t> {
+    text: &'t [u8],
+    opened: AtomicU64,
+    grows: bool,
+}
+
+impl<'t> Archive for Listed<'t> {
+    ghost use Rattle.std.specs.Prelude.{None, Some, ⊤};
+
+    type File = &'t [u8];
+
+    ghost bytes_of = { λ a _. Some a.text.now };
+
+    ghost opens = { λ _ _ _. ⊤ };
+
+    ghost names_of = { λ _ _. None };
+
+    fn open(&self, _path: &str) -> io::Result<&'t [u8]> {
+        self.opened.fetch_add(1, Ordering::SeqCst);
+        Ok(self.text)
+    }
+
+    fn open_at(&self, path: &str, byte: u64) -> io::Result<&'t [u8]> {
+        Ok(bytes_from(self.open(path)?, byte))
+    }
+
+    fn look(&self, _path: &str) -> Place {
+        let more = if self.grows {
+            self.opened.load(Ordering::SeqCst)
+        } else {
+            0
+        };
+        Place::File((self.text.len() as u64).saturating_add(more))
+    }
+
+    fn names(&self, _alloc: Global, _folder: &str) -> io::Result<Vec<u8>> {
+        Err(io::Error::from(io::ErrorKind::NotFound))
+    }
+}
+
+/// What files hold for the stations of a list that is read for this many readers, and how often the list is opened.
+fn held_by_list<R: Threads + AllocGlobal + Sync>(
+    rt: &R,
+    text: &[u8],
+    grows: bool,
+    readers: u64,
+) -> Result<(String, u64), Fail> {
+    let archive = Listed {
+        text,
+        opened: AtomicU64::new(0),
+        grows,
+    };
+    let list = read_station_list(rt, rt.alloc(), &archive, "list", readers)?;
+    let daily = Large {
+        files: FILES,
+        opened: AtomicU64::new(0),
+        most: 99,
+    };
+    let names = &["alpha", "beta"];
+    let held = held_for(rt, &daily, &list, "top 1 highest TMAX", names, 2)?;
+    Ok((held, archive.opened.load(Ordering::SeqCst)))
+}
+
+/// A long list is read piece by piece, by one thread or two, and its first error is the same. If it has one it is opened
+/// once more, and so is a list with a line that is longer than two pieces.
 #[test]
 fn long_station_lists(rt: HostRuntime) -> Result<(), Fail> {
+    let held = "310 - 320 - unlisted 0 foreign 0 None odd 0 None";
+    let unended = STATIONS.split_at(STATIONS.len() - 1).0;
+    let cases: [(&[u8], &[u8], u64, &str, u64); 9] = [
+        (b"", STATIONS, 2, held, 3),
+        (b"", unended, 2, held, 3),
+        (b"", unended, 1, held, 1),
+        (STATIONS, b"\r\n \n", 1, held, 1),
+        (STATIONS, &[b' '; 200_000], 1, held, 2),
+        (b"", b"ZZ\n", 2, "refused 1 StationLine line 70001 Short", 4),
+        (b"ZZ\n", b"ZZ\n", 1, "refused 1 StationLine line 1 Short", 2),
+        (
+            STATIONS,
+            STATIONS,
+            2,
+            "refused 1 StationLine line 70003 Duplicate",
+            4,
+        ),
+        (
+            b"",
+            b"ZZ000000001  10.0000   20.0000",
+            1,
+            "refused 1 StationLine line 70001 Duplicate",
+            2,
+        ),
+    ];
+    for (first, last, readers, expected, opened) in cases {
+        let text = long_list(rt.alloc(), first, last)?;
+        let found = held_by_list(&rt, &text, false, readers)?;
+        assert_eq!(rt; found.0.as_str(), expected, "{readers} readers");
+        assert_eq!(rt; found.1, opened, "{readers} readers");
+    }
+    Ok(())
+}
+
+/// Two threads read a long text of a list, and its first error is the same.
+#[test]
+fn long_texts_of_lists(rt: HostRuntime) -> Result<(), Fail> {
     let held = "310 - 320 - unlisted 0 foreign 0 None odd 0 None";
     let unended = STATIONS.split_at(STATIONS.len() - 1).0;
     let cases: [(&[u8], &[u8], &str); 7] = [
@@ -330,7 +442,7 @@ fn long_station_lists(rt: HostRuntime) -> Result<(), Fail> {
         ),
     ];
     for (first, last, expected) in cases {
-        let list = long_list(rt.alloc(), first, last)?;
+        let list = StationList::of_text(long_list(rt.alloc(), first, last)?);
         let archive = Large {
             files: FILES,
             opened: AtomicU64::new(0),
@@ -339,6 +451,29 @@ fn long_station_lists(rt: HostRuntime) -> Result<(), Fail> {
         let names = &["alpha", "beta"];
         let found = held_for(&rt, &archive, &list, "top 1 highest TMAX", names, 2)?;
         assert_eq!(rt; found.as_str(), expected);
+    }
+    Ok(())
+}
+
+/// A long list that got longer while two threads read it is read again.
+#[test]
+fn station_list_that_grows(rt: HostRuntime) -> Result<(), Fail> {
+    let held = "310 - 320 - unlisted 0 foreign 0 None odd 0 None";
+    let text = long_list(rt.alloc(), b"", STATIONS)?;
+    let found = held_by_list(&rt, &text, true, 2)?;
+    assert_eq!(rt; found.0.as_str(), held);
+    assert_eq!(rt; found.1, 4);
+    Ok(())
+}
+
+/// A short list is read as a text.
+#[test]
+fn short_station_lists(rt: HostRuntime) -> Result<(), Fail> {
+    let held = "310 - 320 - unlisted 0 foreign 0 None odd 0 None";
+    for readers in [1, 2] {
+        let found = held_by_list(&rt, STATIONS, false, readers)?;
+        assert_eq!(rt; found.0.as_str(), held);
+        assert_eq!(rt; found.1, 1);
     }
     Ok(())
 }
