@@ -14,9 +14,11 @@ pub fn series_at<'a>(dataset: &'a Data, query: &Query, place: u64) -> Option<&'a
     ensures { option_copied result
         ≡ option_and_then (meaning.series_at query.now dataset.now) (slice_get dataset.now.stations place) }
 {
+    // Most stations of a long list have no series, and then nothing else is read of them.
+    let series = dataset.series_at(place, query.element())?;
     let station = dataset.stations().at(place)?;
     if query.admits_station(station) {
-        dataset.series_at(place, query.element())
+        Some(series)
     } else {
         None
     }
