@@ -1,9 +1,11 @@
 -- The series of the stations that are held, at their places.
-use Rattle.ghcn_series.proofs.Cited.{◌≡◌, ℕ, zero, suc, ◌<◌, ◌≤◌, List, [], ◌∷◌, length, map, drop, get_or, Some, inl}
-use Rattle.ghcn_series.proofs.Cited.{inr, refl, sym, ap, ◌∙◌, arith, slice_get, AllByRecursion, set, cases_eq}
-use Rattle.ghcn_series.proofs.Cited.{length-set, get_or-set_same, get_or-set_other, Station, Gathering}
-use Rattle.ghcn_series.proofs.Cited.{StationGathering, Series, by_place, ArePlaced, station_series, series_by_place}
+use Rattle.ghcn_series.proofs.Cited.{◌≡◌, ℕ, zero, suc, ◌<◌, ◌≤◌, List, [], ◌∷◌, ◌++◌, length, drop, get_or, Some}
+use Rattle.ghcn_series.proofs.Cited.{inl, inr, refl, sym, ap, ◌∙◌, arith, slice_get, cases_eq, length-map, length_push}
+use Rattle.ghcn_series.proofs.Cited.{get_or_append_left, get_or_push, Station, Gathering, StationGathering, Series}
+use Rattle.ghcn_series.proofs.Cited.{by_place, ArePlaced, numbered, station_series, series_by_place}
+use Rattle.std.proofs.Math.ListN.{get_or-map}
 use Rattle.std.proofs.lemmas.List.{ext_get_or}
+use Rattle.ghcn_series.specs.Held.{lists_by_number}
 use Rattle.ghcn_series.proofs.PlacedStations.{at_place, at_most_all}
 use Rattle.ghcn_series.proofs.JoinedStations.{AreHeld, Next, next_at, next_of, none_past}
 
@@ -29,42 +31,34 @@ series_at (x ∷ xs) [] k s at lt = absurd (omega (arith, lt))
 series_at (x ∷ xs) (gs ∷ all) zero s at lt = let this : x ≡ s = cc in rw this refl
 series_at (x ∷ xs) (gs ∷ all) (suc k) s at lt = series_at xs all k s at (omega (arith, lt))
 
--- lists of nothing have nothing at each place
-pub empty_at : {V : Type 0} (items : V → List Series) (vs : List V) (k : ℕ) → AllByRecursion (λ v. items v ≡ []) vs
-    → get_or (map items vs) k [] ≡ []
-empty_at items [] k all = refl
-empty_at items (v ∷ vs) zero all = all.0
-empty_at items (v ∷ vs) (suc k) all = empty_at items vs k all.1
-
--- the stations that come before the rest of those that are held have their series, and the others have none
-pub record HaveSeries (ss : List Station) (all : List (List Gathering)) (series : List (List Series))
+-- the stations that come before the rest of those that are held have lists of their series, in that order, and the
+-- stations that aren't held have none
+pub record HaveSeries (ss : List Station) (all : List (List Gathering)) (numbers : List ℕ) (lists : List (List Series))
     (rest : List StationGathering) : Type 0 where
   pub stations : AreHeld all
-  pub n : ℕ
-  pub left : drop n stations.held ≡ rest
-  pub done : (k : ℕ) → get_or stations.numbers k 0 ≤ n → get_or series k [] ≡ get_or (series_by_place ss all) k []
-  pub long : length series ≡ length ss
+  pub same : stations.numbers ≡ numbers
+  pub left : drop (length lists) stations.held ≡ rest
+  pub done : (k : ℕ) → get_or numbers k 0 ≤ length lists
+      → get_or ([] ∷ lists) (get_or numbers k 0) [] ≡ get_or (series_by_place ss all) k []
 
-module _ (ss : List Station) (all : List (List Gathering)) (series : List (List Series)) where
-  -- none has series yet
-  pub none_have : (numbers : List ℕ) (held rest : List StationGathering) → ArePlaced numbers held
-      → by_place held numbers ≡ all → rest ≡ held → length series ≡ length ss → ((k : ℕ) → get_or series k [] ≡ [])
-      → HaveSeries ss all series rest
-  none_have numbers held rest placed view whole long empty = record {
+module _ (ss : List Station) (all : List (List Gathering)) (numbers : List ℕ) where
+  -- no station has its series yet
+  pub none_have : (held rest : List StationGathering) → ArePlaced numbers held → by_place held numbers ≡ all → rest ≡ held
+      → HaveSeries ss all numbers [] rest
+  none_have held rest placed view whole = record {
     stations = record { numbers = numbers; held = held; placed = placed; view = view };
-    n = 0;
+    same = refl;
     left = sym whole;
     done = λ k most.
         let none : get_or numbers k 0 ≡ 0 = omega (arith, most) in
-        empty k ∙ sym (no_series ss all k (rw (← view, at_place held numbers k, none) refl));
-    long = long;
+        rw none (sym (no_series ss all k (rw (← view, at_place held numbers k, none) refl)));
   }
 
-  module _ (g : StationGathering) (whole rest : List StationGathering) (is : HaveSeries ss all series whole)
-      (step : whole ≡ g ∷ rest) where
+  module _ (lists : List (List Series)) (g : StationGathering) (whole rest : List StationGathering)
+      (is : HaveSeries ss all numbers lists whole) (step : whole ≡ g ∷ rest) where
     -- the next comes after those that have theirs
-    next : Next all g is.n is.stations.numbers
-    next = next_of all is.stations is.n g rest (is.left ∙ step)
+    next : Next all g (length lists) numbers
+    next = rw is.same at (next_of all is.stations (length lists) g rest (is.left ∙ step))
 
     -- it has its place in the list
     pub next_within : g.place < length all
@@ -75,26 +69,42 @@ module _ (ss : List Station) (all : List (List Gathering)) (series : List (List 
     next_gathered = next.gathered
 
     -- so it has its series too
-    pub one_has : (s : Station) (own : List Series) → length all ≡ length ss → slice_get ss g.place ≡ Some s
-        → own ≡ station_series s.id g.by_element.items → HaveSeries ss all (set series g.place own) rest
-    one_has s own same at made = record {
-      stations = is.stations;
-      n = suc is.n;
-      left = (next_at is.stations.held is.n g rest (is.left ∙ step)).2;
-      done = λ k most. elim (cases_eq k g.place) [
-        | inl here ↦ rw here
-            (get_or-set_same series g.place own [] (omega (arith, next_within, same, is.long)) ∙ made
-            ∙ ap (station_series s.id) (sym next_gathered) ∙ sym (series_at ss all g.place s at next_within))
-        | inr other ↦
-            get_or-set_other series g.place k own [] other ∙ is.done k (omega (arith, most, next.others k other))
-      ];
-      long = length-set series g.place own ∙ is.long;
-    }
+    pub one_has : (s : Station) (own : List Series) → slice_get ss g.place ≡ Some s
+        → own ≡ station_series s.id g.by_element.items → HaveSeries ss all numbers (lists ++ own ∷ []) rest
+    one_has s own at made =
+        let more : length (lists ++ own ∷ []) ≡ suc (length lists) =
+        omega (arith, length_push lists own) in
+        record {
+          stations = is.stations;
+          same = is.same;
+          left = rw more (next_at is.stations.held (length lists) g rest (is.left ∙ step)).2;
+          done = λ k most. elim (cases_eq k g.place) [
+            | inl here ↦
+                rw (here, next.number)
+                (get_or_push ([] ∷ lists) own [] (suc (length lists)) refl ∙ made
+                ∙ ap (station_series s.id) (sym next_gathered) ∙ sym (series_at ss all g.place s at next_within))
+            | inr other ↦
+                let before : get_or numbers k 0 ≤ length lists = omega (arith, most, more, next.others k other) in
+                get_or_append_left ([] ∷ lists) (own ∷ []) [] (get_or numbers k 0) (omega (arith, before))
+                ∙ is.done k before
+          ];
+        }
 
   -- all have them
-  pub all_have : (rest : List StationGathering) → HaveSeries ss all series rest → rest ≡ [] → length all ≡ length ss
-      → series ≡ series_by_place ss all
-  all_have rest is none same =
-      let past = none_past is.stations.held is.n (is.left ∙ none) in
-      ext_get_or [] series (series_by_place ss all) (is.long ∙ sym (series_long ss all same))
-      (λ k lt. is.done k (omega (arith, past, at_most_all is.stations.numbers is.stations.held k is.stations.placed)))
+  pub all_have : (lists : List (List Series)) (rest : List StationGathering) → HaveSeries ss all numbers lists rest
+      → rest ≡ [] → length all ≡ length ss → lists_by_number lists numbers ≡ series_by_place ss all
+  all_have lists rest is none same =
+      let past = none_past is.stations.held (length lists) (is.left ∙ none) in
+      let as_many : length numbers ≡ length all =
+      sym (length-map numbers (numbered is.stations.held)) ∙ ap (λ (ns : List ℕ). length (by_place is.stations.held ns)) (sym is.same)
+      ∙ ap length is.stations.view in
+      let most : (k : ℕ) → get_or numbers k 0 ≤ length lists =
+      λ k. omega (
+        arith,
+        past,
+        ap (λ (ns : List ℕ). get_or ns k 0) is.same,
+        at_most_all is.stations.numbers is.stations.held k is.stations.placed,
+      ) in
+      ext_get_or [] (lists_by_number lists numbers) (series_by_place ss all)
+      (length-map numbers (λ n. get_or ([] ∷ lists) n []) ∙ as_many ∙ same ∙ sym (series_long ss all same))
+      (λ k lt. get_or-map (λ n. get_or ([] ∷ lists) n []) numbers k 0 ∙ is.done k (most k))

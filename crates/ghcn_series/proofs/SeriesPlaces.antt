@@ -2,10 +2,11 @@
 use Rattle.ghcn_series.proofs.Cited.{◌≡◌, ℕ, zero, suc, ◌+◌, ◌≤◌, get_or, true, false, cond, not, List, [], ◌∷◌, length}
 use Rattle.ghcn_series.proofs.Cited.{map, Option, None, Some, refl, sym, ap, ◌∙◌, arith, nat_lt, find, slice_get}
 use Rattle.ghcn_series.proofs.Cited.{position_or_len, IsDistinct, AllByRecursion, AllZip, option_or, option_and_then}
-use Rattle.ghcn_series.proofs.Cited.{ltb-true, nat_tests, length-map, find-append, slice_get_past, slice_get-get_or}
+use Rattle.ghcn_series.proofs.Cited.{ltb-true, find-append, slice_get_past, slice_get-get_or}
 use Rattle.ghcn_series.proofs.Cited.{slice_get-map, AllZip-long, StationId, Station, Element, same_id, is_station_of}
 use Rattle.ghcn_series.proofs.Cited.{place_of, Series, Data, is_series_of, series_of, all_of, is_of_element}
 use Rattle.ghcn_series.proofs.Cited.{same_id-is, same_id-turned, no_place, each-mapped}
+use Rattle.ghcn_series.specs.Held.{lists_by_number}
 use Rattle.ghcn_series.proofs.Lookups.{or_none}
 use Rattle.ghcn_series.proofs.Places.{ids, first_place, listed-is}
 use Rattle.ghcn_series.proofs.ListFacts.{each-append, each-weaker}
@@ -114,7 +115,9 @@ pub list-there : {V : Type 0} (items : V → List Series) (vs : List V) (k : ℕ
     → v ≡ get_or vs k v → Some (items v) ≡ slice_get (map items vs) k
 list-there items vs k v lt is = rw (slice_get-map items vs k, slice_get-get_or vs k v (ltb-true k (length vs) lt), ← is)
 
--- no list is past the last
-pub list-missing : {V : Type 0} (items : V → List Series) (vs : List V) (k : ℕ) → nat_lt k (length vs) ≡ false
-    → None ≡ slice_get (map items vs) k
-list-missing items vs k lt = sym (slice_get_past (map items vs) k (grind (arith, nat_tests, length-map vs items)))
+-- the list of a number that isn't 0 is at the number's place
+pub list-numbered : (lists : List (List Series)) (numbers : List ℕ) (k n i : ℕ) → nat_lt k (length numbers) ≡ true
+    → n ≡ get_or numbers k n → n ≡ suc i → Some (get_or lists i []) ≡ slice_get (lists_by_number lists numbers) k
+list-numbered lists numbers k n i lt is next =
+    ap (λ (m : ℕ). Some (get_or ([] ∷ lists) m [])) (sym next)
+    ∙ list-there (λ m. get_or ([] ∷ lists) m []) numbers k n lt is

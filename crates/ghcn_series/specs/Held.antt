@@ -1,5 +1,5 @@
 -- What is true of all data that was read.
-use Rattle.std.specs.Prelude.{◌≡◌, ℕ, Bool, true, ◌&&◌, List}
+use Rattle.std.specs.Prelude.{◌≡◌, ℕ, Bool, true, ◌&&◌, List, [], ◌∷◌, get_or, map}
 use Rattle.std.specs.List.{flat_map, IsDistinct, AllByRecursion, AllZip}
 use Rattle.ghcn_files.specs.declared.station.Station.{Station}
 use Rattle.ghcn_files.specs.declared.element.Element.{Element}
@@ -33,6 +33,10 @@ is_of_element e u = same_element u.element e
 -- the series of all lists, one list after the other
 abbrev pub all_of : List (List Series) → List Series
 all_of lists = flat_map (λ series. series) lists
+
+-- the lists of all places, each by its number among some lists, from 1: a place with the number 0 has an empty one
+abbrev pub lists_by_number : List (List Series) → List ℕ → List (List Series)
+lists_by_number lists numbers = map (λ n. get_or ([] ∷ lists) n []) numbers
 
 -- the data of stations with one list of series each, if that many lines were skipped
 abbrev pub contents_of : List Station → List (List Series) → ℕ → Data

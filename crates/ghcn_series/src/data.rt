@@ -1,14 +1,14 @@
 //! The series of all listed stations, from the bytes of daily files.
 
 ghost use Rattle.std.specs.Prelude.{◌≡◌, ◌<◌, ◌^◌, map, length, slice_get, Some, Ok, Err, IfOk, IfErr};
-ghost use Rattle.std.specs.List.{find};
 ghost use Rattle.std.specs.Option.{option_and_then, option_copied};
 ghost use Rattle.ghcn_series.specs.Series.{series_of};
 ghost use Rattle.ghcn_fields.specs.Refusals.{IsRefusal};
 ghost use Rattle.ghcn_series.specs.DailyFaults.{is_memory, IsFirstRefusal};
 ghost use Rattle.ghcn_series.specs.Says.{data_of};
-ghost use Rattle.ghcn_series.specs.Held.{IsContents, AreByStation, contents_of, is_of_element};
+ghost use Rattle.ghcn_series.specs.Held.{IsContents, AreByStation, contents_of};
 
+use crate::by_place::SeriesByPlace;
 use crate::cutter::Cutter;
 use crate::rows::RowReader;
 use crate::{DataFault, Series};
@@ -24,21 +24,19 @@ pub(crate) const MOST_FILES: u64 = 1 << 20;
 #[derive(Drop)]
 pub struct Data {
     stations: Stations,
-    /// Of each listed station, in their order, its series by element.
-    series: Vec<Vec<Series>>,
+    series: SeriesByPlace,
     unlisted: u64,
 }
 
 impl Model for Data {
-    ghost use Rattle.std.specs.Prelude.{map};
     ghost use Rattle.ghcn_series.specs.Series.{Data};
     ghost use Rattle.ghcn_series.specs.Held.{AreByStation, contents_of};
 
     ghost Value = { Data };
 
-    ghost view = { λ d. contents_of d.stations (map (λ s. s.items) d.series.items) d.unlisted };
+    ghost view = { λ d. contents_of d.stations d.series d.unlisted };
 
-    ghost invariant = { λ d. AreByStation d.stations (map (λ s. s.items) d.series.items) };
+    ghost invariant = { λ d. AreByStation d.stations d.series };
 }
 
 impl Data {
@@ -65,9 +63,9 @@ impl Data {
     }
 
     /// These series of the stations, which have one list each.
-    pub(crate) fn of(stations: Stations, series: Vec<Vec<Series>>, unlisted: u64) -> Self
-        requires { AreByStation stations (map (λ s. s.items) series.items) }
-        ensures { result ≡ contents_of stations (map (λ s. s.items) series.items) unlisted }
+    pub(crate) fn of(stations: Stations, series: SeriesByPlace, unlisted: u64) -> Self
+        requires { AreByStation stations series }
+        ensures { result ≡ contents_of stations series unlisted }
     {
         Data {
             stations,
@@ -82,7 +80,7 @@ impl Data {
     pub fn hold_extremes(&mut self, alloc: Global) -> Result<(), Memory>
         ensures { self.new ≡ self.old }
     {
-        hold_in_lists(alloc, &mut self.series)
+        self.series.hold_extremes(alloc)
     }
 
     /// The listed stations.
@@ -106,7 +104,7 @@ impl Data {
         ensures { option_copied result
             ≡ option_and_then (λ s. series_of self.now s.id element) (slice_get self.now.stations place) }
     {
-        of_element(self.series.get(place as usize)?, element)
+        self.series.at(place, element)
     }
 
     /// How many lines of the five elements were skipped, since their stations aren't listed.
@@ -115,31 +113,4 @@ impl Data {
     {
         self.unlisted
     }
-}
-
-/// The series of an element, among those of a station.
-fn of_element(series: &[Series], element: Element) -> Option<&Series>
-    ensures { option_copied result ≡ find (is_of_element element) series.now }
-{
-    series.iter().find(|series| series.element() == element)
-}
-
-/// Holds the extremes of the series of some lists.
-fn hold_in_lists(alloc: Global, lists: &mut Vec<Vec<Series>>) -> Result<(), Memory>
-    ensures { map (λ s. s.items) lists.new.items ≡ map (λ s. s.items) lists.old.items }
-{
-    for place in 0..lists.len() {
-        hold_in_list(alloc, &mut lists[place])?;
-    }
-    Ok(())
-}
-
-/// Holds the extremes of some series.
-fn hold_in_list(alloc: Global, series: &mut Vec<Series>) -> Result<(), Memory>
-    ensures { series.new.items ≡ series.old.items }
-{
-    for place in 0..series.len() {
-        series[place].hold_extremes(alloc)?;
-    }
-    Ok(())
 }

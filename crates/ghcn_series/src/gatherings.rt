@@ -10,6 +10,7 @@ ghost use Rattle.ghcn_series.specs.Steps.{GatherSome, AddsAt, TurnsTo, KeepStati
 ghost use Rattle.ghcn_series.specs.Steps.{JoinStations, OneHasBoth};
 
 use crate::Series;
+use crate::by_place::SeriesByPlace;
 use crate::parts::Parts;
 use crate::station::StationGathering;
 use ghcn_fields::Memory;
@@ -190,31 +191,18 @@ impl Gatherings {
         self,
         alloc: Global,
         stations: &Stations,
-    ) -> Result<Vec<Vec<Series>>, Memory>
+    ) -> Result<SeriesByPlace, Memory>
         requires number { length self.stations ≡ length stations.now }
         requires ready { AllByRecursion (λ gs. AllByRecursion IsReady gs) self.stations }
-        ensures { IfOk result (λ all. map (λ s. s.items) all.items ≡ series_by_place stations.now self.stations) }
+        ensures { IfOk result (λ series. series ≡ series_by_place stations.now self.stations) }
     {
         let Gatherings { numbers, held, .. } = self;
-        let mut series = none_of_each(alloc, numbers.len())?;
+        let mut lists = Vec::with_capacity(alloc, held.len())?;
         for gathered in held {
-            let place = gathered.place();
-            series[place] = series_of(alloc, stations, gathered)?;
+            lists.push(series_of(alloc, stations, gathered)?)?;
         }
-        Ok(series)
+        Ok(SeriesByPlace::of(numbers, lists))
     }
-}
-
-/// No series, for that many stations.
-fn none_of_each(alloc: Global, number: usize) -> Result<Vec<Vec<Series>>, Memory>
-    ensures number { IfOk result (λ all. length all.items ≡ number) }
-    ensures none { IfOk result (λ all. AllByRecursion (λ s. s.items ≡ []) all.items) }
-{
-    let mut all = Vec::with_capacity(alloc, number)?;
-    for _place in 0..number {
-        all.push(Vec::new(alloc))?;
-    }
-    Ok(all)
 }
 
 /// The series of a station of the list, by element.

@@ -6,6 +6,7 @@
 
 mod beginning;
 mod block;
+mod by_place;
 mod columns;
 mod counts;
 mod cutter;

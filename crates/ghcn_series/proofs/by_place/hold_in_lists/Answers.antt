@@ -1,6 +1,6 @@
 use Rattle.ghcn_series.proofs.Cited.{ap, ◌∙◌}
 use Rattle.std.proofs.Math.Seq.{map-set_same}
-use Rattle.ghcn_series.proofs.data.hold_in_lists.Goals as goal
+use Rattle.ghcn_series.proofs.by_place.hold_in_lists.Goals as goal
 
 -- the list has the series that it had
 pub loop-place-preserved : goal.loop-place-preserved

@@ -1,6 +1,6 @@
 use Rattle.ghcn_series.proofs.Cited.{ap, set, ◌∙◌, Series}
 use Rattle.std.proofs.lemmas.List.{set-get_or}
-use Rattle.ghcn_series.proofs.data.hold_in_list.Goals as goal
+use Rattle.ghcn_series.proofs.by_place.hold_in_list.Goals as goal
 
 -- the series is what it was
 pub loop-place-preserved : goal.loop-place-preserved

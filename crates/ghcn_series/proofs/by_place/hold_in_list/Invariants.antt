@@ -1,5 +1,5 @@
 use Rattle.ghcn_series.proofs.Cited.{◌≡◌}
-use Rattle.ghcn_series.proofs.data.hold_in_list.Given as goal
+use Rattle.ghcn_series.proofs.by_place.hold_in_list.Given as goal
 
 -- no series changed
 abbrev pub invariant-loop-place : goal.invariant-loop-place
