@@ -1,7 +1,10 @@
 -- Parts of lists: one place more, and two parts one after the other.
-use Rattle.std.proofs.Common.{◌≡◌, ℕ, zero, suc, ◌+◌, ◌-◌, ◌≤◌, List, [], ◌∷◌, ◌++◌, take, drop, Some, Result, Ok}
-use Rattle.std.proofs.Common.{Err, IfOk, IsOkAnd, refl, sym, ap, ◌∙◌, arith}
+use Rattle.std.proofs.Common.{◌≡◌, ℕ, zero, suc, ◌+◌, ◌-◌, ◌≤◌, List, [], ◌∷◌, ◌++◌, map, take, drop, Option, Some, None}
+use Rattle.std.proofs.Common.{Result, Ok, Err, IfOk, IsOkAnd, option_to_list, refl, sym, ap, ◌∙◌, arith}
 use Rattle.std.specs.Prelude.{slice_get}
+use Rattle.std.proofs.lemmas.List.{map-append}
+use Rattle.std.proofs.lemmas.List.Elements.{filter_map-append}
+use Rattle.rank_sched.specs.Plan.{Morsel, found_among}
 use Rattle.rank_crew.specs.Places.{elements_between}
 
 -- the first n and the next one are the first n + 1
@@ -55,16 +58,39 @@ part-both xs from middle to low high =
     (drop_both xs from (middle - from) middle (omega arith))
     ∙ take_both (drop from xs) (middle - from) (to - middle) (to - from) (omega arith)
 
+-- what was found in two parts is what was found in both
+found-both : (xs ys : List (Option Morsel)) → found_among (xs ++ ys) ≡ found_among xs ++ found_among ys
+found-both xs ys = filter_map-append (λ found. found) xs ys
+
 -- the same if memory may have run out in each
-pub both_parts : {A V E : Type 0} (items : V → List A) (xs : List A) (from middle to : ℕ)
-    (first second all : Result V E) → from ≤ middle → middle ≤ to
+pub both_parts : {F V E : Type 0} (seen : F → Morsel) (items : V → List F) (xs : List (Option Morsel))
+    (from middle to : ℕ) (first second all : Result V E) → from ≤ middle → middle ≤ to
     → IfOk all (λ v. IsOkAnd first (λ a. IsOkAnd second (λ b. items v ≡ items a ++ items b)))
-    → IfOk first (λ v. items v ≡ elements_between from middle xs)
-    → IfOk second (λ v. items v ≡ elements_between middle to xs)
-    → IfOk all (λ v. items v ≡ elements_between from to xs)
-both_parts items xs from middle to first second (Err x) low high e p q = tt
-both_parts items xs from middle to (Err x) second (Ok v) low high e p q = absurd e
-both_parts items xs from middle to (Ok u) (Err x) (Ok v) low high e p q = absurd e
-both_parts items xs from middle to (Ok u) (Ok s) (Ok v) low high e p q =
-    e ∙ ap (λ l. l ++ items s) p ∙ ap (λ l. elements_between from middle xs ++ l) q
-    ∙ part-both xs from middle to low high
+    → IfOk first (λ v. map seen (items v) ≡ found_among (elements_between from middle xs))
+    → IfOk second (λ v. map seen (items v) ≡ found_among (elements_between middle to xs))
+    → IfOk all (λ v. map seen (items v) ≡ found_among (elements_between from to xs))
+both_parts seen items xs from middle to first second (Err x) low high e p q = tt
+both_parts seen items xs from middle to (Err x) second (Ok v) low high e p q = absurd e
+both_parts seen items xs from middle to (Ok u) (Err x) (Ok v) low high e p q = absurd e
+both_parts seen items xs from middle to (Ok u) (Ok s) (Ok v) low high e p q =
+    ap (map seen) e ∙ map-append seen (items u) (items s)
+    ∙ ap (λ (l : List Morsel). l ++ map seen (items s)) p
+    ∙ ap (λ (l : List Morsel). found_among (elements_between from middle xs) ++ l) q
+    ∙ sym (found-both (elements_between from middle xs) (elements_between middle to xs))
+    ∙ ap found_among (part-both xs from middle to low high)
+
+-- one place more may add a morsel
+pub found-more : (xs : List (Option Morsel)) (from place next : ℕ) (o : Option Morsel) (before : List Morsel)
+    → next ≡ place + 1 → from ≤ place → slice_get xs place ≡ Some o
+    → before ≡ found_among (elements_between from place xs)
+    → before ++ option_to_list o ≡ found_among (elements_between from next xs)
+found-more xs from place next o before one low at is =
+    ap (λ (l : List Morsel). l ++ option_to_list o) is
+    ∙ ap (λ (l : List Morsel). found_among (elements_between from place xs) ++ l) (sym (alone o))
+    ∙ sym (found-both (elements_between from place xs) (o ∷ []))
+    ∙ ap found_among (part-push xs from place next o (elements_between from place xs)
+    (elements_between from place xs ++ o ∷ []) one low at refl refl)
+  where
+    alone : (o : Option Morsel) → found_among (o ∷ []) ≡ option_to_list o
+    alone None = refl
+    alone (Some m) = refl

@@ -40,6 +40,6 @@ pub fn survey<'d, R: Threads + Wait + Sync, G: Gate + Sync>(
     };
     let all = dataset.stations().len();
     let weight = weight_of(&places, all);
-    let bounds = measure_places(rt, alloc, &places, workers, all, weight)?;
-    Plan::of_bounds(alloc, dataset, query, bounds.as_slice())
+    let morsels = measure_places(rt, alloc, &places, workers, all, weight)?;
+    Ok(Plan::of_morsels(dataset, query, morsels))
 }

@@ -107,7 +107,7 @@ pub use Rattle.rank_sched.specs.Laws.{is_look, is_settle}
 pub use Rattle.rank_sched.specs.Machine.{Does, IsClaim, IsLook, IsSettle, IsStep, Leads, State, Worker, after}
 pub use Rattle.rank_sched.specs.Machine.{all_stopped, drawn, floor_after, greater_floor, has_stopped, is_awaited, moved}
 pub use Rattle.rank_sched.specs.Machine.{new_worker, record_of, refusal, replayed, started, worker_of}
-pub use Rattle.rank_sched.specs.Plan.{AreDrawnInTurn, IsPlan, Morsel, Plan, drawn_cmp, is_drawn_first, measure_of}
+pub use Rattle.rank_sched.specs.Plan.{AreDrawnInTurn, IsPlan, Morsel, Plan, drawn_cmp, found_among, is_drawn_first}
 pub use Rattle.rank_sched.specs.Plan.{measured, measured_at, measures, planned, planned_morsel}
 pub use Rattle.rank_sched.specs.Run.{HasSettled, IsAnswered, IsEmptyHaul, IsReplayed, IsRunning, IsSameHaul, Refuses}
 pub use Rattle.rank_sched.specs.Run.{Running, Steps, is_stopped, new_run, state_of, worker_with}

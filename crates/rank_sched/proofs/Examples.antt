@@ -1,6 +1,6 @@
 -- Worked plans, runs and answers, by computation.
 use Rattle.rank_sched.proofs.Cited.{◌≡◌, ℕ, List, [], ◌∷◌, ◌++◌, refl, Some, None, Option, true, false, Bool, map}
-use Rattle.rank_sched.proofs.Cited.{codes, ℤ, pos, flat_map, StationId, Station, Tmax, station_of, DayValue, Series}
+use Rattle.rank_sched.proofs.Cited.{codes, ℤ, pos, flat_map, option_map, StationId, Station, Tmax, station_of, DayValue, Series}
 use Rattle.rank_sched.proofs.Cited.{Data, Highest, Query, top, best_of_query, Record, Line, Event, Claim, Look}
 use Rattle.rank_sched.proofs.Cited.{Settle, StepFault, NoWorker, NotNow, Morsel, Plan, planned, measures, task_of}
 use Rattle.rank_sched.proofs.Cited.{State, started, refusal, replayed, all_stopped, taken_back, lines_of, best_of_plan}
@@ -74,17 +74,21 @@ ids p = map (λ (m : Morsel). m.series.id) p.morsels
 bounds : Plan → List ℤ
 bounds p = map (λ (m : Morsel). m.bound) p.morsels
 
+-- the bounds of all stations
+bounds_of_stations : Query → Data → List (Option ℤ)
+bounds_of_stations q c = map (λ found. option_map (λ (m : Morsel). m.bound) found) (measures q c)
+
 -- ties by ID
 by_id : (ids (plan 1) ≡ a ∷ b ∷ c ∷ []) × (bounds (plan 1) ≡ pos 311 ∷ pos 311 ∷ pos 250 ∷ []) ×
-    (measures (ask 1) dataset ≡ Some (pos 311) ∷ Some (pos 311) ∷ Some (pos 250) ∷ [])
-unfolding ids bounds
+    (bounds_of_stations (ask 1) dataset ≡ Some (pos 311) ∷ Some (pos 311) ∷ Some (pos 250) ∷ [])
+unfolding ids bounds bounds_of_stations
 by_id = (refl, refl, refl)
 
 -- by falling bound
 by_bound : (ids (planned (ask 1) (of_three (pos 250) (pos 311) (pos 300))) ≡ b ∷ c ∷ a ∷ []) ×
-    (measures (ask 1) (of_three (pos 250) (pos 311) (pos 300)) ≡ Some (pos 250) ∷ Some (pos 311) ∷ Some (pos 300) ∷
-    [])
-unfolding ids bounds
+    (bounds_of_stations (ask 1) (of_three (pos 250) (pos 311) (pos 300)) ≡ Some (pos 250) ∷ Some (pos 311) ∷
+    Some (pos 300) ∷ [])
+unfolding ids bounds bounds_of_stations
 by_bound = (refl, refl)
 
 -- a station without a series isn't a morsel

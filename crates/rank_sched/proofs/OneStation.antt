@@ -1,11 +1,11 @@
 -- The morsel of a query that is about one station.
 use Rattle.rank_sched.proofs.Cited.{◌≡◌, ℕ, Bool, true, false, List, [], ◌∷◌, map, Option, Some, None, refl, sym, ap}
-use Rattle.rank_sched.proofs.Cited.{◌∙◌, subst, ℤ, cond, option_to_list, if◌then◌else◌, slice_get, find, filter_map}
+use Rattle.rank_sched.proofs.Cited.{◌∙◌, subst, cond, option_to_list, if◌then◌else◌, slice_get, find, filter_map}
 use Rattle.rank_sched.proofs.Cited.{cons_option, AllByRecursion, IsDistinct, option_map, option_and_then, slice_get-map}
 use Rattle.rank_sched.proofs.Cited.{StationId, Station, same_id, is_station_of, place_of, found-at_place}
 use Rattle.rank_sched.proofs.Cited.{none-without_place, same_id-is, same_id-turned, Data, series_of, IsContents}
 use Rattle.rank_sched.proofs.Cited.{Region, Only, Query, score_element, region_holds, has_admitted, passing, measured}
-use Rattle.rank_sched.proofs.Cited.{measured_at, measure_of, measures, planned_morsel}
+use Rattle.rank_sched.proofs.Cited.{measured_at, measures, planned_morsel, Morsel}
 use Rattle.rank_sched.specs.declared.plan.Morsel as code
 use Rattle.rank_sched.proofs.PlanMade.{cons-alone}
 
@@ -46,10 +46,10 @@ joined : {A B : Type 0} (f : A → Option B) (o : Option A) (r : Option B) → o
 joined f None r e = absurd cc
 joined f (Some x) r e = cc
 
--- the bound at a place is that of the station there
-pub measured_of : (q : Query) (c : Data) (place : ℕ) (bound : Option ℤ) → slice_get (measures q c) place ≡ Some bound
-    → option_map (measure_of q c) (slice_get c.stations place) ≡ Some bound
-measured_of q c place bound at = sym (slice_get-map (measure_of q c) c.stations place) ∙ at
+-- the morsel at a place is that of the station there
+pub measured_of : (q : Query) (c : Data) (place : ℕ) (found : Option Morsel) → slice_get (measures q c) place ≡ Some found
+    → option_map (measured_at q c) (slice_get c.stations place) ≡ Some found
+measured_of q c place found at = sym (slice_get-map (measured_at q c) c.stations place) ∙ at
 
 module _ (q : Query) (c : Data) (id : StationId) (is : IsContents c) (only : q.region ≡ Only id) where
   -- no other station is admitted

@@ -1,5 +1,5 @@
 -- The plan of a query is the one list of its morsels in which they are drawn.
-use Rattle.rank_sched.proofs.Cited.{◌≡◌, ℕ, zero, suc, ◌<◌, ◌≤◌, get_or, List, [], ◌∷◌, ◌++◌, length, take, map, filter}
+use Rattle.rank_sched.proofs.Cited.{◌≡◌, ℕ, zero, suc, ◌≤◌, List, [], ◌∷◌, ◌++◌, length, take, map, filter}
 use Rattle.rank_sched.proofs.Cited.{Option, Some, refl, ap, ◌∙◌, arith, option_to_list, rules, slice_get, filter_map}
 use Rattle.rank_sched.proofs.Cited.{cons_option, IsDistinct, IsPermutation, IsSortedBy, option_map, IsPermutation-map}
 use Rattle.rank_sched.proofs.Cited.{length_permutation, IsPermutation-trans, IsPermutation-sym}
@@ -11,20 +11,6 @@ use Rattle.rank_sched.proofs.PlanOrder.{sorted-in_turn, strictly, sort-in_turn, 
 use Rattle.rank_sched.proofs.PlanOrder.{one_order}
 
 -- ---- one place more
-
--- one place more of a list adds what is made of the element there
-pub map-more : {A B : Type 0} (f : A → B) (xs : List A) (i : ℕ) (b : B) → option_map f (slice_get xs i) ≡ Some b
-    → map f (take (suc i) xs) ≡ map f (take i xs) ++ b ∷ []
-map-more f [] i b e = absurd cc
-map-more f (x ∷ xs) zero b e = cc
-map-more f (x ∷ xs) (suc i) b e = ap (λ l. f x ∷ l) (map-more f xs i b e)
-
--- what is at a place of a list that was made of another
-pub made_at : {A B : Type 0} (f : A → B) (xs : List A) (i : ℕ) (d : B) → i < length xs
-    → option_map f (slice_get xs i) ≡ Some (get_or (map f xs) i d)
-made_at f [] i d lt = absurd (omega arith)
-made_at f (x ∷ xs) zero d lt = refl
-made_at f (x ∷ xs) (suc i) d lt = made_at f xs i d (omega arith)
 
 -- an element in front of two lists is in front of the first
 cons-append : {B : Type 0} (a : Option B) (xs ys : List B) → cons_option a (xs ++ ys) ≡ cons_option a xs ++ ys

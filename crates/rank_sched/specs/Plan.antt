@@ -1,7 +1,7 @@
 -- The plan of a query: its morsels with their bounds, in the order in which they are drawn.
 use Rattle.std.specs.Prelude.{◌≡◌, Bool, true, ◌&&◌, ◌||◌, List, [], ◌∷◌, map, Option, ℤ}
 use Rattle.std.specs.Prelude.{int_lt}
-use Rattle.std.specs.List.{AllByRecursion}
+use Rattle.std.specs.List.{AllByRecursion, filter_map}
 use Rattle.std.specs.List.Sorted.{IsPermutation}
 use Rattle.std.specs.Option.{option_map}
 use Rattle.std.specs.declared.cmp.Ordering.{Ordering}
@@ -76,10 +76,10 @@ pub record IsPlan (p : Plan) : Type 0 where
 abbrev pub measured_at : Query → Data → Station → Option Morsel
 measured_at q c st = option_map (measured q) (morsel_at q c st)
 
--- the bound of a station that is a morsel
-abbrev pub measure_of : Query → Data → Station → Option ℤ
-measure_of q c st = option_map (bound q) (morsel_at q c st)
+-- the morsels of all listed stations in file order, none if a station has no morsel
+abbrev pub measures : Query → Data → List (Option Morsel)
+measures q c = map (measured_at q c) c.stations
 
--- the bounds of all listed stations in file order, none if a station isn't a morsel
-abbrev pub measures : Query → Data → List (Option ℤ)
-measures q c = map (measure_of q c) c.stations
+-- the morsels that were found at some places, in the order of these
+abbrev pub found_among : List (Option Morsel) → List Morsel
+found_among at_places = filter_map (λ found. found) at_places

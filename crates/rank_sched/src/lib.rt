@@ -29,7 +29,7 @@ pub use laws::{
 pub use line::Line;
 pub use machine::Machine;
 pub use measured::measure;
-pub use plan::Plan;
+pub use plan::{Morsel, Plan};
 pub use record::{Record, record_of};
 pub use replayed::replay;
 pub use turn::Turn;

@@ -5,14 +5,14 @@ ghost use Rattle.rank_pool.specs.Pools.{taken};
 ghost use Rattle.std.specs.List.{filter_map};
 ghost use Rattle.std.specs.Option.{option_map, option_copied, option_to_list};
 ghost use Rattle.ghcn_series.specs.Held.{IsContents};
-ghost use Rattle.rank_query.specs.Meaning.Asked.{Query, IsAsked, score_element};
+ghost use Rattle.rank_query.specs.Meaning.Asked.{IsAsked};
 ghost use Rattle.rank_sched.specs.Plan as plan;
 ghost use Rattle.rank_sched.specs.Task.{task_of, IsFair};
 
 use crate::Line;
 use crate::measured::measure;
 use ghcn_fields::Memory;
-use ghcn_files::{Element, StationId, Stations};
+use ghcn_files::{StationId, Stations};
 use ghcn_series::{Data, Series};
 use rank_pool::Pool;
 use rank_query::{Query, Region};
@@ -23,7 +23,7 @@ use std::marker::Model;
 
 /// A series of the query, and a number that no candidate's score exceeds.
 #[derive(Clone, Copy)]
-pub(crate) struct Morsel<'a> {
+pub struct Morsel<'a> {
     pub(crate) series: &'a Series,
     pub(crate) bound: i64,
 }
@@ -65,22 +65,20 @@ impl<'a> Plan<'a> {
         if let Region::Only(id) = query.region() {
             return Plan::of_station(alloc, dataset, query, &id);
         }
-        let bounds = bounds_of(alloc, dataset, query)?;
-        Plan::of_bounds(alloc, dataset, query, bounds.as_slice())
+        let morsels = morsels_of(alloc, dataset, query)?;
+        Ok(Plan::of_morsels(dataset, query, morsels))
     }
 
-    /// The same plan, from what `measure` returns for each place in turn.
-    pub fn of_bounds(
-        alloc: Global,
-        dataset: &'a Data,
-        query: &Query,
-        bounds: &[Option<i64>],
-    ) -> Result<Self, Memory>
-        requires { bounds.now ≡ plan.measures query.now dataset.now }
-        ensures { IfOk result (λ made. made ≡ plan.planned query.now dataset.now) }
+    /// The same plan, from the morsels that `measure` returns for the places in turn.
+    pub fn of_morsels(dataset: &'a Data, query: &Query, morsels: Vec<Morsel<'a>>) -> Self
+        requires { map plan.planned_morsel morsels.items
+            ≡ plan.found_among (plan.measures query.now dataset.now) }
+        ensures { result ≡ plan.planned query.now dataset.now }
     {
-        let morsels = morsels_of(alloc, dataset, query, bounds)?;
-        Ok(Plan::of_morsels(dataset, query, morsels))
+        // What is true of all queries and of all data.
+        query.element();
+        dataset.stations();
+        Plan::in_turn(dataset, query, morsels)
     }
 
     /// The same plan, if the query is about the station with this ID.
@@ -97,11 +95,11 @@ impl<'a> Plan<'a> {
         if let Some(morsel) = morsel_of_station(alloc, dataset, query, id)? {
             morsels.push(morsel)?;
         }
-        Ok(Plan::of_morsels(dataset, query, morsels))
+        Ok(Plan::in_turn(dataset, query, morsels))
     }
 
     /// The same plan, from its morsels in the order of their stations.
-    fn of_morsels(dataset: &'a Data, query: &Query, mut morsels: Vec<Morsel<'a>>) -> Self
+    fn in_turn(dataset: &'a Data, query: &Query, mut morsels: Vec<Morsel<'a>>) -> Self
         requires asked { IsAsked query.now }
         requires contents { IsContents dataset.now }
         requires morsels { map plan.planned_morsel morsels.items
@@ -189,38 +187,18 @@ impl<'a> Plan<'a> {
     }
 }
 
-/// The bounds of all listed stations, in their order.
-pub(crate) fn bounds_of(
-    alloc: Global,
-    dataset: &Data,
-    query: &Query,
-) -> Result<Vec<Option<i64>>, Memory>
-    ensures { IfOk result (λ bounds. bounds.items ≡ plan.measures query.now dataset.now) }
-{
-    let mut bounds = Vec::new(alloc);
-    for place in 0..dataset.stations().len() {
-        bounds.push(measure(alloc, dataset, query, place)?)?;
-    }
-    Ok(bounds)
-}
-
-/// The morsels in the order of their stations, from the bounds of all stations.
+/// The morsels of all listed stations, in their order.
 fn morsels_of<'a>(
     alloc: Global,
     dataset: &'a Data,
     query: &Query,
-    bounds: &[Option<i64>],
 ) -> Result<Vec<Morsel<'a>>, Memory>
-    requires { bounds.now ≡ plan.measures query.now dataset.now }
-    ensures morsels { IfOk result (λ morsels. map plan.planned_morsel morsels.items
-        ≡ filter_map (plan.measured_at query.now dataset.now) dataset.now.stations) }
-    ensures asked { IsAsked query.now }
-    ensures contents { IsContents dataset.now }
+    ensures { IfOk result (λ morsels. map plan.planned_morsel morsels.items
+        ≡ plan.found_among (plan.measures query.now dataset.now)) }
 {
-    let element = query.element();
     let mut morsels = Vec::new(alloc);
     for place in 0..dataset.stations().len() {
-        if let Some(morsel) = measured_at(dataset, element, place, bounds[place as usize]) {
+        if let Some(morsel) = measure(alloc, dataset, query, place)? {
             morsels.push(morsel)?;
         }
     }
@@ -240,29 +218,11 @@ fn morsel_of_station<'a>(
     ensures asked { IsAsked query.now }
     ensures contents { IsContents dataset.now }
 {
-    let element = query.element();
+    query.element();
     let Some(place) = dataset.stations().place(id) else {
         return Ok(None);
     };
-    let bound = measure(alloc, dataset, query, place)?;
-    Ok(measured_at(dataset, element, place, bound))
-}
-
-/// The morsel of the station at a place, if the station has a bound.
-fn measured_at<'a>(
-    dataset: &'a Data,
-    element: Element,
-    place: u64,
-    bound: Option<i64>,
-) -> Option<Morsel<'a>>
-    ensures { (q : Query) → element ≡ score_element q.score →
-        option_map (plan.measure_of q dataset.now) (slice_get dataset.now.stations place) ≡ Some bound →
-        option_map (plan.measured_at q dataset.now) (slice_get dataset.now.stations place)
-        ≡ Some (option_map plan.planned_morsel result) }
-{
-    let bound = bound?;
-    let series = dataset.series_at(place, element)?;
-    Some(Morsel { series, bound })
+    measure(alloc, dataset, query, place)
 }
 
 /// Which of two morsels is drawn first.
