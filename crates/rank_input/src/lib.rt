@@ -9,6 +9,7 @@ mod intake;
 mod limits;
 mod list;
 mod named;
+mod pairs;
 mod queries;
 mod question;
 mod shares;

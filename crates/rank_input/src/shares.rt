@@ -12,6 +12,7 @@ ghost use Rattle.rank_input.specs.Takes.{file_input, HasTaken, HasTakenSome};
 use crate::archive::{Archive, Place, feed_files, piece_room};
 use crate::intake::Intake;
 use crate::list::StationList;
+use crate::pairs::take_pairs;
 use crate::stretches::{WORTH_A_CUT, id_on, take_one};
 use ghcn_files::{Keep, Stations};
 use ghcn_series::{JoinLines, LineReader};
@@ -25,6 +26,9 @@ const WORTH_A_SHARE: u64 = 1 << 23;
 
 /// The most shares.
 const MOST_SHARES: u64 = 64;
+
+/// How many files a share has at least if it is read as a pair.
+const SMALL_FILES: u64 = 8;
 
 /// Daily files, named by their paths, and what they are read for.
 #[derive(Clone, Copy)]
@@ -136,6 +140,20 @@ fn take_shares<R: Threads + Sync, A: Archive<File: Send> + Sync, L: JoinLines<Do
         return None;
     }
     let list = daily.stations.stations(rt, alloc)?;
+    let small = size / shares / SMALL_FILES;
+    if sizes.iter().all(|size| *size <= small) {
+        return take_pairs(
+            rt,
+            alloc,
+            archive,
+            &list,
+            daily.keep,
+            daily.paths,
+            &sizes,
+            size,
+            shares,
+        );
+    }
     take_parts(
         rt,
         alloc,
@@ -212,7 +230,7 @@ fn take_parts<R: Threads + Sync, A: Archive<File: Send> + Sync, L: JoinLines<Don
     if let [path] = paths {
         return take_one(rt, alloc, archive, list, keep, path, size, shares);
     }
-    let (from, share) = cut(sizes, size / shares);
+    let (from, share) = cut_back(sizes, size / shares);
     let after = (share / (size / shares).max(1)).clamp(1, shares - 1);
     let before = shares - after;
     let (front, own) = paths.split_at(from);
@@ -252,7 +270,7 @@ fn take_parts<R: Threads + Sync, A: Archive<File: Send> + Sync, L: JoinLines<Don
 }
 
 /// Takes the files of a share one after the other, for the stations of the list.
-fn take_part<A: Archive, L: LineReader>(
+pub(crate) fn take_part<A: Archive, L: LineReader>(
     alloc: Global,
     archive: &A,
     list: &Stations,
@@ -273,7 +291,7 @@ fn take_part<A: Archive, L: LineReader>(
 
 /// Whether the last of some files and the first of those after them begin with one station, as files by year do. Then
 /// two shares would have months of it.
-fn begin_alike<A: Archive>(archive: &A, before: &[String], after: &[String]) -> bool {
+pub(crate) fn begin_alike<A: Archive>(archive: &A, before: &[String], after: &[String]) -> bool {
     let (Some(last), Some(first)) = (before.last(), after.first()) else {
         return false;
     };
@@ -293,7 +311,7 @@ fn first_id<A: Archive>(archive: &A, path: &str) -> Option<[u8; 11]> {
 
 /// Where the last of some files begin that have a share of the bytes, as nearly as whole files allow, and how many
 /// bytes these have. They are at least one file.
-fn cut(sizes: &[u64], share: u64) -> (usize, u64)
+pub(crate) fn cut_back(sizes: &[u64], share: u64) -> (usize, u64)
     ensures { result.0 ≤ length sizes.now }
 {
     let mut cut: u64 = 0;

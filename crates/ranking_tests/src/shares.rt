@@ -271,6 +271,115 @@ fn shares_of_files(rt: HostRuntime) -> Result<(), Fail> {
     Ok(())
 }
 
+/// Twenty-six files, and three to put in the place of some of these.
+const SMALL: Texts = &[
+    ("a", ALPHA_IN_JULY),
+    ("b", UNLISTED),
+    ("c", b""),
+    ("d", b""),
+    ("e", b""),
+    ("f", b""),
+    ("g", b""),
+    ("h", b""),
+    ("i", b""),
+    ("j", b""),
+    ("k", b""),
+    ("l", b""),
+    ("m", BETA_IN_JULY),
+    ("n", b""),
+    ("o", b""),
+    ("p", b""),
+    ("q", b""),
+    ("r", b""),
+    ("s", b""),
+    ("t", b""),
+    ("u", b""),
+    ("v", b""),
+    ("w", b""),
+    ("x", b"ZZA00000001202007TAVG\nZZA00000001202007----\n"),
+    ("y", b""),
+    ("z", UNLISTED),
+    ("again", ALPHA_IN_AUGUST),
+    ("short", b"\nZZA\n"),
+    ("short too", b"\nZZA\n"),
+];
+
+/// Names to put at some places.
+type Changes = &'static [(usize, &'static str)];
+
+/// The names of the first twenty-six, with others at some places.
+fn names_with(alloc: Global, others: Changes) -> Result<Vec<&'static str>, AllocError> {
+    let mut names = Vec::new(alloc);
+    for (at, (own, _)) in SMALL.iter().take(26).enumerate() {
+        let mut name: &'static str = own;
+        for (place, other) in others {
+            if *place == at {
+                name = other;
+            }
+        }
+        names.push(name)?;
+    }
+    Ok(names)
+}
+
+/// If there are at least eight files for each reader, each but one takes files from the front and from the back.
+#[test]
+fn pairs_of_shares(rt: HostRuntime) -> Result<(), Fail> {
+    let warned = "unlisted 2 foreign 1 Some(23) odd 1 Some(LinePlace { file: 23, line: 2 })";
+    let less = "unlisted 1 foreign 1 Some(23) odd 1 Some(LinePlace { file: 23, line: 2 })";
+    let short = "refused 5 DailyLine file 1 line 2 ";
+    // How many readers there may be, what is put at which places, what is shown, and how often a file is opened: twice
+    // more for each reader and side of a cut, and once more if they can't be joined.
+    let cases: [(u64, Changes, &str, &str, u64); 9] = [
+        (1, &[], "310 - 320 - ", warned, 26),
+        (2, &[], "310 - 320 - ", warned, 30),
+        (3, &[], "310 - 320 - ", warned, 34),
+        // One reader has months of ALPHA from the front and from the back.
+        (2, &[(25, "again")], "310 200 320 - ", less, 56),
+        // The last file of the front and the first one after it are of ALPHA, or those at the other cut.
+        (
+            2,
+            &[(0, "f"), (5, "a"), (6, "again")],
+            "310 200 320 - ",
+            warned,
+            28,
+        ),
+        (
+            2,
+            &[(0, "t"), (19, "a"), (20, "again")],
+            "310 200 320 - ",
+            warned,
+            30,
+        ),
+        (2, &[(0, "short"), (25, "short too")], short, "Short", 56),
+        (
+            2,
+            &[(9, "short too"), (2, "short")],
+            "refused 5 DailyLine file 3 line 2 ",
+            "Short",
+            56,
+        ),
+        (3, &[(13, "none")], "none ", "can't be read", 44),
+    ];
+    for (readers, others, first, second, opened) in cases {
+        let names = names_with(rt.alloc(), others)?;
+        let archive = Large {
+            files: SMALL,
+            opened: AtomicU64::new(0),
+            most: 999,
+        };
+        let mut found = held_in(&rt, &archive, "top 1 highest TMAX", &names, readers)?;
+        write!(found, ", {} opened", archive.opened.load(Ordering::SeqCst))?;
+        let expected = format!(in rt.alloc(); "{first}{second}, {opened} opened")?;
+        assert_eq!(rt;
+            found.as_str(),
+            expected.as_str(),
+            "{others:?} by {readers}"
+        );
+    }
+    Ok(())
+}
+
 /// A file that can be opened once only is reported if it has to be read again, and an error of the query comes after
 /// files that can't be read.
 #[test]

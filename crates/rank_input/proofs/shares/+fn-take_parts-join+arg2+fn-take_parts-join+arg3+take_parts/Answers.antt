@@ -32,5 +32,5 @@ returns g t c = λ text is.
     IfSome_then c.join.result c.join.ensures.joined (λ both joins.
     joined_shares g.L.LineReader.has_read (g.A.Archive.bytes_of c.args.archive.now)
     (g.A.Archive.opens c.args.archive.now) c.args.keep text c.args.paths.now
-    c.split_at.result.0.now c.split_at.result.1.now c.cut-from.result.0 c.in_ok-first.field-0 c.in_ok-last.field-0 both
+    c.split_at.result.0.now c.split_at.result.1.now c.cut_back-from.result.0 c.in_ok-first.field-0 c.in_ok-last.field-0 both
     c.split_at.ensures.front c.split_at.ensures.back one two joins)
