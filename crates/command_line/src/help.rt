@@ -29,7 +29,12 @@ pub const WORKERS_HELP: &str =
     "How many threads read the files, and then look for records, 1 to 64; without this option
           there are 4. Fewer read, and one looks for records, if the files are small";
 
-/// The help of `--workers` of `check` and of `describe`.
+/// The help of `--workers` of `check`.
+pub const CHECKERS_HELP: &str =
+    "How many threads read the files, and then scan them for records, 1 to 64; without this
+          option there are 4. Fewer read, and one scans, if the files are small";
+
+/// The help of `--workers` of `describe`.
 pub const READERS_HELP: &str =
     "How many threads read the files, 1 to 64; without this option there are 4. Fewer read if
           the files are small";

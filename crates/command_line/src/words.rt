@@ -23,12 +23,12 @@ use crate::given::{
 };
 use crate::help::{
     CERTIFICATE_HELP, CHECK_HELP, CHECK_USAGE, CHECKED_QUERIES_HELP, CHECKED_QUERY_HELP,
-    DESCRIBE_HELP, FILES_HELP, FOLDER_HELP, FOLDER_TO_CHECK_HELP, FOLDER_WITHOUT_QUERIES,
-    GUESS_HELP, HELP, LIST_HELP, MERGE_HELP, MERGE_USAGE, MERGED_CERTIFICATE_HELP,
-    NO_FOLDER_TO_CHECK, NO_PAPERS_TO_CHECK, NO_QUERY, NULL_HELP, ODD_PAPERS, PAPERS_HELP,
-    PART_HELP, PLACES_HELP, PROGRESS_HELP, QUERIES_AND_A_QUERY, QUERIES_AND_PAPERS, QUERIES_HELP,
-    QUERY_HELP, RANK_HELP, RANK_USAGE, READERS_HELP, REPORTS_HELP, STATIONS_HELP, TABLE_HELP,
-    TWO_INPUTS, USAGE, VERSION, WORKERS_HELP,
+    CHECKERS_HELP, DESCRIBE_HELP, FILES_HELP, FOLDER_HELP, FOLDER_TO_CHECK_HELP,
+    FOLDER_WITHOUT_QUERIES, GUESS_HELP, HELP, LIST_HELP, MERGE_HELP, MERGE_USAGE,
+    MERGED_CERTIFICATE_HELP, NO_FOLDER_TO_CHECK, NO_PAPERS_TO_CHECK, NO_QUERY, NULL_HELP,
+    ODD_PAPERS, PAPERS_HELP, PART_HELP, PLACES_HELP, PROGRESS_HELP, QUERIES_AND_A_QUERY,
+    QUERIES_AND_PAPERS, QUERIES_HELP, QUERY_HELP, RANK_HELP, RANK_USAGE, READERS_HELP,
+    REPORTS_HELP, STATIONS_HELP, TABLE_HELP, TWO_INPUTS, USAGE, VERSION, WORKERS_HELP,
 };
 use clap::builder::ValueParser;
 use clap::error::ErrorKind;
@@ -203,7 +203,7 @@ fn check_words<'a>(alloc: Global) -> Result<clap::Command<'a>, AllocError>
         .arg(option(alloc, "queries", "FILE", CHECKED_QUERIES_HELP))?
         .arg(option(alloc, "papers", "FOLDER", FOLDER_TO_CHECK_HELP))?
         .arg(flag(alloc, "part", PART_HELP))?
-        .arg(readers(alloc))?;
+        .arg(readers(alloc, CHECKERS_HELP))?;
     with_files(alloc, check)
 }
 
@@ -216,7 +216,7 @@ fn describe_words<'a>(alloc: Global) -> Result<clap::Command<'a>, AllocError>
         .about("Counts what daily files hold")
         .after_help(DESCRIBE_HELP)
         .arg(needed(alloc, "stations", "FILE", STATIONS_HELP))?
-        .arg(readers(alloc))?;
+        .arg(readers(alloc, READERS_HELP))?;
     with_files(alloc, describe)
 }
 
@@ -269,11 +269,11 @@ fn needed<'a>(alloc: Global, name: &'a str, value: &'a str, help: &'a str) -> Ar
 }
 
 /// The option of how many threads may read.
-fn readers<'a>(alloc: Global) -> Arg<'a>
+fn readers<'a>(alloc: Global, help: &'a str) -> Arg<'a>
     ensures rule { rule_of result ≡ parsed few_readers (option_of (codes "workers")) }
     ensures local { is_global result ≡ false }
 {
-    option(alloc, "workers", "N", READERS_HELP).value_parser(ValueParser::unsigned(1, MOST_READERS))
+    option(alloc, "workers", "N", help).value_parser(ValueParser::unsigned(1, MOST_READERS))
 }
 
 /// A flag, which may be given once.

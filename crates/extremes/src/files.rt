@@ -209,11 +209,13 @@ pub(crate) fn judge_files<'p, R: Threads + AllocGlobal + Sync, A: Archive<File: 
         &mut room,
     )?;
     Ok(judge_as(
+        rt,
         alloc,
         question,
         judging.part,
         &papers.report,
         &papers.certificate,
+        judging.workers,
     ))
 }
 

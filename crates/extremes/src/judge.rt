@@ -14,12 +14,13 @@ use crate::judgement::Judgement;
 use crate::laws::parts_judge_the_whole;
 use ghcn_fields::Memory;
 use ghcn_series::{Data, Warnings};
-use rank_check::{Verdict, check, verdict_of_one_element};
-use rank_input::{Fault, Question};
+use rank_check::{Verdict, check, check_by, verdict_of_one_element};
+use rank_input::{Fault, Question, workers_for};
 use rank_papers::{papers_are_found, papers_are_said, papers_of_one_element};
 use rank_parts::{PartVerdict, check_part, part_verdict_of_one_element};
 use rank_query::Query;
 use std::alloc::Global;
+use std::thread::Threads;
 
 /// Checks a report and a certificate of a query, whatever program made them, over a station list and
 /// daily files: accepted if and only if the report is the right one and the certificate a right one.
@@ -72,13 +73,16 @@ pub fn judge_part(
 }
 
 /// Checks a report and a certificate against what was given: as `judge_part` does if that is a part of
-/// their files, and otherwise as `judge` does. Returns the foreign files and the odd lines too.
-pub fn judge_as(
+/// their files, and otherwise as `judge` does, by at most that many workers. Returns the foreign files and the odd
+/// lines too.
+pub fn judge_as<R: Threads + Sync>(
+    rt: &R,
     alloc: Global,
     question: Question,
     part: bool,
     report: &[u8],
     certificate: &[u8],
+    workers: u64,
 ) -> Result<(Judgement, Warnings), Fault>
     requires { HasTakenSome question }
     ensures ok { IfOk result (λ judged. JudgesInputAs part question report.now certificate.now judged.0) }
@@ -89,8 +93,40 @@ pub fn judge_as(
         let (verdict, warnings) = judge_part_intake(alloc, question, report, certificate)?;
         return Ok((Judgement::Part(verdict), warnings));
     }
-    let (verdict, warnings) = judge_intake(alloc, question, report, certificate)?;
+    let (verdict, warnings) = judge_intake_by(rt, alloc, question, report, certificate, workers)?;
     Ok((Judgement::Whole(verdict), warnings))
+}
+
+/// The same as `judge_intake`, by at most that many workers, or by fewer if little was given.
+fn judge_intake_by<R: Threads + Sync>(
+    rt: &R,
+    alloc: Global,
+    question: Question,
+    report: &[u8],
+    certificate: &[u8],
+    workers: u64,
+) -> Result<(Verdict, Warnings), Fault>
+    requires { HasTakenSome question }
+    ensures ok { IfOk result (λ judged. JudgesInput question report.now certificate.now judged.0) }
+    ensures warnings { IfOk result (λ judged. AreWarningsOf question judged.1) }
+    ensures err { IfErr result (RefusesInput question) }
+{
+    let started = workers_for(workers.clamp(1, 64), question.files.bytes);
+    let taken = question.finish()?;
+    // As in `judge_intake`.
+    papers_of_one_element();
+    papers_are_said();
+    verdict_of_one_element();
+    let verdict = judge_dataset_by(
+        rt,
+        alloc,
+        &taken.dataset,
+        &taken.query,
+        report,
+        certificate,
+        started,
+    )?;
+    Ok((verdict, taken.warnings))
 }
 
 /// Checks a report and a certificate against what was given, as `judge` does. Returns the foreign files and
@@ -116,7 +152,7 @@ pub fn judge_intake(
 }
 
 /// Checks a report and a certificate of a query against some data.
-pub(crate) fn judge_dataset(
+fn judge_dataset(
     alloc: Global,
     dataset: &Data,
     query: &Query,
@@ -134,6 +170,28 @@ pub(crate) fn judge_dataset(
     papers_are_found();
     let (_stations, _k) = (dataset.stations(), query.k());
     check(alloc, dataset, query, report, certificate)
+}
+
+/// The same by at most that many workers.
+pub(crate) fn judge_dataset_by<R: Threads + Sync>(
+    rt: &R,
+    alloc: Global,
+    dataset: &Data,
+    query: &Query,
+    report: &[u8],
+    certificate: &[u8],
+    workers: u64,
+) -> Result<Verdict, Memory>
+    ensures verdict { IfOk result (λ found.
+        found ≡ tests.verdict query.now dataset.now report.now certificate.now) }
+    ensures accepted { IfOk result (λ found. (found ≡ Verdict.Accepted)
+        ↔ (IsRightReportFor query.now dataset.now report.now
+        × (version : ℕ) × IsRightCertificateFor version query.now dataset.now certificate.now)) }
+{
+    // As in `judge_dataset`.
+    papers_are_found();
+    let (_stations, _k) = (dataset.stations(), query.k());
+    check_by(rt, alloc, dataset, query, report, certificate, workers)
 }
 
 /// Checks a report and a certificate against what was given, as `judge_part` does. Returns the foreign files

@@ -11,7 +11,7 @@ ghost use Rattle.extremes.specs.Printed.{judgement_line};
 
 use crate::checked_papers::{JudgingStop, read_papers};
 use crate::ending::Ending;
-use crate::judge::judge_dataset;
+use crate::judge::judge_dataset_by;
 use crate::judgement::{Judgement, ending};
 use ghcn_fields::Memory;
 use ghcn_series::{Data, RowReader, Warnings};
@@ -22,6 +22,7 @@ use rank_parts::{check_part, part_verdict_of_one_element};
 use rank_query::Query;
 use rank_scores::own_element_among_others;
 use std::alloc::{AllocError, Global};
+use std::thread::Threads;
 
 /// What is said of the reports and the certificates of some queries.
 #[derive(Debug, Drop)]
@@ -38,12 +39,15 @@ pub(crate) struct PapersToCheck<'f> {
     pub(crate) folder: &'f str,
     /// Whether the files are a part of those that the reports and the certificates cover.
     pub(crate) part: bool,
+    /// By how many workers at most each query is checked.
+    pub(crate) workers: u64,
 }
 
 /// Checks the report and the certificate of each query against what was given, as those of a whole if
 /// the files are a part of one, and returns the foreign files and the odd lines too. The intake kept
 /// the elements of these queries.
-pub(crate) fn judge_each<A: Archive>(
+pub(crate) fn judge_each<R: Threads + Sync, A: Archive>(
+    rt: &R,
     alloc: Global,
     archive: &A,
     intake: Intake<RowReader>,
@@ -62,7 +66,7 @@ pub(crate) fn judge_each<A: Archive>(
             papers_are_said();
             verdict_of_one_element();
             part_verdict_of_one_element();
-            let verdicts = verdicts_of_each(alloc, archive, &dataset, queries, papers)?;
+            let verdicts = verdicts_of_each(rt, alloc, archive, &dataset, queries, papers)?;
             Ok((verdicts, warnings))
         }
         Err(fault) => Err(JudgingStop::Input(fault)),
@@ -71,7 +75,8 @@ pub(crate) fn judge_each<A: Archive>(
 
 /// The verdicts on the report and the certificate of each query over the data. They are read one pair
 /// after the other, and one pair is held at a time.
-fn verdicts_of_each<A: Archive>(
+fn verdicts_of_each<R: Threads + Sync, A: Archive>(
+    rt: &R,
     alloc: Global,
     archive: &A,
     dataset: &Data,
@@ -91,6 +96,7 @@ fn verdicts_of_each<A: Archive>(
     for query in queries {
         number += 1;
         add_verdict(
+            rt,
             alloc,
             archive,
             dataset,
@@ -105,7 +111,8 @@ fn verdicts_of_each<A: Archive>(
 
 /// Checks the report and the certificate of the query of this number over the data, and adds the
 /// verdict to others.
-fn add_verdict<A: Archive>(
+fn add_verdict<R: Threads + Sync, A: Archive>(
+    rt: &R,
     alloc: Global,
     archive: &A,
     dataset: &Data,
@@ -119,15 +126,21 @@ fn add_verdict<A: Archive>(
     ensures stopped { IfErr result (StopsJudging (A.opens archive.now)
         (both_paths papers.entry.folder.now number)) }
 {
-    let PapersToCheck { folder, part } = papers;
+    let PapersToCheck {
+        folder,
+        part,
+        workers,
+    } = papers;
     let texts = read_papers(alloc, archive, folder, number)?;
     let judgement = judge_over(
+        rt,
         alloc,
         dataset,
         query,
         part,
         &texts.report,
         &texts.certificate,
+        workers,
     )?;
     add_judgement(alloc, &judgement, verdicts)?;
     Ok(())
@@ -135,13 +148,15 @@ fn add_verdict<A: Archive>(
 
 /// Checks a report and a certificate of a query over the data, as those of a whole if the data are a
 /// part of its.
-fn judge_over(
+fn judge_over<R: Threads + Sync>(
+    rt: &R,
     alloc: Global,
     dataset: &Data,
     query: &Query,
     part: bool,
     report: &[u8],
     certificate: &[u8],
+    workers: u64,
 ) -> Result<Judgement, Memory>
     ensures { IfOk result (IsJudgedOver part query.now dataset.now (report.now, certificate.now)) }
 {
@@ -149,7 +164,7 @@ fn judge_over(
         let verdict = check_part(alloc, dataset, query, report, certificate)?;
         return Ok(Judgement::Part(verdict));
     }
-    let verdict = judge_dataset(alloc, dataset, query, report, certificate)?;
+    let verdict = judge_dataset_by(rt, alloc, dataset, query, report, certificate, workers)?;
     Ok(Judgement::Whole(verdict))
 }
 

@@ -12,6 +12,7 @@ use ghcn_series::{RowReader, Warnings};
 use progress::{Watch, Watched};
 use rank_input::{
     Archive, Daily, Fault, Intake, needed_by, piece_room, read_station_list, take_files,
+    workers_for,
 };
 use rank_query::Query;
 use std::thread::Threads;
@@ -99,6 +100,7 @@ fn judge_each_files<'p, R: Threads + AllocGlobal + Sync, A: Archive<File: Send> 
     let papers = PapersToCheck {
         folder: &judging.folder,
         part: judging.part,
+        workers: workers_for(judging.workers.clamp(1, 64), intake.bytes),
     };
-    Ok(judge_each(alloc, archive, intake, queries, papers))
+    Ok(judge_each(rt, alloc, archive, intake, queries, papers))
 }

@@ -1,13 +1,14 @@
 //! Lines of a certificate, and stations without one, checked by themselves.
 
-use crate::data::{A, B, C, usual_data};
+use crate::data::{A, B, C, CERTIFICATE, REPORT, usual_data};
 use ghcn_fields::Day;
 use ghcn_files::StationId;
-use rank_check::{Why, check_absent, check_line};
+use rank_check::{Why, check, check_absent, check_by, check_line};
 use rank_papers::{Line, Row};
 use rank_query::Query;
 use rank_scores::Candidate;
 use std::alloc::Global;
+use std::test::Fail;
 
 /// A line of a certificate: the station, whether it is skipped, the bound and the count.
 type Printed = (StationId, bool, i64, u64);
@@ -98,4 +99,50 @@ fn stations_without_lines(rt: HostRuntime) {
     for (query, expected) in cases {
         assert_eq!(rt; is_absent(rt.alloc(), query), Some(expected), "at {query}");
     }
+}
+
+const SECOND_BEST: &str = "extremes report 1
+query top 1 highest TMAX
+1 ZZA00000002 2020-07-01 2020-07-01 31.1 C BRAVO
+end 1
+";
+
+const NO_ROWS: &str = "extremes report 1
+query top 1 highest TMAX
+end 0 all
+";
+
+const LOW_BOUND: &str = "extremes certificate 2
+query top 1 highest TMAX
+kth 311
+scan ZZA00000001 311 1
+scan ZZA00000002 310 0
+skip ZZA00000003 250
+end 3
+";
+
+/// The verdict of several workers, of whom each has some of the three series, is that of one.
+#[test]
+fn checks_by_several_workers(rt: HostRuntime) -> Result<(), Fail> {
+    let alloc = rt.alloc();
+    let (Some(dataset), Ok(query)) = (usual_data(alloc), Query::parse("top 1 highest TMAX")) else {
+        return Err(Fail::from("no data"));
+    };
+    let cases = [
+        (REPORT, CERTIFICATE, "accepted"),
+        (SECOND_BEST, CERTIFICATE, "refused report line 3 NotBest"),
+        (NO_ROWS, CERTIFICATE, "refused report line 3 TooFew"),
+        (REPORT, LOW_BOUND, "refused certificate line 5 NoBound"),
+        (REPORT, REPORT, "refused certificate line 1 Form"),
+    ];
+    for (report, certificate, expected) in cases {
+        let (report, certificate) = (report.as_bytes(), certificate.as_bytes());
+        let alone = check(alloc, &dataset, &query, report, certificate)?;
+        assert_eq!(rt; alone.to_string(alloc)?.as_str(), expected);
+        for workers in 0..5 {
+            let found = check_by(&rt, alloc, &dataset, &query, report, certificate, workers)?;
+            assert_eq!(rt; found, alone, "by {workers}");
+        }
+    }
+    Ok(())
 }

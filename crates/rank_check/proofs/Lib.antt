@@ -21,3 +21,4 @@ pub mod Piecing
 pub mod Members
 pub mod QueryMembers
 pub mod RowsWithin
+pub mod Together

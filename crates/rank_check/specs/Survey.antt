@@ -33,6 +33,14 @@ met_by c m = record {
   ahead = if precedes c m.candidate then in_64_bits (m.ahead + 1) else m.ahead;
 }
 
+-- what is known of a row from some candidates and then from others
+abbrev pub met_both : Met → Met → Met
+met_both m other = record {
+  candidate = m.candidate;
+  present = m.present || other.present;
+  ahead = in_64_bits (m.ahead + other.ahead);
+}
+
 -- the greater of a score and those before it
 abbrev pub raised : Option ℤ → ℤ → ℤ
 raised None score = score
@@ -94,6 +102,13 @@ candidates_in q ss = flat_map (candidates q) ss
 -- the ID of a series, and its greatest score
 abbrev pub top : Query → Series → Top
 top q s = record { id = s.id; highest = top_score (candidates q s) }
+
+-- what a scan of some series finds: of each row what their candidates say of it, how many these are, and the greatest
+-- score of each series
+pub record AreFoundIn (q : Query) (ss : List Series) (rows : List Candidate) (s : Findings) : Type 0 where
+  pub watched : s.rows.items ≡ map (met (candidates_in q ss)) rows
+  pub count : s.count ≡ in_64_bits (length (candidates_in q ss))
+  pub tops : s.tops.items ≡ map (top q) ss
 
 -- ---- all
 

@@ -14,7 +14,7 @@ ghost use Rattle.rank_check.specs.Tests as tests;
 use crate::lines::lines_fault;
 use crate::refusal::Refusal;
 use crate::rows::rows_fault;
-use crate::survey::{Findings, Top, survey};
+use crate::survey::{Findings, Top, survey, survey_by};
 use crate::verdict::Why;
 use ghcn_fields::Memory;
 use ghcn_series::Data;
@@ -25,6 +25,7 @@ use rank_papers::{
 use rank_query::Query;
 use rank_scores::candidates_of_queries;
 use std::alloc::Global;
+use std::thread::Threads;
 
 /// The first test that a report and a certificate fail, after one pass over the data, if the report
 /// has this query.
@@ -39,22 +40,68 @@ pub(crate) fn judge(
     ensures { IfOk result (λ fault. fault ≡ first_failing (tests.all_tests query.now dataset.now
         (reported_in report.now) (certified_in certificate.now))) }
 {
+    if !is_about(alloc, query, report)? {
+        return Ok(Some(Refusal::new(Paper::Report, 2, Why::OtherQuery)));
+    }
+    let found = survey(alloc, dataset, query, report.rows.as_slice())?;
+    judge_by_findings(alloc, dataset, query, report, certificate, &found)
+}
+
+/// The same, if at most that many workers go through the data.
+pub(crate) fn judge_by<R: Threads + Sync>(
+    rt: &R,
+    alloc: Global,
+    dataset: &Data,
+    query: &Query,
+    report: &Report,
+    certificate: &Certificate,
+    workers: u64,
+) -> Result<Option<Refusal>, Memory>
+    requires { IsReported (reported_in report.now) }
+    ensures { IfOk result (λ fault. fault ≡ first_failing (tests.all_tests query.now dataset.now
+        (reported_in report.now) (certified_in certificate.now))) }
+{
+    if !is_about(alloc, query, report)? {
+        return Ok(Some(Refusal::new(Paper::Report, 2, Why::OtherQuery)));
+    }
+    let found = survey_by(rt, alloc, dataset, query, report.rows.as_slice(), workers)?;
+    judge_by_findings(alloc, dataset, query, report, certificate, &found)
+}
+
+/// Whether a report is about a query.
+fn is_about(alloc: Global, query: &Query, report: &Report) -> Result<bool, Memory>
+    ensures { IfOk result (λ same. same ≡ same_query report.now.query query.now) }
+{
+    is_same_query(alloc, &report.query, query)
+}
+
+/// The first test that a report of this query and a certificate fail, by what was found in the data.
+fn judge_by_findings(
+    alloc: Global,
+    dataset: &Data,
+    query: &Query,
+    report: &Report,
+    certificate: &Certificate,
+    found: &Findings,
+) -> Result<Option<Refusal>, Memory>
+    requires can_be { IsReported (reported_in report.now) }
+    requires same { same_query report.now.query query.now ≡ true }
+    requires found { AreFindings query.now dataset.now (read.candidates_of report.now.rows.items) found.now }
+    ensures { IfOk result (λ fault. fault ≡ first_failing (tests.all_tests query.now dataset.now
+        (reported_in report.now) (certified_in certificate.now))) }
+{
     // The k-th row has the k-th score, since no two candidates of right data belong to one station and begin on one
     // day.
     candidates_of_queries();
     certificates_are_read();
     let _stations = dataset.stations();
-    if !is_same_query(alloc, &report.query, query)? {
-        return Ok(Some(Refusal::new(Paper::Report, 2, Why::OtherQuery)));
-    }
-    let found = survey(alloc, dataset, query, report.rows.as_slice())?;
-    let fault = report_fault(dataset, query, report, &found);
+    let fault = report_fault(dataset, query, report, found);
     if fault.is_some() {
         return Ok(fault);
     }
     let rows = report.rows.as_slice();
     let kth = kth_score(query, rows);
-    certificate_fault(alloc, query, kth, rows, certificate, &found)
+    certificate_fault(alloc, query, kth, rows, certificate, found)
 }
 
 /// The first test that a report of this query fails.

@@ -17,7 +17,7 @@ mod text;
 mod verdict;
 
 pub use laws::{accepted_where_right, verdict_of_one_element};
-pub use papers::check;
+pub use papers::{check, check_by};
 pub use pieces::{check_absent, check_line};
 pub use rank_papers::Paper;
 pub use refusal::Refusal;

@@ -1,12 +1,15 @@
 //! One pass over all data: what it says of the rows of a report, and the greatest score of each series.
 
-ghost use Rattle.std.specs.Prelude.{◌≡◌, map, filter, length, IfOk};
+ghost use Rattle.std.specs.Prelude.{◌≡◌, ◌++◌, List, map, filter, length, IfOk};
+ghost use denote.Param.Send.{IsSync};
+ghost use Rattle.ghcn_series.specs.Meaning.Series as said;
+ghost use Rattle.ghcn_series.specs.Series as held;
 ghost use Rattle.ghcn_series.specs.Held.{IsContents};
-ghost use Rattle.ghcn_series.specs.Says.{in_64_bits};
+ghost use Rattle.rank_query.specs.Meaning.Asked as asked;
+ghost use Rattle.rank_scores.specs.declared.candidate.Candidate as scored;
 ghost use Rattle.rank_scores.specs.Morsels.{admitted_series, has_admitted};
 ghost use Rattle.rank_papers.specs.Papers.{candidates_of};
 ghost use Rattle.rank_check.specs.Survey as survey;
-ghost use Rattle.rank_check.specs.Survey.{candidates_in, met};
 
 use crate::tally::{Met, Tally};
 use ghcn_fields::Memory;
@@ -16,6 +19,7 @@ use rank_papers::Row;
 use rank_query::Query;
 use rank_scores::morsel_at;
 use std::alloc::Global;
+use std::thread::{Threads, join};
 
 /// A series with an admitted day, and the greatest score of its candidates, if it has any.
 #[derive(Clone, Copy, Debug)]
@@ -45,19 +49,72 @@ pub(crate) fn survey(
     ensures { IfOk result (survey.AreFindings query.now dataset.now (candidates_of rows.now)) }
 {
     let morsels = morsels_of(alloc, dataset, query)?;
-    let mut found = scan_all(alloc, morsels.as_slice(), query, rows)?;
+    let found = scan_all(alloc, morsels.as_slice(), query, rows)?;
+    by_id(found)
+}
+
+/// The same by at most that many workers, each but one in a thread of its own.
+pub(crate) fn survey_by<R: Threads + Sync>(
+    rt: &R,
+    alloc: Global,
+    dataset: &Data,
+    query: &Query,
+    rows: &[Row],
+    workers: u64,
+) -> Result<Findings, Memory>
+    ensures { IfOk result (survey.AreFindings query.now dataset.now (candidates_of rows.now)) }
+{
+    let morsels = morsels_of(alloc, dataset, query)?;
+    let found = scan_parts(rt, alloc, morsels.as_slice(), query, rows, workers)?;
+    by_id(found)
+}
+
+/// Puts what was found of the series in the order of their IDs.
+fn by_id(mut found: Findings) -> Result<Findings, Memory>
+    ensures { (q : asked.Query) (c : held.Data) (cs : List scored.Candidate) → IsContents c
+        → survey.AreFoundIn q (filter (has_admitted q) (admitted_series q c)) cs found
+        → IfOk result (survey.AreFindings q c cs) }
+{
     found.tops.sort_by(|a, b| a.id.cmp(&b.id))?;
     Ok(found)
 }
 
+/// Scans each of some series once, by that many workers, or by the caller alone if there are fewer series. The last
+/// series have a thread of their own; the caller scans the others in the same way. If a thread can't be started, the
+/// caller scans its series too.
+fn scan_parts<R: Threads + Sync>(
+    rt: &R,
+    alloc: Global,
+    all: &[&Series],
+    query: &Query,
+    rows: &[Row],
+    workers: u64,
+) -> Result<Findings, Memory>
+    ensures { IfOk result (survey.AreFoundIn query.now (map (λ s. s.now) all.now) (candidates_of rows.now)) }
+{
+    if workers < 2 || (all.len() as u64) < workers {
+        return scan_all(alloc, all, query, rows);
+    }
+    let (front, back) = all.split_at(all.len() - all.len() / workers as usize);
+    let less = workers - 1;
+    let (second, first) = join(
+        rt,
+        move ||
+            ensures { IfOk result (survey.AreFoundIn query.entry.now (map (λ s. s.now) back.entry.now)
+                (candidates_of rows.entry.now)) }
+        { scan_all(alloc, back, query, rows) },
+        move ||
+            requires { IsSync R.row }
+            ensures { IfOk result (survey.AreFoundIn query.entry.now (map (λ s. s.now) front.entry.now)
+                (candidates_of rows.entry.now)) }
+        { scan_parts(rt, alloc, front, query, rows, less) },
+    );
+    both(first?, second?)
+}
+
 /// Scans each of some series once.
 fn scan_all(alloc: Global, all: &[&Series], query: &Query, rows: &[Row]) -> Result<Findings, Memory>
-    ensures rows { IfOk result (λ found. found.rows.items
-        ≡ map (met (candidates_in query.now (map (λ s. s.now) all.now))) (candidates_of rows.now)) }
-    ensures count { IfOk result (λ found. found.count
-        ≡ in_64_bits (length (candidates_in query.now (map (λ s. s.now) all.now)))) }
-    ensures tops { IfOk result (λ found. found.tops.items
-        ≡ map (survey.top query.now) (map (λ s. s.now) all.now)) }
+    ensures { IfOk result (survey.AreFoundIn query.now (map (λ s. s.now) all.now) (candidates_of rows.now)) }
 {
     let mut tally = Tally::of(alloc, rows)?;
     let mut tops = Vec::new(alloc);
@@ -71,6 +128,34 @@ fn scan_all(alloc: Global, all: &[&Series], query: &Query, rows: &[Row]) -> Resu
     Ok(Findings {
         rows: tally.rows(alloc)?,
         count: tally.count(),
+        tops,
+    })
+}
+
+/// What was found of some series and then of others, for the same rows.
+fn both(first: Findings, second: Findings) -> Result<Findings, Memory>
+    requires { length second.rows.items ≡ length first.rows.items }
+    ensures { (q : asked.Query) (ss us : List said.Series) (cs : List scored.Candidate)
+        → survey.AreFoundIn q ss cs first → survey.AreFoundIn q us cs second
+        → IfOk result (survey.AreFoundIn q (ss ++ us) cs) }
+{
+    let Findings {
+        mut rows,
+        count,
+        mut tops,
+    } = first;
+    let Findings {
+        rows: others,
+        count: more,
+        tops: mut last,
+    } = second;
+    for place in 0..rows.len() {
+        rows[place].add(&others[place]);
+    }
+    tops.append(&mut last)?;
+    Ok(Findings {
+        rows,
+        count: count.saturating_add(more),
         tops,
     })
 }

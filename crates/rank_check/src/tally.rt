@@ -28,6 +28,16 @@ pub(crate) struct Met {
     pub(crate) ahead: u64,
 }
 
+impl Met {
+    /// Takes what is known from other candidates into account.
+    pub(crate) fn add(&mut self, other: &Met)
+        ensures { self.new ≡ survey.met_both self.old other.now }
+    {
+        self.present = self.present || other.present;
+        self.ahead = self.ahead.saturating_add(other.ahead);
+    }
+}
+
 /// A row's candidate, as a mark in the order of the candidates that are offered.
 #[derive(Clone, Copy, Debug)]
 pub(crate) struct Mark {

@@ -20,7 +20,7 @@ returns-in_default-piece_room-clause-judges g c = λ lines asks.
 pub judge_each-requires : goal.judge_each-requires
 judge_each-requires g c =
     let taken = c.in_ok-intake.ensures.taken c.in-Ok.ensures.list.text c.in-Ok.ensures.list.is in
-    (file_input c.needed_by.result c.in-Ok.ensures.list.text taken.files, taken.taken)
+    (c.type_bounds.sync-R, (file_input c.needed_by.result c.in-Ok.ensures.list.text taken.files, taken.taken))
 
 -- the report and the certificate of each query are checked against what was taken
 pub returns-clause-judges : goal.returns-clause-judges

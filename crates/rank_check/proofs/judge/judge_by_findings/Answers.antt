@@ -12,7 +12,7 @@ use Rattle.rank_papers.proofs.FirstFailing.{not_some, some_decides, none_decides
 use Rattle.rank_check.specs.declared.refusal.Refusal.{Refusal}
 use Rattle.rank_check.specs.Tests.{report_tests, certificate_tests, all_tests}
 use Rattle.rank_check.proofs.KthScores.{kth_known}
-use Rattle.rank_check.proofs.judge.judge.Goals as goal
+use Rattle.rank_check.proofs.judge.judge_by_findings.Goals as goal
 
 -- a test of the report fails
 pub returns-then-is_some : goal.returns-then-is_some
@@ -40,13 +40,13 @@ returns c =
     c.kth_score-kth.ensures.kth
     ∙ ap (λ (l : List Row). kth_of_best q.k (candidates_of l)) c.as_slice-rows.ensures.value
     ∙ kth_known c.certificates_are_read.ensures.read q dataset c.kth_score-kth.ensures.asked apart
-    (reported_in c.args.report.now) c.requires none in
+    (reported_in c.args.report.now) c.requires.can_be none in
     let lent : candidates_of c.as_slice-rows.result.now ≡ of_rows (reported_in c.args.report.now).rows =
     ap candidates_of c.as_slice-rows.ensures.value in
     IfOk-weaker c.certificate_fault.result _
     (λ (fault : Option Refusal). fault
     ≡ first_failing (all_tests q dataset (reported_in c.args.report.now) (certified_in c.args.certificate.now)))
-    (λ fault is. is dataset kth c.in_ok-found.ensures.tops
+    (λ fault is. is dataset kth c.requires.found.tops
     ∙ ap (λ (l : List Candidate). first_failing (certificate_tests q dataset l (certified_in c.args.certificate.now)))
     lent
     ∙ none_decides r z c.report_fault-fault.result c.report_fault-fault.ensures unseen)
