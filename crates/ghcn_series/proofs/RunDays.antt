@@ -7,12 +7,14 @@ use Rattle.ghcn_series.proofs.Cited.{cases_lt, cases_Bool, nat_tests, ints, pow-
 use Rattle.ghcn_series.proofs.Cited.{bit_at_not, bit_at_above, bit_at-trailing_zeros, bit_at_ones, bit_at_or}
 use Rattle.ghcn_series.proofs.Cited.{bit_at-zero, bit_at_lowest, bit_at-suc, count_ones, DayValue, block_start, day_at}
 use Rattle.ghcn_series.proofs.Cited.{if_so, block_days, days_from, AreInARow}
-use Rattle.std.proofs.Common.{max, below_more}
+use Rattle.std.proofs.Common.{max, below_more, take, drop, length-drop, length-take, subst}
+use Rattle.std.specs.List.{AllByRecursion}
+use Rattle.std.proofs.lemmas.List.{drop_more}
 use Rattle.std.specs.Int.{from_bool, trailing_ones}
 use Rattle.std.proofs.Math.Nat.{div-le_self}
 use Rattle.std.proofs.lemmas.Nat.Bits.{bit_at-trailing_ones, bit_at_set_same, bit_at_set_other}
 use lib.Count.{ones_step}
-use Rattle.ghcn_series.specs.Packed.{ArePlacesOf, EndsRun, TakesRun}
+use Rattle.ghcn_series.specs.Packed.{ArePlacesOf, EndsRun, TakesRun, TakesRow, days_in_a_row}
 use Rattle.ghcn_series.proofs.FirstDays.{none-set, shifted-bit}
 use Rattle.ghcn_series.proofs.PartDays.{both-parts, each-day, first-in, first-out, later-bit}
 
@@ -151,6 +153,33 @@ unfolding days_from
 row-behind n vs w t k lt few =
     row-among n vs w t k 0 32 (block_start n +ℤ pos t) (omega (arith, ints)) lt (omega arith) (omega arith)
 
+-- they have the values of these places
+values-among : (n : ℤ) (vs : List ℤ) (w t k s m at : ℕ) (f : ℤ) → at ≡ max s t → f ≡ block_start n +ℤ pos at → t < k
+    → k ≤ s + m → s + m ≤ length vs → ((j : ℕ) → j < t → bit_at w j ≡ 0)
+    → ((j : ℕ) → t ≤ j → j < k → bit_at w j ≡ 1) → ((j : ℕ) → k ≤ j → bit_at w j ≡ 0)
+    → filter_map (day_at (n, (w, vs))) (range_with_len s m) ≡ days_in_a_row f (take (k - at) (drop at vs))
+values-among n vs w t k s zero at f here is lt more fits before set unset =
+    let none : k - at ≡ 0 = omega arith in rw none refl
+values-among n vs w t k s (suc m) at f here is lt more fits before set unset = elim (cases_lt s t) [
+  | inl under ↦ rw (before s under)
+      (values-among n vs w t k (s + 1) m at f (omega arith) is lt (omega arith) (omega arith) before set unset)
+  | inr ge ↦ elim (cases_lt s k) [
+    | inl inside ↦
+        let same : at ≡ s = omega arith in
+        let first : f ≡ block_start n +ℤ pos s = omega (arith, ints, is, same) in
+        let size : k - s ≡ suc (k - (s + 1)) = omega arith in
+        rw (set s ge inside, same, size, drop_more vs s (pos 0) (omega arith), first)
+        (ap (λ (xs : List DayValue). (block_start n +ℤ pos s, get_or vs s (pos 0)) ∷ xs)
+        (values-among n vs w t k (s + 1) m (s + 1) (block_start n +ℤ pos s +ℤ pos 1) (omega arith)
+        (omega (arith, ints)) lt (omega arith) (omega arith) before set unset))
+    | inr end ↦
+        let none : filter_map (day_at (n, (w, vs))) (range_with_len s (suc m)) ≡ [] =
+        none-set n vs w s (suc m) (λ j from to. unset j (omega arith)) in
+        let empty : k - at ≡ 0 = omega arith in
+        rw (none, empty) refl
+  ]
+]
+
 -- days in a row from a first to a last one that isn't before it are some
 pub row-some : (first last : ℤ) (days : List DayValue) → first <ℤ (last +ℤ pos 1) → AreInARow first last days
     → 0 < length days
@@ -218,6 +247,16 @@ module _ (n : ℤ) (vs : List ℤ) (w k : ℕ) (fits : w < 2 ^ 32) (some : 0 < w
       (λ j at under. first-in n vs w k ends.few j under ∙ ends.row j at under)
       (λ j more. first-out n vs w k ends.few j more)
 
+  -- and these are its days, with their values
+  valued : length vs ≡ 32 → block_days (n, (run, vs)) ≡ days_in_a_row (block_start n +ℤ pos t) (take (k - t) (drop t vs))
+  unfolding days_from
+  valued size = values-among n vs run t k 0 32 t (block_start n +ℤ pos t) (omega arith) refl ends.some
+      (let few = ends.few in omega (arith, few)) (omega (arith, size))
+      (λ j lt. first-in n vs w k ends.few j (let under = ends.some in omega (arith, lt, under))
+      ∙ (bit_at-trailing_zeros w32 w some fits).2 j lt)
+      (λ j at under. first-in n vs w k ends.few j under ∙ ends.row j at under)
+      (λ j more. first-out n vs w k ends.few j more)
+
   -- what is taken of a block's days is its first run
   pub takes-run : TakesRun (block_days (n, (w, vs))) (block_start n +ℤ pos t, last)
       (block_days (n, (bit_and w (2 ^ 32 - 2 ^ k), vs)))
@@ -232,3 +271,20 @@ module _ (n : ℤ) (vs : List ℤ) (w k : ℕ) (fits : w < 2 ^ 32) (some : 0 < w
         let under = ends.some in
         omega (arith, ints, later-bit w k j set, other, under));
   }
+
+  -- and the first of them are taken in a row with their values
+  pub takes-row : length vs ≡ 32 → TakesRow (block_days (n, (w, vs))) (block_start n +ℤ pos t)
+      (take (k - t) (drop t vs)) (block_days (n, (bit_and w (2 ^ 32 - 2 ^ k), vs)))
+  unfolding days_from takes-run
+  takes-row size =
+      let under = ends.some in
+      let few = ends.few in
+      let long : length (take (k - t) (drop t vs)) ≡ k - t =
+      length-take (k - t) (drop t vs) ∙ (rw (length-drop t vs) (omega (arith, size, few))) in
+      record {
+        some = omega (arith, long, under);
+        few = omega (arith, long, few);
+        parts = rw (← valued size) takes-run.parts;
+        apart = rw long (subst (λ (d : ℤ). AllByRecursion (λ x. d <ℤ x.0) (block_days (n, (bit_and w (2 ^ 32 - 2 ^ k), vs))))
+            (omega (arith, ints, under)) takes-run.apart);
+      }

@@ -143,6 +143,19 @@ abbrev pub AreInARow : ℤ → ℤ → List DayValue → Type 0
 AreInARow first last [] = first ≡ last +ℤ pos 1
 AreInARow first last (x ∷ xs) = (x.0 ≡ first) × AreInARow (first +ℤ pos 1) last xs
 
+-- the days from a first one on, one after another, that have these values
+abbrev pub days_in_a_row : ℤ → List ℤ → List DayValue
+days_in_a_row first [] = []
+days_in_a_row first (v ∷ vs) = (first, v) ∷ days_in_a_row (first +ℤ pos 1) vs
+
+-- the first of some days are taken, from a first one on in a row, with their values, and those that are left all lie
+-- past the day after these
+pub record TakesRow (days : List DayValue) (first : ℤ) (values : List ℤ) (left : List DayValue) : Type 0 where
+  pub some : 0 < length values
+  pub few : length values ≤ 32
+  pub parts : days ≡ days_in_a_row first values ++ left
+  pub apart : AllByRecursion (λ x. (first +ℤ pos (length values)) <ℤ x.0) left
+
 -- the first of some days are taken, from a first to a last one in a row, and those that are left all lie past the day
 -- after these
 pub record TakesRun (days : List DayValue) (ends : ℤ × ℤ) (left : List DayValue) : Type 0 where

@@ -1,7 +1,7 @@
 //! The usable days of a series, one after another.
 
 ghost use Rattle.std.specs.Prelude.{◌≡◌, ◌↔◌, ℕ, ◌<◌, ◌≤◌, ◌-◌, ◌^◌, ◌++◌, [], IsTrue, pos, ◌+ℤ◌, ◌≤ℤ◌, ◌<ℤ◌};
-ghost use Rattle.std.specs.Prelude.{IfSome, IfNone, length, slice_get, filter, int_le, int_lt};
+ghost use Rattle.std.specs.Prelude.{IfSome, IfNone, length, slice_get, take, drop, filter, int_le, int_lt};
 ghost use Rattle.std.specs.List.{AllByRecursion};
 ghost use Rattle.std.specs.Option.{option_map};
 ghost use Rattle.ghcn_fields.specs.Meaning.Days.{is_day};
@@ -86,6 +86,28 @@ impl<'a> BlockDays<'a> {
         let last = day_at(self.number, behind - 1);
         self.left &= !first_places(behind);
         Some((first, last))
+    }
+
+    /// Takes the first days, as many as follow one another, and returns the first of them, and the values of all, in the
+    /// element's unit.
+    ///
+    /// A caller that adds up values goes through them without a look at each day.
+    #[inline(always)]
+    pub fn next_row(&mut self) -> Option<(Day, &'a [i32])>
+        ensures row { IfSome result (λ row. packed.TakesRow self.old row.0 row.1.now self.new) }
+        ensures none { IfNone result (self.old ≡ []) }
+        ensures end { IfNone result (self.new ≡ []) }
+    {
+        if self.left == 0 {
+            return None;
+        }
+        let place = self.left.trailing_zeros();
+        let behind = end_of_run(self.left);
+        let first = day_at(self.number, place);
+        let values = between(self.values, place, behind);
+        let row = first_places(behind);
+        self.left &= !row;
+        Some((first, values))
     }
 
     /// Takes the days before the last run, and returns how many runs these are. A run is days that follow one another, with no day
@@ -229,6 +251,16 @@ fn places_from(values: &[i32; 32], least: i32) -> u32
         word |= u32::from(values[place as usize] >= least) << place;
     }
     word
+}
+
+/// The values from a place of a block up to another one.
+fn between(values: &[i32; 32], place: u32, behind: u32) -> &[i32]
+    requires some { place ≤ behind }
+    requires few { behind ≤ 32 }
+    ensures part { result.now ≡ take (behind - place) (drop place values.now) }
+    ensures size { length values.now ≡ 32 }
+{
+    &values[place as usize..behind as usize]
 }
 
 /// The word of that many first places of a block.

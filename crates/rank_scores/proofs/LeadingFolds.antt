@@ -14,12 +14,14 @@ use Rattle.ghcn_files.proofs.IdLaws.{same_id-laws, same_id-turned, same_id-is}
 use Rattle.ghcn_fields.specs.Meaning.Days.{is_day}
 use Rattle.rank_query.specs.declared.per.Per.{Per}
 use Rattle.rank_scores.specs.declared.candidate.Candidate.{Candidate}
+use Rattle.rank_scores.specs.declared.floor.Floorless.{Floorless}
 use Rattle.rank_scores.specs.declared.leading.Leading.{Leading}
 use Rattle.rank_scores.specs.declared.leading.Open.{Open}
 use Rattle.rank_scores.specs.Meaning.Order.{precedes, rank_cmp}
 use Rattle.rank_scores.specs.Order.{begin_alike}
 use Rattle.rank_scores.specs.Meaning.Groups.{same_group, are_rivals}
 use Rattle.rank_scores.specs.Groups.{leaders}
+use Rattle.rank_scores.specs.Floorless.{offered_to, IgnoresBelow}
 use Rattle.rank_scores.specs.Leading.{Held, better, group_end, held_with, leading_with, let_go, opened}
 use Rattle.rank_scores.proofs.Rising.{from_each, from_both}
 use Rattle.rank_scores.proofs.Ranks.{rank_cmp_total, asym}
@@ -213,3 +215,34 @@ pub held-after : {S : Type 0} (taken : S → Candidate → S) (l after : Leading
     → (after.group, after.sink.now) ≡ fold (held_with l.per taken) (l.group, l.sink.now) cs
 held-after {S} taken l after cs e =
     ap (λ (l : Leading S). (l.group, l.sink.now)) e ∙ held_along l.per taken l cs refl
+
+-- ---- a sink without a floor
+
+-- what it was offered is offered to its own sink
+offered_on : {S : Type 0} (taken : S → Candidate → S) (f : Floorless S) (cs : List Candidate)
+    → (fold (offered_to taken) f cs).sink.now ≡ fold taken f.sink.now cs
+offered_on taken f [] = refl
+offered_on taken f (c ∷ cs) = offered_on taken (offered_to taken f c) cs
+
+-- which stays the same one
+same_on : {S : Type 0} (taken : S → Candidate → S) (f : Floorless S) (cs : List Candidate)
+    → (fold (offered_to taken) f cs).sink.ghost_name ≡ f.sink.ghost_name
+same_on taken f [] = refl
+same_on taken f (c ∷ cs) = same_on taken (offered_to taken f c) cs
+
+-- of the sink after some candidates
+pub same_on-after : {S : Type 0} (taken : S → Candidate → S) (f after : Floorless S) (cs : List Candidate)
+    → after ≡ fold (offered_to taken) f cs → after.sink.ghost_name ≡ f.sink.ghost_name
+same_on-after {S} taken f after cs e = ap (λ (f : Floorless S). f.sink.ghost_name) e ∙ same_on taken f cs
+
+-- and what it has taken
+pub offered_on-after : {S : Type 0} (taken : S → Candidate → S) (f after : Floorless S) (cs : List Candidate)
+    → after ≡ fold (offered_to taken) f cs → after.sink.now ≡ fold taken f.sink.now cs
+offered_on-after {S} taken f after cs e = ap (λ (f : Floorless S). f.sink.now) e ∙ offered_on taken f cs
+
+-- candidates that it ignores, each by itself, it ignores together
+pub ignored : {S : Type 0} (taken : S → Candidate → S) (f : Floorless S) (floor : ℤ) (cs : List Candidate)
+    → IgnoresBelow taken f floor → AllByRecursion (λ c. c.score <ℤ floor) cs → fold (offered_to taken) f cs ≡ f
+ignored taken f floor [] _ _ = refl
+ignored {S} taken f floor (c ∷ cs) ignores (low, lows) =
+    ap (λ (g : Floorless S). fold (offered_to taken) g cs) (ignores c low) ∙ ignored taken f floor cs ignores lows

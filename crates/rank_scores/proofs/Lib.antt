@@ -2,6 +2,8 @@ pub mod Ranks
 pub mod Listing
 pub mod Totals
 pub mod WindowSums
+pub mod RowSums
+pub mod LowWindows
 pub mod SpellDays
 pub mod Runs
 pub mod StretchDays

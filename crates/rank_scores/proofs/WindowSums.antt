@@ -3,21 +3,23 @@ use Rattle.std.proofs.Common.{◌≡◌, ◌↔◌, FitsSigned, w64, ℕ, zero, 
 use Rattle.std.proofs.Common.{false, List, [], ◌∷◌, ◌++◌, drop, Option, Some, None, refl, sym, ap, subst, ◌∙◌, arith, ℤ, pos}
 use Rattle.std.proofs.Common.{◌+ℤ◌, ◌-ℤ◌, ◌≤ℤ◌, ◌<ℤ◌, length, length-set, get_or, set, inl, inr, rules}
 use Rattle.std.specs.Prelude.{IsTrue}
-use Rattle.std.specs.List.{AllByRecursion, cons_option, filter_map, fold}
+use Rattle.std.specs.List.{AllByRecursion, cons_option, filter_map}
 use Rattle.std.specs.Option.{option_map}
+use Rattle.std.specs.Ordering.{int_eq}
 use Rattle.std.proofs.lemmas.Bool.{cases_lt, false_from_ne_true}
 use Rattle.std.proofs.lemmas.Bool.Decides.{Decides-int_eq}
 use Rattle.std.proofs.lemmas.Int.{ints}
-use Rattle.std.proofs.lemmas.List.{get_or-set_same, get_or-set_other, get_or-drop, drop-drop}
+use Rattle.std.proofs.lemmas.List.{get_or-set_same, get_or-set_other, get_or-drop, drop-drop, drop_more}
 use Rattle.ghcn_files.specs.declared.station.StationId.{StationId}
 use Rattle.ghcn_series.specs.Meaning.Series.{DayValue, Series}
+use Rattle.ghcn_series.specs.Packed.{days_in_a_row}
 use Rattle.ghcn_series.specs.Series.{IsSeries}
 use Rattle.rank_query.specs.Meaning.Asked.{Query}
 use Rattle.rank_scores.specs.declared.candidate.Candidate.{Candidate}
 use Rattle.rank_scores.specs.declared.window.Window.{Window}
 use Rattle.rank_scores.specs.Meaning.Candidates.{Windows, admitted}
 use Rattle.rank_scores.specs.Candidates.{candidate, begun, contenders_among}
-use Rattle.rank_scores.specs.Windows.{begun_anew_unless, next_place, with_value, first_value, without_first}
+use Rattle.rank_scores.specs.Windows.{begun_anew_unless, next_place, with_value, first_value, without_first, sum}
 use Rattle.ghcn_fields.specs.Meaning.Days.{is_day}
 use Rattle.rank_scores.proofs.Runs.{AreDays, admitted-days}
 use Rattle.rank_scores.proofs.Rising.{Rise, from_each, same_made, admitted-rise}
@@ -31,11 +33,11 @@ abbrev pub windows : StationId → ℕ → List DayValue → List Candidate
 windows id n days = contenders_among id (Windows n) days
 
 -- the window of n days that begins on a day, if it has a total
-abbrev window_on : StationId → ℕ → ℤ → Option ℤ → Option Candidate
+abbrev pub window_on : StationId → ℕ → ℤ → Option ℤ → Option Candidate
 window_on id n a o = option_map (candidate id a) (option_map (λ total. (a +ℤ pos n -ℤ pos 1, total)) o)
 
 -- the windows of days are that which begins on the first, if one does, and those of the others
-windows-first : (id : StationId) (n : ℕ) (x : DayValue) (xs : List DayValue) → Rise (x ∷ xs)
+pub windows-first : (id : StationId) (n : ℕ) (x : DayValue) (xs : List DayValue) → Rise (x ∷ xs)
     → windows id n (x ∷ xs) ≡ cons_option (window_on id n x.0 (leading n x.0 (x ∷ xs))) (windows id n xs)
 windows-first id n x xs rise =
     let from = from_each (λ y. x.0 <ℤ y.0) (λ y. x.0 ≤ℤ y.0) xs (λ y l. omega (arith, ints, l)) rise.0 in
@@ -65,6 +67,10 @@ passed id n (suc len) a t (x ∷ xs) few rise e gap =
 
 -- ---- one window
 
+-- the value isn't negative
+abbrev pub IsNotNegative : DayValue → Type 0
+IsNotNegative x = pos 0 ≤ℤ x.1
+
 -- days that rise, with small values
 pub record AreGood (days : List DayValue) : Type 0 where
   pub rise : Rise days
@@ -72,7 +78,7 @@ pub record AreGood (days : List DayValue) : Type 0 where
   pub calendar : AreDays days
 
 -- so are those after some of them
-good-drop : (n : ℕ) (xs : List DayValue) → AreGood xs → AreGood (drop n xs)
+pub good-drop : (n : ℕ) (xs : List DayValue) → AreGood xs → AreGood (drop n xs)
 good-drop zero xs h = h
 good-drop (suc n) [] h = h
 good-drop (suc n) (x ∷ xs) h =
@@ -93,17 +99,6 @@ pub record IsAt (ring : List ℤ) (w : Window) (days : List DayValue) (next : �
   pub places : length ring ≡ 512
   pub place : w.first < 512
   pub held : (i : ℕ) → i < w.len → get_or ring ((w.first + i) % 512) (pos 0) ≡ value_at days i
-
--- what has taken some windows, and takes those of these days too, is as what takes those of all admitted days; the
--- window has the first of these days, and isn't whole
-abbrev pub IsScanned : {K : Type 0} → (K → Candidate → K) → K → K → StationId → ℕ → Query → Series → List ℤ → Window
-    → ℤ → List DayValue → Type 0
-IsScanned taken some none id n q s ring w next rest = record {
-  days : List DayValue;
-  at : IsAt ring w days next rest;
-  few : w.len < n;
-  so_far : fold taken some (windows id n days) ≡ fold taken none (windows id n (admitted q s));
-}
 
 -- at first the window has no day
 pub at_first : (q : Query) (s : Series) (ring : List ℤ) (left : List DayValue) → IsSeries s → length ring ≡ 512
@@ -155,15 +150,6 @@ anew-len : (w : Window) (b : Bool) → (begun_anew_unless b w).len ≤ w.len
 anew-len w true = omega arith
 anew-len w false = omega arith
 
--- a window that begins again, or doesn't, has its first day's place
-pub anew-place : (w u : Window) (b : Bool) → u ≡ begun_anew_unless b w → w.first < 512 → u.first < 512
-anew-place w u true is lt = rw is lt
-anew-place w u false is lt = rw is lt
-
--- and fewer days than a full one
-pub anew-room : (w u : Window) (b : Bool) (n : ℕ) → u ≡ begun_anew_unless b w → w.len < n → n ≤ 366 → u.len < 512
-anew-room w u b n is lt few = let no_more = anew-len w b in rw is (omega (arith, lt, few, no_more))
-
 -- no window begins on a day that left before a new one was begun
 none_lost : (id : StationId) (n : ℕ) (ring : List ℤ) (w : Window) (days : List DayValue) (next : ℤ) (y : DayValue)
     (ys : List DayValue) (b : Bool) → IsAt ring w days next (y ∷ ys) → w.len < n → (IsTrue b ↔ (y.0 ≡ next))
@@ -177,7 +163,7 @@ pub none_left : {ring : List ℤ} {w : Window} {days rest : List DayValue} {next
 none_left {ring} {w} {days} {rest} {next} id n at none few = grind (arith, ints, passed)
 
 -- the day that comes next is taken in
-taken : (ring : List ℤ) (w : Window) (days : List DayValue) (y : DayValue) (ys : List DayValue)
+pub taken : (ring : List ℤ) (w : Window) (days : List DayValue) (y : DayValue) (ys : List DayValue)
     → IsAt ring w days y.0 (y ∷ ys) → w.len < 512
     → IsAt (set ring (next_place w) y.1) (with_value w y.1) days (y.0 +ℤ pos 1) ys
 taken ring w days y ys at few =
@@ -220,6 +206,7 @@ pub record Leaves (id : StationId) (n : ℕ) (days : List DayValue) (ring : List
   pub now : List DayValue
   pub at : IsAt ring (without_first ring v) now (d +ℤ pos 1) rest
   pub offered : windows id n days ≡ candidate id (d +ℤ pos 1 -ℤ pos n) (d, v.total) ∷ windows id n now
+  pub kept : AllByRecursion IsNotNegative days → AllByRecursion IsNotNegative now
 
 -- so it is if the window is whole
 pub leaves : {n : ℕ} {days rest : List DayValue} {ring : List ℤ} {v : Window} (id : StationId) (d : ℤ)
@@ -256,34 +243,78 @@ leaves {n = n} {days = x ∷ xs} {rest = rest} {ring = ring} {v = v} id d at som
       now = xs;
       at = left;
       offered = windows-first id n x xs at.good.rise ∙ rw (found, ends, begins);
+      kept = λ all. all.1;
     }
 
--- the window with its ring is what became of one with some days, once the day d came: the same windows begin, and if it
--- is whole, it is offered, and its first day taken off
-pub record Step (id : StationId) (n : ℕ) (days : List DayValue) (ring : List ℤ) (v : Window) (d : ℤ)
+-- ---- days in a row
+
+-- what is true of some days is true of those after some of them
+pub all-drop : (P : DayValue → Type 0) (n : ℕ) (xs : List DayValue) → AllByRecursion P xs → AllByRecursion P (drop n xs)
+all-drop P zero xs h = h
+all-drop P (suc n) [] h = h
+all-drop P (suc n) (x ∷ xs) h = all-drop P n xs h.1
+
+-- so it is of the days of a window that is begun again, or isn't
+all-days_of : (P : DayValue → Type 0) (b : Bool) (w : Window) (days : List DayValue) → AllByRecursion P days
+    → AllByRecursion P (days_of b w days)
+all-days_of P true w days h = h
+all-days_of P false w days h = all-drop P w.len days h
+
+-- the days from a place of a row on, and those after the row
+abbrev pub from_place : ℤ → List ℤ → ℕ → List DayValue → List DayValue
+from_place d vs i rest = days_in_a_row (d +ℤ pos i) (drop i vs) ++ rest
+
+-- those from its first day on
+pub from_first : (d : ℤ) (vs : List ℤ) (rest : List DayValue) → from_place d vs 0 rest ≡ days_in_a_row d vs ++ rest
+from_first d vs rest = let same : d +ℤ pos 0 ≡ d = omega (arith, ints) in rw same refl
+
+-- a place has a day, if it is in the row
+pub one_of_row : (d : ℤ) (vs : List ℤ) (i : ℕ) (rest : List DayValue) → i < length vs
+    → from_place d vs i rest ≡ (d +ℤ pos i, get_or vs i (pos 0)) ∷ from_place d vs (i + 1) rest
+one_of_row d vs i rest lt =
+    let next : (d +ℤ pos i) +ℤ pos 1 ≡ d +ℤ pos (i + 1) = omega (arith, ints) in
+    rw (drop_more vs i (pos 0) lt, next) refl
+
+-- the days from a place on are those without the days before it
+pub row-drop : (i : ℕ) (d : ℤ) (vs : List ℤ) (rest : List DayValue) → i ≤ length vs
+    → drop i (days_in_a_row d vs ++ rest) ≡ from_place d vs i rest
+row-drop zero d vs rest few = sym (from_first d vs rest)
+row-drop (suc i) d [] rest few = absurd (omega (arith, few))
+row-drop (suc i) d (v ∷ vs) rest few =
+    let same : (d +ℤ pos 1) +ℤ pos i ≡ d +ℤ pos (suc i) = omega (arith, ints) in
+    row-drop i (d +ℤ pos 1) vs rest (omega (arith, few)) ∙ rw same refl
+
+-- the sum of a row of days
+pub row-sum : (d : ℤ) (vs : List ℤ) (rest : List DayValue) → leading (length vs) d (days_in_a_row d vs ++ rest)
+    ≡ Some (sum vs)
+row-sum d [] rest = refl
+row-sum d (v ∷ vs) rest =
+    let same : int_eq d d ≡ true = (Decides-int_eq d d).1 refl in
+    rw (same, row-sum (d +ℤ pos 1) vs rest) refl
+
+-- a row of days comes next: the window is the same if the row goes on with it, and begun again otherwise
+pub record Comes (id : StationId) (n : ℕ) (ring : List ℤ) (u : Window) (days : List DayValue) (d : ℤ) (vs : List ℤ)
     (rest : List DayValue) : Type 0 where
   pub now : List DayValue
-  pub at : IsAt ring v now (d +ℤ pos 1) rest
-  pub few : v.len ≤ n
+  pub at : IsAt ring u now d (days_in_a_row d vs ++ rest)
+  pub few : u.len < n
   pub same : windows id n now ≡ windows id n days
-  pub whole : v.len ≡ n → Leaves id n now ring v d rest
+  pub kept : AllByRecursion IsNotNegative days → AllByRecursion IsNotNegative now
 
--- so it is once the next day of a part is taken in
-pub takes : {n : ℕ} {ring : List ℤ} {w u : Window} {days part more : List DayValue} {next : ℤ} {y : DayValue} {b : Bool}
-    (id : StationId) (left : List DayValue) → IsAt ring w days next (part ++ left) → w.len < n → 0 < n → n ≤ 366
-    → part ≡ y ∷ more → (IsTrue b ↔ (y.0 ≡ next)) → u ≡ begun_anew_unless b w
-    → Step id n days (set ring (next_place u) y.1) (with_value u y.1) y.0 (more ++ left)
-takes {n} {ring} {w} {u} {days} {part} {more} {next} {y} {b} id left at few some most step is then =
-    let ys : List DayValue = more ++ left in
-    let here : IsAt ring w days next (y ∷ ys) =
-    subst (λ (ds : List DayValue). IsAt ring w days next (ds ++ left)) step at in
+-- so it is if it has a day
+pub comes : {n : ℕ} {ring : List ℤ} {w u : Window} {days ahead : List DayValue} {next d : ℤ} {b : Bool}
+    (id : StationId) (vs : List ℤ) (rest : List DayValue) → IsAt ring w days next ahead → w.len < n → 0 < length vs
+    → ahead ≡ days_in_a_row d vs ++ rest → (IsTrue b ↔ (d ≡ next)) → u ≡ begun_anew_unless b w
+    → Comes id n ring u days d vs rest
+comes id [] rest at few some row is then = absurd (omega (arith, some))
+comes {n} {ring} {w} {u} {days} {ahead} {next} {d} {b} id (v ∷ vs) rest at few some row is then =
+    let ys : List DayValue = days_in_a_row (d +ℤ pos 1) vs ++ rest in
+    let here : IsAt ring w days next ((d, v) ∷ ys) = subst (IsAt ring w days next) row at in
     let less = anew-len w b in
-    let now = taken ring (begun_anew_unless b w) (days_of b w days) y ys (anew ring w days next y ys b here is)
-    (omega arith) in
     rw then record {
       now = days_of b w days;
-      at = now;
+      at = anew ring w days next (d, v) ys b here is;
       few = omega arith;
-      same = none_lost id n ring w days next y ys b here few is;
-      whole = leaves id y.0 now some most;
+      same = none_lost id n ring w days next (d, v) ys b here few is;
+      kept = λ all. all-days_of IsNotNegative b w days all;
     }

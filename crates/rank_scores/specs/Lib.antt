@@ -2,6 +2,7 @@ pub mod Meaning
 pub mod Runs
 pub mod Groups
 pub mod Leading
+pub mod Floorless
 pub mod Candidates
 pub mod Spells
 pub mod Stretches

@@ -1,5 +1,8 @@
 -- Days one after another, whose values are kept in a ring, with their sum, as days come and leave.
-use Rattle.std.specs.Prelude.{◌+◌, ◌-◌, ◌%◌, ℕ, Bool, true, false, List, get_or, ℤ, pos, ◌+ℤ◌, ◌-ℤ◌}
+use Rattle.std.specs.Prelude.{◌≡◌, ◌+◌, ◌-◌, ◌%◌, ℕ, Bool, true, false, List, [], ◌∷◌, length, get_or, ℤ, pos, ◌+ℤ◌}
+use Rattle.std.specs.Prelude.{◌-ℤ◌, ◌≤ℤ◌}
+use Rattle.std.specs.List.{AllByRecursion, fold}
+use Rattle.rank_scores.specs.declared.candidate.Candidate.{Candidate}
 use Rattle.rank_scores.specs.declared.window.Window.{Window}
 
 -- the window itself if it goes on, otherwise one without a day
@@ -26,3 +29,16 @@ without_first ring w = record {
   len = w.len - 1;
   total = w.total -ℤ first_value ring w;
 }
+
+-- the sum of some values
+abbrev pub sum : List ℤ → ℤ
+sum [] = pos 0
+sum (v ∷ vs) = v +ℤ sum vs
+
+-- a sink has taken the windows of n days that end in a row with these values, after the days of a window: whatever they
+-- are, if they are as many, and none has a greater total than all these days
+abbrev pub TakesLow : {S : Type 0} → (S → Candidate → S) → ℕ → Window → List ℤ → S → S → Type 0
+TakesLow taken n w values before after = (windows : List Candidate)
+    → AllByRecursion (λ c. c.score ≤ℤ (w.total +ℤ sum values)) windows
+    → length windows + n ≡ w.len + length values + 1
+    → after ≡ fold taken before windows

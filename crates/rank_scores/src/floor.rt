@@ -7,8 +7,8 @@ ghost use Rattle.rank_scores.specs.Candidates.{contenders_among};
 ghost use Rattle.rank_scores.specs.Meaning.Candidates as meaning;
 ghost use Rattle.rank_scores.specs.Extremes.{score_by};
 
-use crate::Sink;
 use crate::extreme::Extreme;
+use crate::{Candidate, Sink};
 use ghcn_series::BlockDays;
 
 /// A sink that needs only the number of candidates that score below its floor.
@@ -29,6 +29,39 @@ pub trait FloorSink: Sink {
         requires { is_floor self.old floor }
         ensures { (candidates : List Candidate) → AllByRecursion (λ c. c.score <ℤ floor) candidates
             → length candidates ≡ count → self.new ≡ fold Self.taken self.old candidates };
+}
+
+/// A sink as one that has no floor, so each candidate is offered to it.
+///
+/// It could do without the candidates below a score only if its own sink ignored them, and that isn't known.
+#[derive(Drop)]
+pub(crate) struct Floorless<'s, S> {
+    pub(crate) sink: &'s mut S,
+}
+
+impl<'s, S: Sink> Sink for Floorless<'s, S> {
+    ghost use Rattle.rank_scores.specs.Floorless.{offered_to};
+
+    ghost taken = { offered_to S.taken };
+
+    #[inline(always)]
+    fn offer(&mut self, candidate: Candidate) {
+        self.sink.offer(candidate);
+    }
+}
+
+impl<'s, S: Sink> FloorSink for Floorless<'s, S> {
+    ghost use Rattle.rank_scores.specs.Floorless.{IgnoresBelow};
+
+    ghost is_floor = { IgnoresBelow S.taken };
+
+    #[inline(always)]
+    fn floor(&self) -> Option<i64> {
+        None
+    }
+
+    #[inline(always)]
+    fn pass_over(&mut self, _floor: i64, _count: u32) {}
 }
 
 /// Whether no day of a part scores as much as the sink's floor. Then the sink is given the number of

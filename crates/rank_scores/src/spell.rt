@@ -67,34 +67,12 @@ impl Spell {
 /// The days of a block: no spell within one is longer.
 const BLOCK_DAYS: i64 = 32;
 
-/// Offers each spell, once a day of the kind came that isn't in it any more.
+/// Offers each spell, once a day of the kind came that isn't in it any more, except for those within a part that are too
+/// short for the sink's floor: of these the sink is given the number alone.
 ///
 /// Of a part the days of the kind are found together, and those in a row are added together.
 #[inline(always)]
-pub(crate) fn scan_spells<S: Sink>(
-    id: StationId,
-    series: &Series,
-    query: &Query,
-    spell: Spell,
-    sink: &mut S,
-)
-    requires { IsTrue (can_be_asked spell) }
-    ensures { sink.new ≡ fold S.taken sink.old
-        (contenders_among id (meaning.Spells (test_of spell)) (meaning.admitted query.now series.now)) }
-{
-    let mut run = Run::none();
-    let mut admitted = Admitted::of(series, query);
-    while let Some(mut part) = admitted.next_part() {
-        spell.keep(&mut part);
-        add_runs(id, &mut run, part, sink);
-    }
-    offer_spell(id, &run, sink);
-}
-
-/// Offers each spell as `scan_spells` does, except for those within a part that are too short for the sink's floor: of
-/// these the sink is given the number alone.
-#[inline(always)]
-pub(crate) fn scan_spells_to_floor<S: FloorSink>(
+pub(crate) fn scan_spells<S: FloorSink>(
     id: StationId,
     series: &Series,
     query: &Query,

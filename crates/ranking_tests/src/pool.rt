@@ -140,7 +140,7 @@ type Best = [Option<(i32, i64)>; 2];
 
 // Block 0 has the days 0 to 31, and each later one 32 more.
 #[rattlefmt::skip]
-const SCANS: [(&[Stretch], &str, Best); 4] = [
+const SCANS: [(&[Stretch], &str, Best); 7] = [
     // A block without a day from the second place on, one with a tie, and one with a better day.
     (&[(0, 1, "  311   "), (1, 1, "  305   "), (40, 2, "  304   "), (70, 1, "  305   "), (100, 1, "  312   ")],
         "top 2 highest TMAX", [Some((100, 312)), Some((0, 311))]),
@@ -149,6 +149,14 @@ const SCANS: [(&[Stretch], &str, Best); 4] = [
     (&[(0, 1, "   -5   "), (1, 1, "   -7   "), (40, 3, "   -4   "), (70, 1, "   -8   "), (99, 1, "   -7   ")],
         "top 2 lowest TMIN", [Some((70, 8)), Some((1, 7))]),
     (&[(0, 1, "    0   ")], "top 2 highest PRCP", [Some((0, 0)), None]),
+    // Two blocks whose sum is below the second total, and a window with the last day of the second one.
+    (&[(0, 3, "  100   "), (3, 93, "    1   "), (96, 2, "  150   ")], "top 2 sum 3 PRCP",
+        [Some((95, 301)), Some((0, 300))]),
+    // A window of two blocks, after one whose sum is below the second total, and after a gap.
+    (&[(0, 34, "   10   "), (64, 31, "    5   "), (126, 34, "    9   ")], "top 2 sum 33 PRCP",
+        [Some((0, 330)), Some((1, 330))]),
+    (&[(0, 4, "  100   "), (32, 1, "    1   "), (34, 2, "  200   ")], "top 2 sum 2 PRCP",
+        [Some((34, 400)), Some((0, 200))]),
 ];
 
 /// The best two days of a query.
@@ -180,13 +188,15 @@ type BestOfTwo = [Option<(StationId, i32, i64)>; 2];
 
 // The days of B, which are scanned first, and those of A, whose smaller ID wins if scores are the same.
 #[rattlefmt::skip]
-const SCANS_OF_TWO: [(&[Stretch], &[Stretch], &str, BestOfTwo); 3] = [
+const SCANS_OF_TWO: [(&[Stretch], &[Stretch], &str, BestOfTwo); 4] = [
     (&[(0, 1, "  311   "), (1, 1, "  305   ")], &[(40, 1, "  304   "), (70, 1, "  305   ")],
         "top 2 highest TMAX", [Some((B, 0, 311)), Some((A, 70, 305))]),
     (&[(0, 3, "  305   ")], &[(40, 2, "  305   "), (70, 1, "  305   ")],
         "top 2 highest TMAX", [Some((A, 40, 305)), Some((A, 41, 305))]),
     (&[(0, 2, "   -5   ")], &[(40, 1, "   -4   "), (41, 1, "   -5   "), (70, 1, "   -5   ")],
         "top 2 lowest TMIN", [Some((A, 41, 5)), Some((A, 70, 5))]),
+    (&[(0, 4, "  100   ")], &[(40, 3, "  100   "), (70, 3, "   99   ")],
+        "top 2 sum 3 PRCP", [Some((A, 40, 300)), Some((B, 0, 300))]),
 ];
 
 /// The best two days of a query, after a scan of B and one of A.

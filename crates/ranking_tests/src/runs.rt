@@ -13,6 +13,17 @@ enum Kept {
     Below(i32),
 }
 
+impl Kept {
+    /// Leaves out the other days.
+    fn keep(self, days: &mut BlockDays) {
+        match self {
+            Kept::All => {}
+            Kept::From(least) => days.keep_from(least),
+            Kept::Below(limit) => days.keep_below(limit),
+        }
+    }
+}
+
 /// The numbers of the first and the last day of each of four runs, if there are that many.
 type Runs = [Option<(i32, i32)>; 4];
 
@@ -62,11 +73,7 @@ fn found(alloc: Global, stretches: &[Stretch], kept: Kept) -> Option<(u32, Runs)
     let data = data_of(alloc, Element::Prcp, stretches)?;
     let series = data.series(&A, Element::Prcp)?;
     let mut days = series.days().take_to(31);
-    match kept {
-        Kept::All => {}
-        Kept::From(least) => days.keep_from(least),
-        Kept::Below(limit) => days.keep_below(limit),
-    }
+    kept.keep(&mut days);
     let count = days.len();
     let mut left = days.again();
     let runs = [
@@ -87,6 +94,53 @@ fn days_in_a_row(rt: HostRuntime) {
     for (number, (stretches, kept, count, runs)) in ROWS.iter().enumerate() {
         let found = found(rt.alloc(), stretches, *kept);
         assert_eq!(rt; found, Some((*count, *runs)), "of row {number}");
+    }
+}
+
+/// The days of a series, what is kept of its first block, and the first day and the values of each row of days.
+type ValuedRows = (&'static [Stretch], Kept, &'static [(i32, &'static [i32])]);
+
+#[rattlefmt::skip]
+const VALUED_ROWS: [ValuedRows; 6] = [
+    (&DAYS, Kept::All, &[(0, &[10, 10, 10, 20]), (5, &[5, 5]), (31, &[30])]),
+    (&DAYS, Kept::From(11), &[(3, &[20]), (31, &[30])]),
+    (&DAYS, Kept::From(31), &[]),
+    (&WHOLE, Kept::From(11), &[(10, &[20; 12])]),
+    (&BEFORE_1970, Kept::All, &[(-32, &[10, 10, 10]), (-20, &[20]), (-2, &[5, 5])]),
+    (&BEFORE_1970, Kept::Below(20), &[(-32, &[10, 10, 10]), (-2, &[5, 5])]),
+];
+
+/// Whether the rows of the days that are kept of the first block begin on these days and have these values.
+fn has_rows(
+    alloc: Global,
+    stretches: &[Stretch],
+    kept: Kept,
+    rows: &[(i32, &[i32])],
+) -> Option<bool> {
+    let data = data_of(alloc, Element::Prcp, stretches)?;
+    let series = data.series(&A, Element::Prcp)?;
+    let mut days = series.days().take_to(31);
+    kept.keep(&mut days);
+    for (first, values) in rows {
+        let Some(row) = days.next_row() else {
+            return Some(false);
+        };
+        let (day, found) = row;
+        if day.number() != *first || found != *values {
+            return Some(false);
+        }
+    }
+    Some(days.is_empty())
+}
+
+#[test]
+fn values_in_a_row(rt: HostRuntime) {
+    for (number, (stretches, kept, rows)) in VALUED_ROWS.iter().enumerate() {
+        assert_eq!(rt;
+            has_rows(rt.alloc(), stretches, *kept, rows),
+            Some(true),
+            "of row {number}"
+        );
     }
 }
 
@@ -118,11 +172,7 @@ fn last_found(
     let data = data_of(alloc, Element::Prcp, stretches)?;
     let series = data.series(&A, Element::Prcp)?;
     let mut days = series.days().take_to(31);
-    match kept {
-        Kept::All => {}
-        Kept::From(least) => days.keep_from(least),
-        Kept::Below(limit) => days.keep_below(limit),
-    }
+    kept.keep(&mut days);
     let passed = days.take_to_last_run();
     let run = next_run(&mut days);
     if days.is_empty() {

@@ -1,11 +1,12 @@
-use Rattle.std.proofs.Common.{ap, sym, ◌∙◌, List}
-use Rattle.std.specs.List.{fold}
-use Rattle.rank_scores.specs.declared.candidate.Candidate.{Candidate}
-use Rattle.rank_scores.proofs.Exactly.{each_stays}
+use Rattle.std.proofs.Common.{arith, rules}
+use Rattle.rank_scores.specs.Candidates.{candidates}
+use Rattle.rank_scores.proofs.LeadingFolds.{offered_on-after, same_on-after}
 use Rattle.rank_scores.proofs.scans.scan.Goals as goal
 
--- without groups each contender is a candidate
-pub returns-in-Each : goal.returns-in-Each
-returns-in-Each g c =
-    c.scan_contenders.ensures.offered ∙ ap (λ (cs : List Candidate). fold g.S.Sink.taken c.args.sink.now cs)
-    (sym (each_stays c.args.query.now c.args.series.now (sym c.per.ensures ∙ c.in-Each.is)))
+-- what the sink without a floor was offered is offered to its own
+pub returns : goal.returns
+returns g c =
+    let all = candidates c.args.query.now c.args.series.now in
+    let same = same_on-after g.S.Sink.taken _ c.scan_to_floor.new.sink all c.scan_to_floor.ensures in
+    let offered = offered_on-after g.S.Sink.taken _ c.scan_to_floor.new.sink all c.scan_to_floor.ensures in
+    search (rules, arith, same, offered)

@@ -7,5 +7,5 @@ use Rattle.rank_scores.proofs.scans.scan_to_floor.Goals as goal
 -- without groups each contender is a candidate
 pub returns-in-Each : goal.returns-in-Each
 returns-in-Each g c =
-    c.scan_contenders_to_floor.ensures ∙ ap (λ (cs : List Candidate). fold g.S.Sink.taken c.args.sink.now cs)
+    c.scan_contenders.ensures.offered ∙ ap (λ (cs : List Candidate). fold g.S.Sink.taken c.args.sink.now cs)
     (sym (each_stays c.args.query.now c.args.series.now (sym c.per.ensures ∙ c.in-Each.is)))
