@@ -1,10 +1,13 @@
 -- Daily files that are taken whole, and bytes of one of them.
-use Rattle.std.specs.Prelude.{◌≡◌, ℕ, ◌+◌, true, List, [], ◌∷◌, take, drop, map}
+use Rattle.std.specs.Prelude.{◌≡◌, ℕ, ◌+◌, true, List, [], ◌∷◌, ◌++◌, take, drop, map, IfSome}
 use Rattle.std.specs.Prelude.{Option, None, Some, String, string_bytes}
+use Rattle.std.specs.List.{slice_get}
 use Rattle.std.specs.Option.{option_map}
+use denote.Bor.{Bor}
 use Rattle.ghcn_files.specs.declared.element.Keep.{Keep}
 use Rattle.ghcn_series.specs.Fed.{Files, ended_files}
 use Rattle.ghcn_series.specs.LinesRead.{Reading}
+use Rattle.rank_input.specs.declared.claimed.Taken.{Taken}
 use Rattle.rank_input.specs.declared.intake.Intake.{Intake}
 use Rattle.rank_input.specs.declared.question.Question.{Question}
 use Rattle.rank_input.specs.Feeding.{AreAllOf, AreFilesOf, AreOpened, Opening}
@@ -23,6 +26,17 @@ pub record TakesWhole {L A : Type 0} (has_read : Reading L) (bytes_of : List ℕ
   pub files : List (List ℕ)
   pub all : AreFilesOf (bytes_at bytes_of paths) files
   pub taken : takes.HasTaken has_read t (file_input keep stations files)
+
+-- the paths of some shares, one share after the other
+abbrev pub paths_of : {A : Type 0} → List (Bor (List (String A))) → List (String A)
+paths_of [] = []
+paths_of (share ∷ shares) = share.now ++ paths_of shares
+
+-- an intake was given the station list and the files of the share at its place, if there is one
+abbrev pub TakesShare : {L A : Type 0} → Reading L → (List ℕ → Option (List ℕ)) → Opening → Keep → List ℕ
+    → List (Bor (List (String A))) → Taken L → Type 0
+TakesShare has_read bytes_of opens keep stations shares t = IfSome (slice_get shares t.place)
+    (λ share. TakesWhole has_read bytes_of opens keep stations share.now t.intake)
 
 -- the bytes of a file from one on: this many, or all
 abbrev pub stretch_of : ℕ → Option ℕ → List ℕ → List ℕ

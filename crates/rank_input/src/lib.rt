@@ -4,12 +4,12 @@
 #![tactic(auto)]
 
 mod archive;
+mod claimed;
 mod fault;
 mod intake;
 mod limits;
 mod list;
 mod named;
-mod pairs;
 mod queries;
 mod question;
 mod shares;

@@ -10,9 +10,9 @@ ghost use Rattle.rank_input.specs.Shares.{TakesWhole};
 ghost use Rattle.rank_input.specs.Takes.{file_input, HasTaken, HasTakenSome};
 
 use crate::archive::{Archive, Place, feed_files, piece_room};
+use crate::claimed::take_claimed;
 use crate::intake::Intake;
 use crate::list::StationList;
-use crate::pairs::take_pairs;
 use crate::stretches::{WORTH_A_CUT, id_on, take_one};
 use ghcn_files::{Keep, Stations};
 use ghcn_series::{JoinLines, LineReader};
@@ -27,8 +27,11 @@ const WORTH_A_SHARE: u64 = 1 << 23;
 /// The most shares.
 const MOST_SHARES: u64 = 64;
 
-/// How many files a share has at least if it is read as a pair.
+/// How many files a reader has at least if it claims shares.
 const SMALL_FILES: u64 = 8;
+
+/// How many paths are worth a thread that looks at them.
+const WORTH_A_LOOK: usize = 1 << 10;
 
 /// Daily files, named by their paths, and what they are read for.
 #[derive(Clone, Copy)]
@@ -126,7 +129,7 @@ fn take_shares<R: Threads + Sync, A: Archive<File: Send> + Sync, L: JoinLines<Do
     if readers < 2 {
         return None;
     }
-    let sizes = sizes_of(alloc, archive, daily.paths)?;
+    let sizes = sizes_by(rt, alloc, archive, daily.paths, readers)?;
     let size = sum_of(&sizes);
     let worth = WORTH_A_SHARE.max(daily.stations.size());
     // If all files have less, none is cut, so there are at most as many shares as files.
@@ -142,7 +145,8 @@ fn take_shares<R: Threads + Sync, A: Archive<File: Send> + Sync, L: JoinLines<Do
     let list = daily.stations.stations(rt, alloc)?;
     let small = size / shares / SMALL_FILES;
     if sizes.iter().all(|size| *size <= small) {
-        return take_pairs(
+        // There may be more shares than readers, and what was taken of all is held until they are joined.
+        return take_claimed(
             rt,
             alloc,
             archive,
@@ -151,6 +155,7 @@ fn take_shares<R: Threads + Sync, A: Archive<File: Send> + Sync, L: JoinLines<Do
             daily.paths,
             &sizes,
             size,
+            worth.saturating_add(worth / 2).min(size / shares),
             shares,
         );
     }
@@ -165,6 +170,39 @@ fn take_shares<R: Threads + Sync, A: Archive<File: Send> + Sync, L: JoinLines<Do
         size,
         shares,
     )
+}
+
+/// How many bytes the files of some paths seem to have, if all are regular files. If there are many, at most this many
+/// threads look at them.
+fn sizes_by<R: Threads + Sync, A: Archive<File: Send> + Sync>(
+    rt: &R,
+    alloc: Global,
+    archive: &A,
+    paths: &[String],
+    threads: u64,
+) -> Option<Vec<u64>>
+    ensures { IfSome result (λ sizes. length sizes.items ≡ length paths.now) }
+{
+    if threads < 2 || paths.len() < WORTH_A_LOOK {
+        return sizes_of(alloc, archive, paths);
+    }
+    let (front, back) = paths.split_at(paths.len() / 2);
+    let after = threads / 2;
+    let before = threads - after;
+    let (last, first) = join(
+        rt,
+        move ||
+            requires { IsSync R.row × IsSync A.row }
+            ensures { IfSome result (λ sizes. length sizes.items ≡ length back.entry.now) }
+        { sizes_by(rt, alloc, archive, back, after) },
+        move ||
+            requires { IsSync R.row × IsSync A.row }
+            ensures { IfSome result (λ sizes. length sizes.items ≡ length front.entry.now) }
+        { sizes_by(rt, alloc, archive, front, before) },
+    );
+    let mut sizes = first?;
+    sizes.append(&mut last?).ok()?;
+    Some(sizes)
 }
 
 /// How many bytes the files of some paths seem to have, if all are regular files.
@@ -311,7 +349,7 @@ fn first_id<A: Archive>(archive: &A, path: &str) -> Option<[u8; 11]> {
 
 /// Where the last of some files begin that have a share of the bytes, as nearly as whole files allow, and how many
 /// bytes these have. They are at least one file.
-pub(crate) fn cut_back(sizes: &[u64], share: u64) -> (usize, u64)
+fn cut_back(sizes: &[u64], share: u64) -> (usize, u64)
     ensures { result.0 ≤ length sizes.now }
 {
     let mut cut: u64 = 0;

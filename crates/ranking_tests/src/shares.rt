@@ -322,59 +322,71 @@ fn names_with(alloc: Global, others: Changes) -> Result<Vec<&'static str>, Alloc
     Ok(names)
 }
 
-/// If there are at least eight files for each reader, each but one takes files from the front and from the back.
+/// If there are at least eight files for each reader, readers claim shares of whole files in turn.
 #[test]
-fn pairs_of_shares(rt: HostRuntime) -> Result<(), Fail> {
+fn claimed_shares(rt: HostRuntime) -> Result<(), Fail> {
     let warned = "unlisted 2 foreign 1 Some(23) odd 1 Some(LinePlace { file: 23, line: 2 })";
     let less = "unlisted 1 foreign 1 Some(23) odd 1 Some(LinePlace { file: 23, line: 2 })";
     let short = "refused 5 DailyLine file 1 line 2 ";
-    // How many readers there may be, what is put at which places, what is shown, and how often a file is opened: twice
-    // more for each reader and side of a cut, and once more if they can't be joined.
-    let cases: [(u64, Changes, &str, &str, u64); 9] = [
-        (1, &[], "310 - 320 - ", warned, 26),
-        (2, &[], "310 - 320 - ", warned, 30),
-        (3, &[], "310 - 320 - ", warned, 34),
-        // One reader has months of ALPHA from the front and from the back.
-        (2, &[(25, "again")], "310 200 320 - ", less, 56),
-        // The last file of the front and the first one after it are of ALPHA, or those at the other cut.
+    // How many readers there may be, what is put at which places, what is shown, and how often a file is opened at
+    // least and at most: twice more for each cut, and once more if the shares can't be joined. Two readers cut the files
+    // after the first 6, 11, 15, 18 and 20 and then after each, three after 4, 8, 11, 13, 15 and 17 and then after each.
+    // After an error other readers may claim shares, or not.
+    let cases: [(u64, Changes, &str, &str, (u64, u64)); 9] = [
+        (1, &[], "310 - 320 - ", warned, (26, 26)),
+        (2, &[], "310 - 320 - ", warned, (46, 46)),
+        (3, &[], "310 - 320 - ", warned, (54, 54)),
+        // The first and the last share have months of ALPHA.
+        (2, &[(25, "again")], "310 200 320 - ", less, (72, 72)),
+        // The files at the first cut are of ALPHA, or those at the fifth.
         (
             2,
             &[(0, "f"), (5, "a"), (6, "again")],
             "310 200 320 - ",
             warned,
-            28,
+            (28, 28),
         ),
         (
             2,
             &[(0, "t"), (19, "a"), (20, "again")],
             "310 200 320 - ",
             warned,
-            30,
+            (36, 36),
         ),
-        (2, &[(0, "short"), (25, "short too")], short, "Short", 56),
+        (
+            2,
+            &[(0, "short"), (25, "short too")],
+            short,
+            "Short",
+            (47, 72),
+        ),
         (
             2,
             &[(9, "short too"), (2, "short")],
             "refused 5 DailyLine file 3 line 2 ",
             "Short",
-            56,
+            (49, 72),
         ),
-        (3, &[(13, "none")], "none ", "can't be read", 44),
+        (3, &[(13, "none")], "none ", "can't be read", (56, 68)),
     ];
-    for (readers, others, first, second, opened) in cases {
+    for (readers, others, first, second, (least, most)) in cases {
         let names = names_with(rt.alloc(), others)?;
         let archive = Large {
             files: SMALL,
             opened: AtomicU64::new(0),
             most: 999,
         };
-        let mut found = held_in(&rt, &archive, "top 1 highest TMAX", &names, readers)?;
-        write!(found, ", {} opened", archive.opened.load(Ordering::SeqCst))?;
-        let expected = format!(in rt.alloc(); "{first}{second}, {opened} opened")?;
+        let found = held_in(&rt, &archive, "top 1 highest TMAX", &names, readers)?;
+        let expected = format!(in rt.alloc(); "{first}{second}")?;
         assert_eq!(rt;
             found.as_str(),
             expected.as_str(),
             "{others:?} by {readers}"
+        );
+        let opened = archive.opened.load(Ordering::SeqCst);
+        assert!(rt;
+            least <= opened && opened <= most,
+            "{others:?} by {readers}: {opened} opened"
         );
     }
     Ok(())
